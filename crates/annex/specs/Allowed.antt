@@ -1,0 +1,195 @@
+-- What a record may be: document 01, "Common part", "Transfer data" and "Writing", one line for each rule. Nothing here mentions
+-- reading, and nothing says in which order a refusal comes.
+use Prim.Native.Nat.{ℕ, zero, suc, _+_, _≤_, _<_}
+use mathlib.Core.Path.{_≡_}
+use mathlib.Core.Bool.{Bool, true, false, cond, _&&_}
+use mathlib.Core.List.{List, [], _∷_, _++_, map}
+use lib.Dec.{eqb, leb, ltb}
+use lib.ListN.{length, getD}
+use Rattle.annex.specs.Units.{nameOf, afterOf, extentOf}
+use Rattle.annex.specs.Heads.{
+  among,
+  Form,
+  Marks,
+  user-class,
+  sequence,
+  signal-kind,
+  transfer-data,
+  isCall,
+  commonHeaders,
+  signalKinds,
+  most-commons,
+  most-transfers,
+  most-transfer-octets,
+  most-digits,
+  call-numbers,
+  nameUsed,
+  pliRight,
+  oftenOf,
+  zeroesOf,
+  formOf,
+}
+use Rattle.annex.specs.Heads.Marks.{Unmarked, Notified, Verified, Typed}
+use Rattle.annex.specs.Heads.Form.{Carried, Digits, Number, Calling, Generic, Long, Two}
+use Rattle.annex.specs.Digits.{isDigit}
+use Rattle.annex.specs.Contents.{clear}
+use Rattle.annex.specs.Items.{Item, Part, Holding, heldAs, contentsOf, digitsBy, ownOf}
+use Rattle.annex.specs.Items.Holding.{AsContents, AsDigits, AsNumber, AsGeneric}
+use Rattle.annex.specs.Layout.{layoutItems}
+use Rattle.annex.specs.declared.Extent.{Extent}
+use Rattle.annex.specs.declared.Extent.the-variants.{Fixed, CountOctet, LengthOctet}
+
+-- the test passes at each of the list; what holds of each of the list
+abbrev pub every : {A : Type 0} → (A → Bool) → List A → Bool
+every f [] = true
+every f (x ∷ xs) = f x && every f xs
+
+abbrev pub Each : {A : Type 0} → (A → Type 0) → List A → Type 0
+Each P [] = Unit {0}
+Each P (x ∷ xs) = P x × Each P xs
+
+-- how often x stands in the list, and that each of it stands at most as often as it may
+abbrev pub timesIn : ℕ → List ℕ → ℕ
+timesIn x [] = 0
+timesIn x (y ∷ ys) = cond (eqb x y) (suc (timesIn x ys)) (timesIn x ys)
+
+abbrev pub atMost : (ℕ → ℕ) → List ℕ → Bool
+atMost often xs = every (λ x. leb (timesIn x xs) (often x)) xs
+
+abbrev pub isOctet : ℕ → Bool
+isOctet x = ltb x 256
+
+-- ---- one transfer parameter
+
+-- its PLI's length rule: "contents of another length than the PLI rule gives" are not allowed
+abbrev pub lengthFits : Extent → List ℕ → Bool
+lengthFits (Fixed n) s = eqb (length s) n
+lengthFits CountOctet s = eqb (length s) (afterOf CountOctet (getD s 0 0))
+lengthFits LengthOctet s = leb (length s) most-transfer-octets
+
+-- digits of PLI 10: "Counts 0 to 63 are allowed"
+abbrev pub lengthBy : Holding → Item → Bool
+lengthBy AsContents i = lengthFits (extentOf (i .header)) (contentsOf i)
+lengthBy (AsDigits m) i = leb (length (i .values)) most-digits
+lengthBy AsNumber i = lengthFits (extentOf (i .header)) (contentsOf i)
+lengthBy AsGeneric i = lengthFits (extentOf (i .header)) (contentsOf i)
+
+unfoldable pub lengthRight : Item → Bool
+lengthRight i = lengthBy (heldAs i) i
+
+-- marks of one bit, the type of dialling 0-3
+abbrev pub marksRight : Marks → Item → Bool
+marksRight Unmarked i = true
+marksRight Notified i = leb (i .notification) 1
+marksRight Verified i = leb (i .notification) 1 && leb (i .verification) 1
+marksRight Typed i = leb (i .dialling) 3
+
+-- a number's fields by their bits: type 6-0, incomplete 7, plan 6-4, presentation 3-2, screening 1-0
+abbrev pub fieldsRight : Item → Bool
+fieldsRight i =
+    leb (i .numberType) 127 && (leb (i .incomplete) 1 && (leb (i .plan) 7 && (leb (i .presentation) 3 && leb (i .screening) 3)))
+
+-- DC with presentation 2: no type, no incomplete mark, no plan, no digits
+abbrev pub withheldRight : Item → Bool
+withheldRight i = eqb (i .numberType) 0 && (eqb (i .incomplete) 0 && (eqb (i .plan) 0 && eqb (length (i .values)) 0))
+
+abbrev pub formBy : Form → Item → Bool
+formBy Carried i = clear (zeroesOf (i .header)) (getD (i .values) 0 0)
+formBy (Digits m) i = marksRight m i
+formBy Number i = fieldsRight i
+formBy Calling i = fieldsRight i && cond (eqb (i .presentation) 2) (withheldRight i) true
+formBy Generic i = leb 1 (length (i .values)) && cond (eqb (getD (i .values) 0 0) 6) (fieldsRight i) true
+formBy (Long n) i = eqb (length (i .values)) n
+formBy (Two mask) i = eqb (length (i .values)) 2 && clear mask (getD (i .values) 1 0)
+
+-- bits that must be 0, and the form that the header asks
+unfoldable pub formRight : Item → Bool
+formRight i = formBy (formOf (i .header)) i
+
+-- digits "0-9, 10 for *, 11 for #"
+unfoldable pub digitsRight : Item → Bool
+digitsRight i = every isDigit (digitsBy (heldAs i) i)
+
+-- ---- one common parameter
+
+-- 01 "must be 01"; 06 one of the signal kinds
+unfoldable pub valueRight : Part → Bool
+valueRight p =
+    cond (eqb (p .header) user-class) (eqb (p .value) 0x01)
+    (cond (eqb (p .header) signal-kind) (among (p .value) signalKinds)
+    true)
+
+-- 04 "one octet"; call numbers "24 bits"
+unfoldable pub valueFits : Part → Bool
+valueFits p =
+    cond (eqb (p .header) sequence) (isOctet (p .value))
+    (cond (isCall (p .header)) (ltb (p .value) call-numbers)
+    true)
+
+-- ---- how a record holds its values: headers and carried values are octets, and what a parameter does not have is 0 or none
+
+pub record HeldItem (i : Item) : Type 0 where
+  pub octet : i .header < 256
+  pub octets : every isOctet (i .values) ≡ true
+  pub own : ownOf i ≡ i
+
+abbrev pub ownPart : Part → Part
+ownPart p =
+    cond (eqb (p .header) transfer-data) (record { header = p .header; value = 0; items = p .items })
+    (record { header = p .header; value = p .value; items = [] })
+
+pub record HeldPart (p : Part) : Type 0 where
+  pub octet : p .header < 256
+  pub own : ownPart p ≡ p
+  pub each : Each HeldItem (p .items)
+
+abbrev pub Held : List Part → Type 0
+Held r = Each HeldPart r
+
+-- ---- a record
+
+-- the transfer parameters of its C5s, "were there several, all together"
+abbrev pub itemsIn : List Part → List Item
+itemsIn [] = []
+itemsIn (p ∷ ps) = p .items ++ itemsIn ps
+
+-- their contents, counted
+abbrev pub contentsSum : List Item → ℕ
+contentsSum [] = 0
+contentsSum (i ∷ is) = length (contentsOf i) + contentsSum is
+
+abbrev pub headersOf : List Part → List ℕ
+headersOf r = map (λ p. p .header) r
+
+abbrev pub namesOf : List Item → List ℕ
+namesOf is = map (λ i. nameOf (i .header)) is
+
+-- at most once: a common parameter is known by its name F0, F1, and the listed ones have different names
+abbrev pub partNamesOf : List Part → List ℕ
+partNamesOf r = map (λ p. nameOf (p .header)) r
+
+pub record Allowed (r : List Part) : Type 0 where
+  pub held : Held r
+  -- "a sequence of at most 6 common parameters without end mark"
+  pub few-commons : length r ≤ most-commons
+  pub listed : every (λ p. among (p .header) commonHeaders) r ≡ true
+  -- "each parameter stands at most once"
+  pub once : atMost (λ x. 1) (partNamesOf r) ≡ true
+  -- "01 and 06 must be there"
+  pub has-class : among user-class (headersOf r) ≡ true
+  pub has-kind : among signal-kind (headersOf r) ≡ true
+  pub values-right : every valueRight r ≡ true
+  pub values-fit : every valueFits r ≡ true
+  -- "a sequence of at most 52 transfer parameters whose contents, laid out, come to at most 255 octets"
+  pub few-transfers : length (itemsIn r) ≤ most-transfers
+  pub few-contents : contentsSum (itemsIn r) ≤ most-transfer-octets
+  -- "length octet 0 to 255": all of the transfer data
+  pub few-octets : length (layoutItems (itemsIn r)) ≤ most-transfer-octets
+  -- each transfer parameter: its name is used, its PLI is the name's, the name stands no oftener than it may, its contents have the PLI's
+  -- length, the form that the header asks, and digits that are digits
+  pub names-used : every (λ i. nameUsed (i .header)) (itemsIn r) ≡ true
+  pub plis-right : every (λ i. pliRight (i .header)) (itemsIn r) ≡ true
+  pub names-often : atMost oftenOf (namesOf (itemsIn r)) ≡ true
+  pub lengths-right : every lengthRight (itemsIn r) ≡ true
+  pub forms-right : every formRight (itemsIn r) ≡ true
+  pub digits-right : every digitsRight (itemsIn r) ≡ true

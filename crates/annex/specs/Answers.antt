@@ -1,0 +1,146 @@
+-- Answers and refusals: document 01, "Refusal numbers and their order". The numbers are named here, and the number, place and
+-- value of every case of every answer is said here.
+use Prim.Native.Nat.{ℕ, _+_}
+use mathlib.Core.Bool.{Bool, true, false}
+use Rattle.annex.specs.declared.Answer.{Answer}
+use Rattle.annex.specs.declared.Answer.the-variants.{Accepted, Refused}
+use Rattle.annex.specs.declared.Fault.{Fault}
+use Rattle.annex.specs.declared.Fault.the-variants.{Sound, Bad}
+use Rattle.annex.specs.declared.Found.{Found}
+use Rattle.annex.specs.declared.Found.the-variants.{At, Nowhere}
+use Rattle.annex.specs.declared.Class.{Class}
+use Rattle.annex.specs.declared.Class.the-variants.{Named, HeldBack, Spare}
+use Rattle.annex.specs.declared.ClassAnswer.{ClassAnswer}
+use Rattle.annex.specs.declared.ClassAnswer.the-variants as classes
+
+-- 1: message empty or over 272; record over its limits
+abbrev pub over-limits : ℕ
+over-limits = 1
+
+-- 2: common header not listed
+abbrev pub unlisted : ℕ
+unlisted = 2
+
+-- 3: common parameter repeated
+abbrev pub repeated : ℕ
+repeated = 3
+
+-- 4: message ends inside a parameter, or with no end mark
+abbrev pub cut-short : ℕ
+cut-short = 4
+
+-- 5: user class or signal kind not allowed
+abbrev pub not-allowed : ℕ
+not-allowed = 5
+
+-- 6: 01 or 06 missing at the end mark
+abbrev pub missing : ℕ
+missing = 6
+
+-- 7: octets after the end mark
+abbrev pub left-over : ℕ
+left-over = 7
+
+-- 8: transfer name unused
+abbrev pub unused-name : ℕ
+unused-name = 8
+
+-- 9: PLI not that name's
+abbrev pub other-pli : ℕ
+other-pli = 9
+
+-- 10: transfer name repeated
+abbrev pub repeated-name : ℕ
+repeated-name = 10
+
+-- 11: contents cut by the end of the transfer data; in writing and editing, contents of another length
+abbrev pub cut-contents : ℕ
+cut-contents = 11
+
+-- 12: zero bit set, or bad form
+abbrev pub bad-form : ℕ
+bad-form = 12
+
+-- 13: spare digit, or filler not 0
+abbrev pub bad-digit : ℕ
+bad-digit = 13
+
+-- 14: transfer data over 255
+abbrev pub transfer-over : ℕ
+transfer-over = 14
+
+-- 15: lent room shorter than the message or rows to be given
+abbrev pub no-room : ℕ
+no-room = 15
+
+-- 16: name, or transfer data, absent
+abbrev pub absent : ℕ
+absent = 16
+
+-- 17: no class list for this header
+abbrev pub no-class-list : ℕ
+no-class-list = 17
+
+-- the number of an answer, 0 where accepted; its place, 0 where accepted; and the count that it gives, 0 where refused
+abbrev pub numberOf : Answer → ℕ
+numberOf (Accepted n) = 0
+numberOf (Refused k p) = k
+
+abbrev pub placeOf : Answer → ℕ
+placeOf (Accepted n) = 0
+placeOf (Refused k p) = p
+
+abbrev pub givenOf : Answer → ℕ
+givenOf (Accepted n) = n
+givenOf (Refused k p) = 0
+
+-- the number of a fault, 0 where there is none, and the offset of the octet in the contents
+abbrev pub faultNumberOf : Fault → ℕ
+faultNumberOf Sound = 0
+faultNumberOf (Bad k i) = k
+
+abbrev pub offsetOf : Fault → ℕ
+offsetOf Sound = 0
+offsetOf (Bad k i) = i
+
+-- where what was found starts and ends, the empty stretch where there is none
+abbrev pub startOf : Found → ℕ
+startOf (At s e) = s
+startOf Nowhere = 0
+
+abbrev pub endOf : Found → ℕ
+endOf (At s e) = e
+endOf Nowhere = 0
+
+-- the classes as numbers, and the number, place and class of a class answer
+abbrev pub classValueOf : Class → ℕ
+classValueOf Named = 0
+classValueOf HeldBack = 1
+classValueOf Spare = 2
+
+abbrev pub classNumberOf : ClassAnswer → ℕ
+classNumberOf (classes.Is c) = 0
+classNumberOf (classes.Refused k p) = k
+
+abbrev pub classPlaceOf : ClassAnswer → ℕ
+classPlaceOf (classes.Is c) = 0
+classPlaceOf (classes.Refused k p) = p
+
+abbrev pub classGivenOf : ClassAnswer → ℕ
+classGivenOf (classes.Is c) = classValueOf c
+classGivenOf (classes.Refused k p) = 0
+
+-- refused with the number k at the place p if the test holds, and else what follows
+abbrev pub refuse : Bool → ℕ → ℕ → Answer → Answer
+refuse true k p a = Refused k p
+refuse false k p a = a
+
+-- what follows an accepted step; a refusal is passed on
+abbrev pub andThen : Answer → (ℕ → Answer) → Answer
+andThen (Accepted n) f = f n
+andThen (Refused k p) f = Refused k p
+
+-- an answer about a part that starts at s, told of the whole
+abbrev pub shifted : ℕ → Answer → Answer
+shifted s (Accepted n) = Accepted n
+shifted s (Refused k p) = Refused k (s + p)

@@ -1,0 +1,103 @@
+-- The bench table: document 01, "The bench table", cases 1 to 15 under one statement.
+use Prim.Native.Nat.{ℕ}
+use mathlib.Core.Path.{_≡_, refl}
+use mathlib.Core.List.{List, [], _∷_, _++_, map}
+use lib.ListN.{length}
+use Rattle.annex.specs.Units.{afterOf, leadOf, commonExtentOf, extentOf}
+use Rattle.annex.specs.Heads.{nameUsed, pliRight, oftenOf, zeroesOf, formOf}
+use Rattle.annex.specs.Digits.{halves, joined, digitOf, codeOf, isCode, halvesFault, digitsFault, digitsOf, packed}
+use Rattle.annex.specs.Contents.{numberFault, callingFault, genericFault, dialledFault, twoFault, faultOf}
+use Rattle.annex.specs.Items.{Item, Part, holdingOf, itemOf, contentsOf, plainItem, markedItem, numberItem}
+use Rattle.annex.specs.Layout.{layoutItem, layoutItems, layoutPart, layout}
+use Rattle.annex.specs.Walk.{walk}
+use Rattle.annex.specs.Reading.{
+  transferOf,
+  transfersVerdict,
+  octetAllowed,
+  commonForm,
+  endOf,
+  dataOf,
+  commonOf,
+  messageVerdict,
+  verdictOf,
+  commonsOf,
+  transfersOf,
+  openCommon,
+  recordOf,
+}
+use Rattle.annex.specs.Records.{readBy, readingOf}
+use Rattle.annex.specs.Editing.{Edit, editRefusal, replaced, removed, editedItems, edited, recordEditing, editingOf, bufferOf}
+use Rattle.annex.specs.Editing.Edit.{Replacing, Appending, Removing}
+use Rattle.annex.specs.declared.Answer.{Answer}
+use Rattle.annex.specs.declared.Answer.the-variants.{Accepted, Refused}
+
+-- a message, the answer to it and the record beside the answer; or an edit of a buffer that holds a message, the answer and the buffer then
+pub data Case : Type 0 where
+  Read : List ℕ → Answer → List Part → Case
+  Edited : Edit → List ℕ → Answer → List ℕ → Case
+
+-- the record beside an answer: none where refused
+abbrev beside : Answer → List Part → List Part
+beside (Accepted n) r = r
+beside (Refused k p) r = []
+
+-- a case with what the definitions say in the place of what the table says
+abbrev asDefined : Case → Case
+asDefined (Read m a r) = Read m (verdictOf m) (beside (verdictOf m) (recordOf m))
+asDefined (Edited e b a c) = Edited e b (editingOf e b (length b)) (bufferOf e b (length b))
+
+abbrev pub M : List ℕ
+M =
+    0x01 ∷ 0x01 ∷ 0x83 ∷ 0x39 ∷ 0x30 ∷ 0x00 ∷ 0x04 ∷ 0x01 ∷ 0x06 ∷ 0x11 ∷ 0xC5 ∷ 0x0A ∷
+    0x90 ∷ 0x04 ∷ 0x21 ∷ 0x3A ∷ 0x52 ∷ 0x81 ∷ 0x98 ∷ 0x03 ∷ 0x21 ∷ 0x0A ∷ 0x00 ∷ []
+
+abbrev pub K : List ℕ
+K = 0x01 ∷ 0x01 ∷ 0x06 ∷ 0x11 ∷ []
+
+abbrev octet : ℕ → ℕ → Part
+octet h v = record { header = h; value = v; items = [] }
+
+abbrev transferData : List Item → Part
+transferData is = record { header = 0xC5; value = 0; items = is }
+
+-- own call 12345, area 1203, dialled 120
+abbrev pub recordOfM : List Part
+recordOfM =
+    octet 0x01 0x01 ∷
+    octet 0x83 12345 ∷
+    octet 0x04 0x01 ∷
+    octet 0x06 0x11 ∷
+    transferData (
+    markedItem 0x90 0 0 0 (1 ∷ 2 ∷ 0 ∷ 3 ∷ []) ∷
+    plainItem 0x52 (0x81 ∷ []) ∷
+    markedItem 0x98 0 0 0 (1 ∷ 2 ∷ 0 ∷ []) ∷ []
+    ) ∷ []
+
+abbrev pub recordOfK : List Part
+recordOfK = octet 0x01 0x01 ∷ octet 0x06 0x11 ∷ []
+
+abbrev pub cases : List Case
+cases =
+    Read M (Accepted 23) recordOfM ∷
+    Read (K ++ (0x00 ∷ [])) (Accepted 5) recordOfK ∷
+    Read [] (Refused 1 0) [] ∷
+    Read K (Refused 4 4) [] ∷
+    Read (0x01 ∷ 0x02 ∷ 0x06 ∷ 0x11 ∷ 0x00 ∷ []) (Refused 5 0) [] ∷
+    Read (0x01 ∷ 0x01 ∷ 0x00 ∷ []) (Refused 6 2) [] ∷
+    Read (K ++ (0x00 ∷ 0x00 ∷ [])) (Refused 7 5) [] ∷
+    Read (K ++ (0xC5 ∷ 0x01 ∷ 0x08 ∷ 0x00 ∷ [])) (Refused 8 6) [] ∷
+    Read (K ++ (0xC5 ∷ 0x02 ∷ 0x81 ∷ 0x01 ∷ 0x00 ∷ [])) (Refused 9 6) [] ∷
+    Read (K ++ (0xC5 ∷ 0x04 ∷ 0x41 ∷ 0x00 ∷ 0x41 ∷ 0x01 ∷ 0x00 ∷ [])) (Refused 10 8) [] ∷
+    Read (K ++ (0xC5 ∷ 0x01 ∷ 0x41 ∷ 0x00 ∷ [])) (Refused 11 6) [] ∷
+    Read (K ++ (0xC5 ∷ 0x02 ∷ 0x41 ∷ 0x02 ∷ 0x00 ∷ [])) (Refused 12 6) [] ∷
+    Read (K ++ (0xC5 ∷ 0x03 ∷ 0x90 ∷ 0x01 ∷ 0x00 ∷ 0x00 ∷ [])) (Refused 13 6) [] ∷
+    Read (K ++ (0xC5 ∷ 0x05 ∷ 0xD7 ∷ 0x03 ∷ 0x83 ∷ 0x11 ∷ 0x00 ∷ 0x00 ∷ [])) (Accepted 12)
+    (octet 0x01 0x01 ∷ octet 0x06 0x11 ∷ transferData (numberItem 0xD7 0x03 0x11 (0 ∷ []) ∷ []) ∷ []) ∷
+    Edited (Replacing (0x98 ∷ 0x02 ∷ 0x21 ∷ [])) M (Accepted 22)
+    (0x01 ∷ 0x01 ∷ 0x83 ∷ 0x39 ∷ 0x30 ∷ 0x00 ∷ 0x04 ∷ 0x01 ∷ 0x06 ∷ 0x11 ∷ 0xC5 ∷ 0x09 ∷
+    0x90 ∷ 0x04 ∷ 0x21 ∷ 0x3A ∷ 0x52 ∷ 0x81 ∷ 0x98 ∷ 0x02 ∷ 0x21 ∷ 0x00 ∷ 0x00 ∷ []) ∷ []
+
+-- what the definitions say of each case is what the table says
+pub bench : map asDefined cases ≡ cases
+unfolding afterOf leadOf commonExtentOf extentOf nameUsed pliRight oftenOf zeroesOf formOf halves joined digitOf codeOf isCode halvesFault digitsFault digitsOf packed numberFault callingFault genericFault dialledFault twoFault faultOf holdingOf itemOf contentsOf layoutItem layoutItems layoutPart layout walk transferOf transfersVerdict octetAllowed commonForm endOf dataOf commonOf messageVerdict verdictOf commonsOf transfersOf openCommon recordOf editRefusal replaced removed editedItems edited recordEditing editingOf bufferOf
+bench = refl

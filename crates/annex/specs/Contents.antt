@@ -1,0 +1,80 @@
+-- What is wrong with the contents of one transfer parameter: document 01, "Transfer data" and refusals 12 and 13.
+-- 12 comes before 13. The offset is that of the octet in the contents.
+use Prim.Native.Nat.{ℕ, _+_, _-_, _*_, _/_, _%_}
+use mathlib.Core.Bool.{Bool, true, false, cond, not, _&&_}
+use mathlib.Core.List.{List, [], _∷_}
+use lib.Dec.{eqb, ltb}
+use lib.Bits.{bitAnd}
+use lib.ListN.{length, getD, drop}
+use Rattle.annex.specs.Answers.{bad-form}
+use Rattle.annex.specs.Heads.{Form, zeroesOf, formOf}
+use Rattle.annex.specs.Heads.Form.{Carried, Digits, Number, Calling, Generic, Long, Two}
+use Rattle.annex.specs.Digits.{digitsFault}
+use Rattle.annex.specs.declared.Alphabet.the-variants.{Dialled, Numbered}
+use Rattle.annex.specs.declared.Fault.{Fault}
+use Rattle.annex.specs.declared.Fault.the-variants.{Sound, Bad}
+
+-- no bit of the mask is set in x
+abbrev pub clear : ℕ → ℕ → Bool
+clear mask x = eqb (bitAnd x mask) 0
+
+-- 12 where the form is not kept
+abbrev pub formed : Bool → Fault
+formed true = Sound
+formed false = Bad bad-form 0
+
+-- 12 comes first
+abbrev pub formedThen : Bool → Fault → Fault
+formedThen true f = f
+formedThen false f = Bad bad-form 0
+
+-- a number's first octet: odd mark (bit 7). Its second: presentation (3-2)
+abbrev pub oddOf : List ℕ → ℕ
+oddOf s = getD s 0 0 / 128
+
+abbrev pub presentationOf : List ℕ → ℕ
+presentationOf s = getD s 1 0 / 4 % 4
+
+-- the digits of a number with these octets
+abbrev pub countOf : List ℕ → ℕ
+countOf s = (length s - 2) * 2 - oddOf s
+
+-- D7, whose first octet is at the offset `at`: "Fewer than two octets, or odd with no digit octet, is bad form."
+-- "Odd: last high half 0. Even with no digits is allowed."
+unfoldable pub numberFault : ℕ → List ℕ → Fault
+numberFault at s =
+    formedThen (not (ltb (length s) 2))
+    (formedThen (not (eqb (oddOf s) 1 && eqb (length s) 2))
+    (digitsFault Numbered (countOf s) (at + 2) (drop 2 s)))
+
+-- DC: as D7, "but with presentation 2, bits 7-0 of octet 1 and bits 7-4 of octet 2 are 0 and no digits follow"
+unfoldable pub callingFault : List ℕ → Fault
+callingFault s =
+    cond (eqb (presentationOf s) 2)
+    (formed (eqb (length s) 2 && (eqb (getD s 0 0) 0 && ltb (getD s 1 0) 16)))
+    (numberFault 0 s)
+
+-- DA: "at least one octet; if that is 06, the rest is as D7, otherwise carried"
+unfoldable pub genericFault : List ℕ → Fault
+genericFault s = formedThen (not (eqb (length s) 0)) (cond (eqb (getD s 0 0) 6) (numberFault 1 (drop 1 s)) Sound)
+
+-- PLI 10: the count octet, then its digits
+unfoldable pub dialledFault : List ℕ → Fault
+dialledFault s = digitsFault Dialled (getD s 0 0 % 64) 1 (drop 1 s)
+
+-- DB and CF: "length 2", bits of the second octet 0
+unfoldable pub twoFault : ℕ → List ℕ → Fault
+twoFault mask s = formed (eqb (length s) 2 && clear mask (getD s 1 0))
+
+abbrev pub faultBy : Form → List ℕ → Fault
+faultBy Carried s = Sound
+faultBy (Digits m) s = dialledFault s
+faultBy Number s = numberFault 0 s
+faultBy Calling s = callingFault s
+faultBy Generic s = genericFault s
+faultBy (Long n) s = formed (eqb (length s) n)
+faultBy (Two mask) s = twoFault mask s
+
+-- the contents s under the header h: first the bits that must be 0, then the form
+unfoldable pub faultOf : ℕ → List ℕ → Fault
+faultOf h s = formedThen (clear (zeroesOf h) (getD s 0 0)) (faultBy (formOf h) s)

@@ -1,0 +1,66 @@
+-- Digits in half-octets: document 01, "Transfer data", PLI 10 and D7.
+use Prim.Native.Nat.{ℕ, zero, suc, _+_, _*_, _/_, _%_}
+use mathlib.Core.Bool.{Bool, true, false, cond, not, _&&_}
+use mathlib.Core.List.{List, [], _∷_, map}
+use lib.Dec.{eqb, leb}
+use lib.ListN.{take}
+use Rattle.annex.specs.Answers.{bad-digit}
+use Rattle.annex.specs.declared.Alphabet.{Alphabet}
+use Rattle.annex.specs.declared.Alphabet.the-variants.{Dialled, Numbered}
+use Rattle.annex.specs.declared.Fault.{Fault}
+use Rattle.annex.specs.declared.Fault.the-variants.{Sound, Bad}
+
+-- the half-octets of octets, "low half first"
+unfoldable pub halves : List ℕ → List ℕ
+halves [] = []
+halves (x ∷ s) = x % 16 ∷ x / 16 ∷ halves s
+
+-- and back: "After an odd count the last high half is 0"
+unfoldable pub joined : List ℕ → List ℕ
+joined [] = []
+joined (a ∷ []) = a ∷ []
+joined (a ∷ b ∷ hs) = (a + 16 * b) ∷ joined hs
+
+-- dialled: "Codes 1-9 are digits, 10 is zero, 11 is *, 12 is #". In a number: "code 0 is zero". A record holds 0-9, 10 for *, 11 for #
+abbrev pub zeroFrom : Alphabet → ℕ → ℕ
+zeroFrom Dialled h = cond (eqb h 10) 0 h
+zeroFrom Numbered h = h
+
+unfoldable pub digitOf : Alphabet → ℕ → ℕ
+digitOf z h = cond (eqb h 11) 10 (cond (eqb h 12) 11 (zeroFrom z h))
+
+abbrev pub zeroTo : Alphabet → ℕ → ℕ
+zeroTo Dialled d = cond (eqb d 0) 10 d
+zeroTo Numbered d = d
+
+unfoldable pub codeOf : Alphabet → ℕ → ℕ
+codeOf z d = cond (eqb d 10) 11 (cond (eqb d 11) 12 (zeroTo z d))
+
+-- dialled: "0, 13, 14, 15 are spare". In a number: "10 is spare", "13-15 spare"
+abbrev pub spareUnder13 : Alphabet → ℕ
+spareUnder13 Dialled = 0
+spareUnder13 Numbered = 10
+
+unfoldable pub isCode : Alphabet → ℕ → Bool
+isCode z h = leb h 12 && not (eqb h (spareUnder13 z))
+
+-- a value that a record holds for a digit
+abbrev pub isDigit : ℕ → Bool
+isDigit d = leb d 11
+
+-- the first half that is not as it must be: of the first n a digit, of the others 0. i counts the halves from the contents' start
+unfoldable pub halvesFault : Alphabet → ℕ → ℕ → List ℕ → Fault
+halvesFault z n i [] = Sound
+halvesFault z zero i (h ∷ hs) = cond (eqb h 0) (halvesFault z zero (i + 1) hs) (Bad bad-digit (i / 2))
+halvesFault z (suc n) i (h ∷ hs) = cond (isCode z h) (halvesFault z n (i + 1) hs) (Bad bad-digit (i / 2))
+
+-- the octets s, the first of them at the offset `at` of the contents, hold n digits and filler
+unfoldable pub digitsFault : Alphabet → ℕ → ℕ → List ℕ → Fault
+digitsFault z n at s = halvesFault z n (2 * at) (halves s)
+
+-- the n digits that octets hold, first digit first, and the octets that hold digits
+unfoldable pub digitsOf : Alphabet → ℕ → List ℕ → List ℕ
+digitsOf z n s = map (digitOf z) (take n (halves s))
+
+unfoldable pub packed : Alphabet → List ℕ → List ℕ
+packed z ds = joined (map (codeOf z) ds)

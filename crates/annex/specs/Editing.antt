@@ -1,0 +1,127 @@
+-- Editing in place: document 01, "Editing". "the buffer holds the message in its first n octets; n beyond the buffer is 15. Then reading's
+-- numbers with its places. All later places are 0".
+use Prim.Native.Nat.{ℕ, _+_, _-_}
+use mathlib.Core.Bool.{Bool, true, false, cond, not}
+use mathlib.Core.List.{List, [], _∷_, _++_, map}
+use lib.Dec.{eqb, ltb, leb}
+use lib.ListN.{length, getD, take, drop, replicate}
+use Rattle.annex.specs.Answers.{
+  unused-name,
+  other-pli,
+  repeated-name,
+  cut-contents,
+  transfer-over,
+  no-room,
+  absent,
+  refuse,
+  andThen,
+}
+use Rattle.annex.specs.Units.{nameOf, afterOf, extentOf, contentsIn}
+use Rattle.annex.specs.Heads.{among, transfer-data, most-transfer-octets, nameUsed, pliRight, oftenOf}
+use Rattle.annex.specs.Contents.{faultOf}
+use Rattle.annex.specs.Items.{Item, Part, itemOf}
+use Rattle.annex.specs.Layout.{layoutItems, layout}
+use Rattle.annex.specs.Allowed.{headersOf, itemsIn, namesOf, timesIn}
+use Rattle.annex.specs.Reading.{verdictOf, recordOf, soundThen}
+use Rattle.annex.specs.declared.Answer.{Answer}
+use Rattle.annex.specs.declared.Answer.the-variants.{Accepted, Refused}
+
+-- an edit: a new parameter as octets, header first, in the place of the one of its name, or last in C5; or a name taken out
+pub data Edit : Type 0 where
+  Replacing Appending : List ℕ → Edit
+  Removing : ℕ → Edit
+
+-- the header of new octets, and the octets after it
+abbrev pub newHeader : List ℕ → ℕ
+newHeader new = getD new 0 0
+
+abbrev pub newAfter : List ℕ → List ℕ
+newAfter new = drop 1 new
+
+abbrev pub newItem : List ℕ → Item
+newItem new = itemOf (newHeader new) (contentsIn (extentOf (newHeader new)) (newAfter new))
+
+-- a name among the parameters
+abbrev pub present : ℕ → List Item → Bool
+present x is = among x (namesOf is)
+
+-- "new parameter empty 11; 8; 9"
+abbrev pub newHead : List ℕ → Answer → Answer
+newHead new a =
+    refuse (eqb (length new) 0) cut-contents 0
+    (refuse (not (nameUsed (newHeader new))) unused-name 0
+    (refuse (not (pliRight (newHeader new))) other-pli 0 a))
+
+-- "new octets too few or left over 11; 12; 13"
+abbrev pub newContents : List ℕ → Answer
+newContents new =
+    let h = newHeader new in
+    let xs = newAfter new in
+    refuse (not (eqb (length xs) (afterOf (extentOf h) (getD xs 0 0)))) cut-contents 0
+    (soundThen (faultOf h (contentsIn (extentOf h) xs))
+    (Accepted 0))
+
+-- what the edit itself is refused for; the parameters are those of C5
+unfoldable pub editRefusal : Edit → List Item → Answer
+editRefusal (Replacing new) is =
+    newHead new (refuse (not (present (nameOf (newHeader new)) is)) absent 0 (newContents new))
+editRefusal (Appending new) is =
+    newHead new
+    (refuse (leb (oftenOf (nameOf (newHeader new))) (timesIn (nameOf (newHeader new)) (namesOf is))) repeated-name 0
+    (newContents new))
+editRefusal (Removing x) is = refuse (not (present x is)) absent 0 (Accepted 0)
+
+-- "A replacement replaces the parameter of its own name"
+unfoldable pub replaced : Item → List Item → List Item
+replaced new [] = []
+replaced new (i ∷ is) = cond (eqb (nameOf (i .header)) (nameOf (new .header))) (new ∷ is) (i ∷ replaced new is)
+
+unfoldable pub removed : ℕ → List Item → List Item
+removed x [] = []
+removed x (i ∷ is) = cond (eqb (nameOf (i .header)) x) is (i ∷ removed x is)
+
+-- the parameters so edited: "an appended one stands last in C5"
+unfoldable pub editedItems : Edit → List Item → List Item
+editedItems (Replacing new) is = replaced (newItem new) is
+editedItems (Appending new) is = is ++ (newItem new ∷ [])
+editedItems (Removing x) is = removed x is
+
+abbrev pub editedPart : Edit → Part → Part
+editedPart e p =
+    cond (eqb (p .header) transfer-data) (record { header = p .header; value = p .value; items = editedItems e (p .items) }) p
+
+-- the record so edited
+unfoldable pub edited : Edit → List Part → List Part
+edited e r = map (editedPart e) r
+
+-- of a record, with so much room: 16 with no transfer data; the edit's own refusals; 14; 15; or the message's new length
+unfoldable pub recordEditing : Edit → List Part → ℕ → Answer
+recordEditing e r room =
+    refuse (not (among transfer-data (headersOf r))) absent 0
+    (andThen (editRefusal e (itemsIn r))
+    (λ _.
+    refuse (ltb most-transfer-octets (length (layoutItems (itemsIn (edited e r))))) transfer-over 0
+    (refuse (ltb room (length (layout (edited e r)))) no-room 0
+    (Accepted (length (layout (edited e r)))))))
+
+-- the answer, of a buffer whose first n octets hold the message
+unfoldable pub editingOf : Edit → List ℕ → ℕ → Answer
+editingOf e buffer n =
+    refuse (ltb (length buffer) n) no-room 0
+    (andThen (verdictOf (take n buffer)) (λ _. recordEditing e (recordOf (take n buffer)) (length buffer)))
+
+-- "If the message shrinks, octets from the new end to the old are set to 0; the rest of the buffer stays."
+abbrev pub cleared : ℕ → List ℕ → List ℕ
+cleared k d = replicate k 0 ++ drop k d
+
+abbrev pub holding : List ℕ → ℕ → List ℕ → List ℕ
+holding buffer n message = message ++ cleared (n - length message) (drop (length message) buffer)
+
+-- what the buffer then holds; unchanged where refused
+abbrev pub bufferBy : Answer → List ℕ → List ℕ → List ℕ
+bufferBy (Accepted k) changed buffer = changed
+bufferBy (Refused k p) changed buffer = buffer
+
+unfoldable pub bufferOf : Edit → List ℕ → ℕ → List ℕ
+bufferOf e buffer n =
+    bufferBy (editingOf e buffer n) (holding buffer n (layout (edited e (recordOf (take n buffer))))) buffer

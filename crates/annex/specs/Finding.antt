@@ -1,0 +1,63 @@
+-- Finding contents: document 01, "Finding contents". "reading's numbers, then 16 if it is 00, absent or unknown; it hands back that stretch
+-- of the caller's own message, not a copy, and an empty stretch on refusal."
+use Prim.Native.Nat.{ℕ, _+_, _-_}
+use mathlib.Core.Bool.{Bool, true, false, cond}
+use mathlib.Core.List.{List, [], _∷_}
+use lib.Dec.{eqb}
+use lib.ListN.{length, take, drop}
+use Rattle.annex.specs.Answers.{absent, andThen}
+use Rattle.annex.specs.Units.{nameOf, leadOf, extentOf, commonExtentOf}
+use Rattle.annex.specs.Heads.{end-mark, transfer-data}
+use Rattle.annex.specs.Walk.{Par}
+use Rattle.annex.specs.Reading.{verdictOf, commonsOf, transfersOf, dataIn}
+use Rattle.annex.specs.declared.Extent.{Extent}
+use Rattle.annex.specs.declared.Found.{Found}
+use Rattle.annex.specs.declared.Found.the-variants.{At, Nowhere}
+use Rattle.annex.specs.declared.Answer.{Answer}
+use Rattle.annex.specs.declared.Answer.the-variants.{Accepted, Refused}
+
+-- where the contents stand of a parameter, counted from s octets before the first place
+abbrev pub stretchOf : Extent → ℕ → Par → Found
+stretchOf e s q = At (s + q .place + 1 + leadOf e) (s + q .place + 1 + length (q .own))
+
+-- of the common parameter with the header h; the end mark has no contents to be found
+unfoldable pub commonIn : ℕ → List Par → Found
+commonIn h [] = Nowhere
+commonIn h (q ∷ qs) = cond (eqb (q .head) h) (stretchOf (commonExtentOf h) 0 q) (commonIn h qs)
+
+unfoldable pub commonFound : ℕ → List ℕ → Found
+commonFound h m = cond (eqb h end-mark) Nowhere (commonIn h (commonsOf m))
+
+-- of the transfer parameter with the name x, in transfer data that starts at s
+unfoldable pub transferIn : ℕ → ℕ → List Par → Found
+transferIn x s [] = Nowhere
+transferIn x s (q ∷ qs) = cond (eqb (nameOf (q .head)) x) (stretchOf (extentOf (q .head)) s q) (transferIn x s qs)
+
+-- in the parameters of a message: in those of its C5
+unfoldable pub transferAmong : ℕ → List Par → Found
+transferAmong x [] = Nowhere
+transferAmong x (q ∷ qs) =
+    cond (eqb (q .head) transfer-data) (transferIn x (q .place + 2) (transfersOf (dataIn q))) (transferAmong x qs)
+
+unfoldable pub transferFound : ℕ → List ℕ → Found
+transferFound x m = transferAmong x (commonsOf m)
+
+-- the second question: accepted, with where the contents start, or number and place
+abbrev pub foundAnswer : Found → Answer
+foundAnswer (At s e) = Accepted s
+foundAnswer Nowhere = Refused absent 0
+
+abbrev pub findAnswer : List ℕ → Found → Answer
+findAnswer m f = andThen (verdictOf m) (λ _. foundAnswer f)
+
+-- the stretch itself
+abbrev pub foundPart : List ℕ → Found → List ℕ
+foundPart m (At s e) = take (e - s) (drop s m)
+foundPart m Nowhere = []
+
+abbrev pub partBy : Answer → List ℕ → Found → List ℕ
+partBy (Accepted n) m f = foundPart m f
+partBy (Refused k p) m f = []
+
+abbrev pub findPart : List ℕ → Found → List ℕ
+findPart m f = partBy (verdictOf m) m f

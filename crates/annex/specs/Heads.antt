@@ -1,0 +1,179 @@
+-- The headers and limits: document 01, "Common part" (the table of headers, the signal kinds) and "Transfer data" (the lists under
+-- PLI 01, PLI 10 and PLI 11, the names with no layout, the unused names).
+use Prim.Native.Nat.{ℕ}
+use mathlib.Core.Bool.{Bool, true, false, cond, not, _||_}
+use mathlib.Core.List.{List, [], _∷_, map}
+use lib.Dec.{eqb}
+use Rattle.annex.specs.Units.{pliOf, nameOf}
+
+-- x is one of the list
+abbrev pub among : ℕ → List ℕ → Bool
+among x [] = false
+among x (y ∷ ys) = eqb x y || among x ys
+
+-- common headers
+abbrev pub end-mark : ℕ
+end-mark = 0x00
+
+abbrev pub user-class : ℕ
+user-class = 0x01
+
+abbrev pub partners-call : ℕ
+partners-call = 0x82
+
+abbrev pub own-call : ℕ
+own-call = 0x83
+
+abbrev pub sequence : ℕ
+sequence = 0x04
+
+abbrev pub signal-kind : ℕ
+signal-kind = 0x06
+
+abbrev pub transfer-data : ℕ
+transfer-data = 0xC5
+
+-- the parameters that a record may hold: all but the end mark
+abbrev pub commonHeaders : List ℕ
+commonHeaders = user-class ∷ partners-call ∷ own-call ∷ sequence ∷ signal-kind ∷ transfer-data ∷ []
+
+-- and those of a message
+abbrev pub listedHeaders : List ℕ
+listedHeaders = end-mark ∷ commonHeaders
+
+-- partner's and own call number
+abbrev pub isCall : ℕ → Bool
+isCall h = eqb h partners-call || eqb h own-call
+
+abbrev pub signalKinds : List ℕ
+signalKinds =
+    0x11 ∷ 0x12 ∷ 0x23 ∷ 0x24 ∷ 0x25 ∷ 0x26 ∷ 0x31 ∷ 0x61 ∷ 0x62 ∷ 0x71 ∷ 0x72 ∷ 0x73 ∷ 0x74 ∷ []
+
+-- the limits of document 01
+abbrev pub most-octets : ℕ
+most-octets = 272
+
+abbrev pub most-commons : ℕ
+most-commons = 6
+
+abbrev pub most-transfers : ℕ
+most-transfers = 52
+
+abbrev pub most-transfer-octets : ℕ
+most-transfer-octets = 255
+
+abbrev pub most-digits : ℕ
+most-digits = 63
+
+abbrev pub call-numbers : ℕ
+call-numbers = 0x1000000
+
+-- the upper two bits of a count octet: none told, notification (bit 7), notification and verification (7, 6), or the type of dialling
+pub data Marks : Type 0 where
+  Unmarked Notified Verified Typed : Marks
+
+-- what is checked of contents: nothing more, digits of PLI 10, a number as in D7, as in DC, as in DA, so many octets, or two octets of
+-- whose second these bits are 0
+pub data Form : Type 0 where
+  Carried : Form
+  Digits : Marks → Form
+  Number Calling Generic : Form
+  Long : ℕ → Form
+  Two : ℕ → Form
+
+-- a row of the lists: header, the bits of the first octet of its contents that must be 0, and the form
+pub record Head : Type 0 where
+  pub header : ℕ
+  pub zeroes : ℕ
+  pub form : Form
+
+abbrev row : ℕ → ℕ → Form → Head
+row h z f = record { header = h; zeroes = z; form = f }
+
+abbrev pub heads : List Head
+heads =
+    row 0x41 0xFE Carried ∷  -- charging signal request
+    row 0x42 0xF0 Carried ∷  -- release event
+    row 0x43 0xFE Carried ∷  -- charging signal resend request
+    row 0x44 0xFE Carried ∷  -- channel check
+    row 0x45 0xFE Carried ∷  -- re-control object
+    row 0x46 0xFC Carried ∷  -- initial setting
+    row 0x52 0x30 Carried ∷  -- calling user class
+    row 0x65 0xFE Carried ∷  -- host or mate
+    row 0x66 0x00 Carried ∷  -- network function kind
+    row 0x67 0xF8 Carried ∷  -- charging form
+    row 0x68 0x00 Carried ∷  -- call that met rejection
+    row 0x6C 0x80 Carried ∷  -- function level
+    row 0x6E 0x00 Carried ∷  -- channel request
+    row 0x6F 0xFC Carried ∷  -- ISUP link wish
+    row 0x73 0x00 Carried ∷  -- number of announcements
+    row 0x75 0x00 Carried ∷  -- section MBI
+    row 0x79 0x00 Carried ∷  -- connection result event
+    row 0x7A 0x00 Carried ∷  -- ARE control result event
+    row 0x7C 0x00 Carried ∷  -- order to send charging information
+    row 0x7E 0x00 Carried ∷  -- adjacent network form
+    row 0x90 0x40 (Digits Notified) ∷  -- originating area (KA)
+    row 0x91 0x00 (Digits Verified) ∷  -- originating ID
+    row 0x95 0x40 (Digits Notified) ∷  -- called terminal
+    row 0x98 0x00 (Digits Typed) ∷  -- dialled digits
+    row 0xA3 0xC0 (Digits Unmarked) ∷  -- re-control digits
+    row 0xCC 0x00 Carried ∷  -- carriers
+    row 0xCD 0x00 Carried ∷  -- called IN number
+    row 0xCE 0x00 Carried ∷  -- test call
+    row 0xCF 0x00 (Two 0x08) ∷  -- forward call
+    row 0xD3 0x00 Carried ∷  -- called user number
+    row 0xD6 0x00 Carried ∷  -- added user class
+    row 0xD7 0x00 Number ∷  -- calling user number
+    row 0xD9 0x00 Carried ∷  -- reason why the caller's number is withheld
+    row 0xDA 0x00 Generic ∷  -- generic number
+    row 0xDB 0x00 (Two 0xFC) ∷  -- second network function kind
+    row 0xDC 0x00 Calling ∷  -- calling number
+    row 0xE0 0x00 Carried ∷  -- connection order
+    row 0xE9 0x00 Carried ∷  -- rejection control
+    row 0xEA 0x00 Carried ∷  -- signalling point number
+    row 0xEB 0x00 Carried ∷  -- reason
+    row 0xED 0x00 Carried ∷  -- number set by the user
+    row 0xF2 0x00 (Long 4) ∷  -- duration of the call
+    row 0xF4 0x00 Carried ∷  -- notice of charge
+    row 0xF6 0x00 Carried ∷  -- IP number
+    row 0xF7 0x00 Carried ∷  -- charging information
+    row 0xF8 0x00 Carried ∷  -- NSP setting
+    row 0xFD 0x00 Carried ∷ []  -- originating region
+
+-- "Five names have no layout": any PLI is allowed and contents are carried
+abbrev pub freeNames : List ℕ
+freeNames = 0x07 ∷ 0x24 ∷ 0x30 ∷ 0x31 ∷ 0x3B ∷ []
+
+abbrev pub isFree : ℕ → Bool
+isFree h = among (nameOf h) freeNames
+
+abbrev headerOf : Head → ℕ
+headerOf r = r .header
+
+-- "The other twelve names are unused": what is not listed under some PLI, and not one of the five
+unfoldable pub nameUsed : ℕ → Bool
+nameUsed h = isFree h || among (nameOf h) (map (λ r. nameOf (headerOf r)) heads)
+
+-- the PLI is that name's
+unfoldable pub pliRight : ℕ → Bool
+pliRight h = isFree h || among h (map headerOf heads)
+
+-- how often the name x may stand: "A name (P0, P1) stands at most once (house)"
+unfoldable pub oftenOf : ℕ → ℕ
+oftenOf x = 1
+
+-- a header in no list: no bits asked; digits under PLI 10, unless the name has no layout; else carried
+abbrev unlistedHead : ℕ → Head
+unlistedHead h = row h 0x00 (cond (not (isFree h)) (cond (eqb (pliOf h) 2) (Digits Unmarked) Carried) Carried)
+
+abbrev headIn : List Head → ℕ → Head
+headIn [] h = unlistedHead h
+headIn (r ∷ rs) h = cond (eqb h (r .header)) r (headIn rs h)
+
+-- the bits of the first octet of the contents that must be 0
+unfoldable pub zeroesOf : ℕ → ℕ
+zeroesOf h = headIn heads h .zeroes
+
+-- the form of the contents
+unfoldable pub formOf : ℕ → Form
+formOf h = headIn heads h .form

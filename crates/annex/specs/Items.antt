@@ -1,0 +1,181 @@
+-- The parameters of a record: document 01, "Writing", what a record holds of each parameter, and the contents that it stands for.
+use Prim.Native.Nat.{ℕ, zero, suc, _+_, _*_, _-_, _/_, _%_}
+use mathlib.Core.Bool.{Bool, true, false, cond}
+use mathlib.Core.List.{List, [], _∷_, _++_}
+use lib.Dec.{eqb}
+use lib.ListN.{length, getD, drop}
+use Rattle.annex.specs.Heads.{Form, Marks, formOf}
+use Rattle.annex.specs.Heads.Marks.{Unmarked, Notified, Verified, Typed}
+use Rattle.annex.specs.Heads.Form.{Carried, Digits, Number, Calling, Generic, Long, Two}
+use Rattle.annex.specs.Digits.{digitsOf, packed}
+use Rattle.annex.specs.Contents.{countOf}
+use Rattle.annex.specs.declared.Alphabet.the-variants.{Dialled, Numbered}
+
+-- a transfer parameter; marks and fields that it does not have are 0. values: its digits, first digit first (0-9, 10 for *, 11 for #), or
+-- its contents; of DA its first octet, and where that is 06 the digits after it
+pub record Item : Type 0 where
+  pub header : ℕ
+  pub notification : ℕ
+  pub verification : ℕ
+  pub dialling : ℕ
+  pub numberType : ℕ
+  pub incomplete : ℕ
+  pub plan : ℕ
+  pub presentation : ℕ
+  pub screening : ℕ
+  pub values : List ℕ
+
+-- a common parameter: the octet of 01, 04 and 06, the number of 82 and 83, the parameters of C5; what it does not have is 0, or none
+pub record Part : Type 0 where
+  pub header : ℕ
+  pub value : ℕ
+  pub items : List Item
+
+-- how the values are held: as the contents, or as digits with marks, as a number, as a number after 06
+pub data Holding : Type 0 where
+  AsContents : Holding
+  AsDigits : Marks → Holding
+  AsNumber AsGeneric : Holding
+
+abbrev pub holdingBy : Form → ℕ → Holding
+holdingBy Carried x = AsContents
+holdingBy (Digits m) x = AsDigits m
+holdingBy Number x = AsNumber
+holdingBy Calling x = AsNumber
+holdingBy Generic x = cond (eqb x 6) AsGeneric AsContents
+holdingBy (Long n) x = AsContents
+holdingBy (Two mask) x = AsContents
+
+-- "The header, for DA its first octet too, decides which"
+unfoldable pub holdingOf : ℕ → ℕ → Holding
+holdingOf h x = holdingBy (formOf h) x
+
+-- ---- from contents to a parameter
+
+abbrev pub plainItem : ℕ → List ℕ → Item
+plainItem h vs =
+    record {
+      header = h;
+      notification = 0;
+      verification = 0;
+      dialling = 0;
+      numberType = 0;
+      incomplete = 0;
+      plan = 0;
+      presentation = 0;
+      screening = 0;
+      values = vs;
+    }
+
+abbrev pub markedItem : ℕ → ℕ → ℕ → ℕ → List ℕ → Item
+markedItem h n v d vs =
+    record {
+      header = h;
+      notification = n;
+      verification = v;
+      dialling = d;
+      numberType = 0;
+      incomplete = 0;
+      plan = 0;
+      presentation = 0;
+      screening = 0;
+      values = vs;
+    }
+
+-- a number's first octet: odd mark (7), number type (6-0). Its second: incomplete mark (7), plan (6-4), presentation (3-2), screening (1-0)
+abbrev pub numberItem : ℕ → ℕ → ℕ → List ℕ → Item
+numberItem h x y vs =
+    record {
+      header = h;
+      notification = 0;
+      verification = 0;
+      dialling = 0;
+      numberType = x % 128;
+      incomplete = y / 128;
+      plan = y / 16 % 8;
+      presentation = y / 4 % 4;
+      screening = y % 4;
+      values = vs;
+    }
+
+-- the upper two bits u of a count octet: 90 and 95 notification in bit 7; 91 notification in bit 7, verification in bit 6; 98 the type
+abbrev pub openMarks : Marks → ℕ → ℕ → List ℕ → Item
+openMarks Unmarked h u vs = markedItem h 0 0 0 vs
+openMarks Notified h u vs = markedItem h (u / 2) 0 0 vs
+openMarks Verified h u vs = markedItem h (u / 2) (u % 2) 0 vs
+openMarks Typed h u vs = markedItem h 0 0 u vs
+
+abbrev pub openBy : Holding → ℕ → List ℕ → Item
+openBy AsContents h s = plainItem h s
+openBy (AsDigits m) h s = openMarks m h (getD s 0 0 / 64) (digitsOf Dialled (getD s 0 0 % 64) (drop 1 s))
+openBy AsNumber h s = numberItem h (getD s 0 0) (getD s 1 0) (digitsOf Numbered (countOf s) (drop 2 s))
+openBy AsGeneric h s = numberItem h (getD s 1 0) (getD s 2 0) (6 ∷ digitsOf Numbered (countOf (drop 1 s)) (drop 3 s))
+
+-- the parameter with the header h and the contents s
+unfoldable pub itemOf : ℕ → List ℕ → Item
+itemOf h s = openBy (holdingOf h (getD s 0 0)) h s
+
+-- ---- and back
+
+abbrev pub upperMarks : Marks → Item → ℕ
+upperMarks Unmarked i = 0
+upperMarks Notified i = 2 * i .notification
+upperMarks Verified i = 2 * i .notification + i .verification
+upperMarks Typed i = i .dialling
+
+-- "counts and odd marks follow from the digits"
+abbrev pub numberContents : Item → List ℕ → List ℕ
+numberContents i ds =
+    (128 * (length ds % 2) + i .numberType) ∷ (128 * i .incomplete + 16 * i .plan + 4 * i .presentation + i .screening) ∷ packed Numbered ds
+
+abbrev pub contentsBy : Holding → Item → List ℕ
+contentsBy AsContents i = i .values
+contentsBy (AsDigits m) i = (64 * upperMarks m i + length (i .values)) ∷ packed Dialled (i .values)
+contentsBy AsNumber i = numberContents i (i .values)
+contentsBy AsGeneric i = 6 ∷ numberContents i (drop 1 (i .values))
+
+abbrev pub heldAs : Item → Holding
+heldAs i = holdingOf (i .header) (getD (i .values) 0 0)
+
+-- the contents of a parameter
+unfoldable pub contentsOf : Item → List ℕ
+contentsOf i = contentsBy (heldAs i) i
+
+-- the digits of a parameter, none where it holds its contents
+abbrev pub digitsBy : Holding → Item → List ℕ
+digitsBy AsContents i = []
+digitsBy (AsDigits m) i = i .values
+digitsBy AsNumber i = i .values
+digitsBy AsGeneric i = drop 1 (i .values)
+
+-- ---- what is the parameter's own: marks and fields that it does not have are no part of its value, and are 0
+
+abbrev pub ownMarks : Marks → Item → Item
+ownMarks Unmarked i = markedItem (i .header) 0 0 0 (i .values)
+ownMarks Notified i = markedItem (i .header) (i .notification) 0 0 (i .values)
+ownMarks Verified i = markedItem (i .header) (i .notification) (i .verification) 0 (i .values)
+ownMarks Typed i = markedItem (i .header) 0 0 (i .dialling) (i .values)
+
+abbrev pub ownFields : Item → Item
+ownFields i =
+    record {
+      header = i .header;
+      notification = 0;
+      verification = 0;
+      dialling = 0;
+      numberType = i .numberType;
+      incomplete = i .incomplete;
+      plan = i .plan;
+      presentation = i .presentation;
+      screening = i .screening;
+      values = i .values;
+    }
+
+abbrev pub ownBy : Holding → Item → Item
+ownBy AsContents i = plainItem (i .header) (i .values)
+ownBy (AsDigits m) i = ownMarks m i
+ownBy AsNumber i = ownFields i
+ownBy AsGeneric i = ownFields i
+
+unfoldable pub ownOf : Item → Item
+ownOf i = ownBy (heldAs i) i

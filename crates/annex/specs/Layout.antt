@@ -1,0 +1,46 @@
+-- A record laid out to octets: document 01, "Common part" and "Transfer data".
+use Prim.Native.Nat.{ℕ, _/_, _%_}
+use mathlib.Core.Bool.{cond}
+use mathlib.Core.List.{List, [], _∷_, _++_}
+use lib.Dec.{eqb}
+use lib.ListN.{length}
+use Rattle.annex.specs.Units.{extentOf}
+use Rattle.annex.specs.Heads.{end-mark, transfer-data, isCall}
+use Rattle.annex.specs.Items.{Item, Part, contentsOf}
+use Rattle.annex.specs.declared.Extent.{Extent}
+use Rattle.annex.specs.declared.Extent.the-variants.{Fixed, CountOctet, LengthOctet}
+
+-- PLI 11: the length octet before the contents
+abbrev pub ledBy : Extent → List ℕ → List ℕ
+ledBy (Fixed n) s = s
+ledBy CountOctet s = s
+ledBy LengthOctet s = length s ∷ s
+
+-- a transfer parameter: its header and the octets after it
+unfoldable pub layoutItem : Item → List ℕ
+layoutItem i = i .header ∷ ledBy (extentOf (i .header)) (contentsOf i)
+
+unfoldable pub layoutItems : List Item → List ℕ
+layoutItems [] = []
+layoutItems (i ∷ is) = layoutItem i ++ layoutItems is
+
+-- "24 bits, least octet first"
+abbrev pub callOctets : ℕ → List ℕ
+callOctets v = v % 256 ∷ v / 256 % 256 ∷ v / 65536 % 256 ∷ []
+
+-- "transfer data: length octet 0 to 255, then parameters"
+abbrev pub dataOctets : List ℕ → List ℕ
+dataOctets t = length t ∷ t
+
+-- a common parameter
+unfoldable pub layoutPart : Part → List ℕ
+layoutPart p =
+    p .header ∷
+    cond (eqb (p .header) transfer-data) (dataOctets (layoutItems (p .items)))
+    (cond (isCall (p .header)) (callOctets (p .value))
+    (p .value ∷ []))
+
+-- the parameters in order, then the end mark: "the end mark is last (house)"
+unfoldable pub layout : List Part → List ℕ
+layout [] = end-mark ∷ []
+layout (p ∷ ps) = layoutPart p ++ layout ps

@@ -1,0 +1,19 @@
+-- Document 01 as definitions, a file to a chapter, in the order in which they build on each other.
+pub mod Answers
+pub mod Units
+pub mod Heads
+pub mod Digits
+pub mod Contents
+pub mod Items
+pub mod Layout
+pub mod Allowed
+pub mod Walk
+pub mod Reading
+pub mod Records
+pub mod Writing
+pub mod Finding
+pub mod Spans
+pub mod Editing
+pub mod Classes
+pub mod Promises
+pub mod Bench

@@ -1,0 +1,54 @@
+-- What each public function of the product promises, for all inputs, refused ones too: its answer, and what lent memory then holds.
+-- m: the octets of a message; room, table, buffer: lent memory at entry; now: at exit.
+use Prim.Native.Nat.{ℕ}
+use mathlib.Core.Path.{_≡_}
+use mathlib.Core.List.{List}
+use lib.ListN.{length}
+use Rattle.annex.specs.Reading.{verdictOf}
+use Rattle.annex.specs.Records.{readingOf}
+use Rattle.annex.specs.Writing.{writingOf, writtenOf}
+use Rattle.annex.specs.Finding.{commonFound, transferFound, findAnswer, findPart}
+use Rattle.annex.specs.Spans.{rowAt, spansOf, tableOf}
+use Rattle.annex.specs.Editing.{Edit, editingOf, bufferOf}
+use Rattle.annex.specs.Classes.{classOf}
+use Rattle.annex.specs.declared.Answer.{Answer}
+use Rattle.annex.specs.declared.Record.{Record}
+use Rattle.annex.specs.declared.Reading.{Reading}
+use Rattle.annex.specs.declared.Row.{Row}
+use Rattle.annex.specs.declared.ClassAnswer.{ClassAnswer}
+
+abbrev pub VerdictPromise : List ℕ → Answer → Type 0
+VerdictPromise m r = r ≡ verdictOf m
+
+abbrev pub ReadPromise : List ℕ → Reading → Type 0
+ReadPromise m r = r ≡ readingOf m
+
+abbrev pub FindCommonPromise : List ℕ → ℕ → List ℕ → Type 0
+FindCommonPromise m h r = r ≡ findPart m (commonFound h m)
+
+abbrev pub FindCommonAnswerPromise : List ℕ → ℕ → Answer → Type 0
+FindCommonAnswerPromise m h r = r ≡ findAnswer m (commonFound h m)
+
+abbrev pub FindTransferPromise : List ℕ → ℕ → List ℕ → Type 0
+FindTransferPromise m x r = r ≡ findPart m (transferFound x m)
+
+abbrev pub FindTransferAnswerPromise : List ℕ → ℕ → Answer → Type 0
+FindTransferAnswerPromise m x r = r ≡ findAnswer m (transferFound x m)
+
+abbrev pub SpansCheckPromise : List ℕ → ℕ → Answer → Type 0
+SpansCheckPromise m room r = r ≡ spansOf m room
+
+abbrev pub RowPromise : List ℕ → ℕ → Row → Type 0
+RowPromise m k r = r ≡ rowAt m k
+
+abbrev pub SpansPromise : List ℕ → List Row → Answer → List Row → Type 0
+SpansPromise m table r now = (r ≡ spansOf m (length table)) × (now ≡ tableOf m table)
+
+abbrev pub WritePromise : Record → List ℕ → Answer → List ℕ → Type 0
+WritePromise s room r now = (r ≡ writingOf s (length room)) × (now ≡ writtenOf s room)
+
+abbrev pub EditPromise : Edit → List ℕ → ℕ → Answer → List ℕ → Type 0
+EditPromise e buffer n r now = (r ≡ editingOf e buffer n) × (now ≡ bufferOf e buffer n)
+
+abbrev pub ClassPromise : ℕ → ℕ → ClassAnswer → Type 0
+ClassPromise h x r = r ≡ classOf h x

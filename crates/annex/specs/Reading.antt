@@ -1,0 +1,151 @@
+-- Reading: document 01, "Refusal numbers and their order", Reading. "1 first, then left to right. A common parameter is tried 2, 3, 4, 5;
+-- for C5, 8 to 13 run after 4, each transfer parameter in number order. At the end mark 6, then 7."
+use Prim.Native.Nat.{ℕ, zero, suc, _+_, _-_, _*_}
+use mathlib.Core.Bool.{Bool, true, false, cond, not, _&&_, _||_}
+use mathlib.Core.List.{List, [], _∷_, map}
+use lib.Dec.{eqb, ltb, leb}
+use lib.ListN.{length, getD, take, drop}
+use Rattle.annex.specs.Answers.{
+  over-limits,
+  unlisted,
+  repeated,
+  cut-short,
+  not-allowed,
+  missing,
+  left-over,
+  unused-name,
+  other-pli,
+  repeated-name,
+  cut-contents,
+  refuse,
+  andThen,
+  shifted,
+}
+use Rattle.annex.specs.Units.{nameOf, afterOf, extentOf, commonExtentOf, contentsIn}
+use Rattle.annex.specs.Heads.{
+  among,
+  listedHeaders,
+  signalKinds,
+  end-mark,
+  user-class,
+  signal-kind,
+  transfer-data,
+  isCall,
+  most-octets,
+  nameUsed,
+  pliRight,
+  oftenOf,
+}
+use Rattle.annex.specs.Contents.{faultOf}
+use Rattle.annex.specs.Items.{Item, Part, itemOf}
+use Rattle.annex.specs.Walk.{Seen, unseen, timesSeen, Par, Step, walk, judging, listing}
+use Rattle.annex.specs.declared.Answer.{Answer}
+use Rattle.annex.specs.declared.Answer.the-variants.{Accepted, Refused}
+use Rattle.annex.specs.declared.Fault.{Fault}
+use Rattle.annex.specs.declared.Fault.the-variants.{Sound, Bad}
+
+-- ---- transfer data
+
+-- 12 and 13 are placed at the header
+abbrev pub soundThen : Fault → Answer → Answer
+soundThen Sound a = a
+soundThen (Bad k i) a = Refused k 0
+
+-- a transfer parameter whose name stood so many times before: its header and the octets after it, to the end of the transfer data
+unfoldable pub transferOf : ℕ → ℕ → List ℕ → Answer
+transferOf times h xs =
+    let n = afterOf (extentOf h) (getD xs 0 0) in
+    refuse (not (nameUsed h)) unused-name 0
+    (refuse (not (pliRight h)) other-pli 0
+    (refuse (leb (oftenOf (nameOf h)) times) repeated-name 0
+    (refuse (ltb (length xs) n) cut-contents 0
+    (soundThen (faultOf h (contentsIn (extentOf h) (take n xs)))
+    (Accepted n)))))
+
+abbrev pub transferStep : Step
+transferStep seen h xs = transferOf (timesSeen seen h) h xs
+
+-- transfer data: accepted with its length, or the first refusal
+unfoldable pub transfersVerdict : List ℕ → Answer
+transfersVerdict t = walk (judging transferStep (λ seen p. Accepted p)) unseen 0 0 t
+
+-- ---- the common part
+
+-- 5: the octet right after 01 or 06
+unfoldable pub octetAllowed : ℕ → ℕ → Bool
+octetAllowed h x = cond (eqb h user-class) (eqb x 0x01) (cond (eqb h signal-kind) (among x signalKinds) true)
+
+-- 2 to 5
+unfoldable pub commonForm : ℕ → ℕ → List ℕ → Answer
+commonForm times h xs =
+    let n = afterOf (commonExtentOf h) (getD xs 0 0) in
+    refuse (not (among h listedHeaders)) unlisted 0
+    (refuse (ltb 0 times) repeated 0
+    (refuse (ltb (length xs) n) cut-short 0
+    (refuse (not (octetAllowed h (getD xs 0 0))) not-allowed 0
+    (Accepted n))))
+
+-- the end mark: 6, then 7 at the first octet after it
+unfoldable pub endOf : Bool → List ℕ → Answer
+endOf whole xs = refuse (not whole) missing 0 (refuse (ltb 0 (length xs)) left-over 1 (Accepted 0))
+
+-- C5: its parameters start behind the header and the length octet
+unfoldable pub dataOf : ℕ → List ℕ → Answer
+dataOf n xs = andThen (shifted 2 (transfersVerdict (contentsIn (commonExtentOf transfer-data) (take n xs)))) (λ _. Accepted n)
+
+-- a common parameter whose name stood so many times before; whole: 01 and 06 have been seen
+unfoldable pub commonOf : ℕ → Bool → ℕ → List ℕ → Answer
+commonOf times whole h xs =
+    andThen (commonForm times h xs)
+    (λ n. cond (eqb h end-mark) (endOf whole xs) (cond (eqb h transfer-data) (dataOf n xs) (Accepted n)))
+
+abbrev pub wholeIn : Seen → Bool
+wholeIn seen = ltb 0 (timesSeen seen user-class) && ltb 0 (timesSeen seen signal-kind)
+
+abbrev pub commonStep : Step
+commonStep seen h xs = commonOf (timesSeen seen h) (wholeIn seen) h xs
+
+-- 4 where the message ends with no end mark
+abbrev pub commonClose : Seen → ℕ → Answer
+commonClose seen p = refuse (not (ltb 0 (timesSeen seen end-mark))) cut-short p (Accepted p)
+
+unfoldable pub messageVerdict : List ℕ → Answer
+messageVerdict m = walk (judging commonStep commonClose) unseen 0 0 m
+
+-- the verdict of a message: accepted with its length, or the first refusal
+unfoldable pub verdictOf : List ℕ → Answer
+verdictOf m = refuse (eqb (length m) 0 || ltb most-octets (length m)) over-limits 0 (messageVerdict m)
+
+-- ---- the record of an accepted message
+
+-- the parameters in order, with the places of their headers, in the message or in the transfer data
+unfoldable pub commonsOf : List ℕ → List Par
+commonsOf m = walk (listing commonStep) unseen 0 0 m
+
+unfoldable pub transfersOf : List ℕ → List Par
+transfersOf t = walk (listing transferStep) unseen 0 0 t
+
+-- "24 bits, least octet first"
+abbrev pub callNumber : List ℕ → ℕ
+callNumber s = getD s 0 0 + 256 * getD s 1 0 + 65536 * getD s 2 0
+
+abbrev pub openTransfer : Par → Item
+openTransfer q = itemOf (q .head) (contentsIn (extentOf (q .head)) (q .own))
+
+-- the octets of C5 that are its parameters
+abbrev pub dataIn : Par → List ℕ
+dataIn q = contentsIn (commonExtentOf transfer-data) (q .own)
+
+unfoldable pub openCommon : Par → Part
+openCommon q =
+    cond (eqb (q .head) transfer-data) (record { header = q .head; value = 0; items = map openTransfer (transfersOf (dataIn q)) })
+    (cond (isCall (q .head)) (record { header = q .head; value = callNumber (q .own); items = [] })
+    (record { header = q .head; value = getD (q .own) 0 0; items = [] }))
+
+-- "without end mark"
+abbrev pub withoutEnd : List Par → List Par
+withoutEnd [] = []
+withoutEnd (q ∷ qs) = cond (eqb (q .head) end-mark) (withoutEnd qs) (q ∷ withoutEnd qs)
+
+unfoldable pub recordOf : List ℕ → List Part
+recordOf m = map openCommon (withoutEnd (commonsOf m))

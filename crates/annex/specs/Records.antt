@@ -1,0 +1,166 @@
+-- The record as a struct, and as the sequence of values that it stands for: document 01, "Writing". "Records are equal as sequences of
+-- these values; unused room in one handed out is zero."
+use Prim.Native.Nat.{ℕ, zero, suc, _+_, _-_, _/_, _%_}
+use mathlib.Core.Bool.{Bool, true, false, cond, _&&_}
+use mathlib.Core.List.{List, [], _∷_, _++_, map}
+use lib.Dec.{eqb, leb}
+use lib.ListN.{length, getD, take, drop, replicate}
+use Rattle.annex.specs.Heads.{transfer-data, most-commons, most-transfers}
+use Rattle.annex.specs.Items.{Item, Part, ownOf}
+use Rattle.annex.specs.Allowed.{itemsIn, ownPart}
+use Rattle.annex.specs.Reading.{verdictOf, recordOf}
+use Rattle.annex.specs.declared.Common.{Common}
+use Rattle.annex.specs.declared.Transfer.{Transfer}
+use Rattle.annex.specs.declared.Record.{Record}
+use Rattle.annex.specs.declared.Reading.{Reading}
+use Rattle.annex.specs.declared.Answer.{Answer}
+use Rattle.annex.specs.declared.Answer.the-variants.{Accepted, Refused}
+
+-- ---- the parts of the struct
+
+abbrev pub octetHead : ℕ → ℕ → Common
+octetHead h v = record { header = h; value = v; transfers = 0 }
+
+abbrev pub callHead : ℕ → ℕ → Common
+callHead h v = record { header = h; value = v; transfers = 0 }
+
+abbrev pub dataHead : ℕ → Common
+dataHead n = record { header = transfer-data; value = 0; transfers = n }
+
+abbrev pub noCommon : Common
+noCommon = record { header = 0; value = 0; transfers = 0 }
+
+abbrev pub dialledHead : ℕ → ℕ → ℕ → ℕ → ℕ → Transfer
+dialledHead h n v d l =
+    record {
+      header = h;
+      notification = n;
+      verification = v;
+      dialling = d;
+      «number_type» = 0;
+      incomplete = 0;
+      plan = 0;
+      presentation = 0;
+      screening = 0;
+      len = l;
+    }
+
+abbrev pub carriedHead : ℕ → ℕ → Transfer
+carriedHead h l = dialledHead h 0 0 0 l
+
+abbrev pub noTransfer : Transfer
+noTransfer = carriedHead 0 0
+
+abbrev pub numberHead : ℕ → ℕ → ℕ → ℕ → Transfer
+numberHead h x y l =
+    record {
+      header = h;
+      notification = 0;
+      verification = 0;
+      dialling = 0;
+      «number_type» = x % 128;
+      incomplete = y / 128;
+      plan = y / 16 % 8;
+      presentation = y / 4 % 4;
+      screening = y % 4;
+      len = l;
+    }
+
+-- ---- pack: the struct that is handed out
+
+-- a list in an array of n places, the unused ones at z
+unfoldable pub pad : {A : Type 0} → ℕ → A → List A → List A
+pad n z xs = xs ++ replicate (n - length xs) z
+
+abbrev pub headOf : Item → Transfer
+headOf i =
+    record {
+      header = i .header;
+      notification = i .notification;
+      verification = i .verification;
+      dialling = i .dialling;
+      «number_type» = i .numberType;
+      incomplete = i .incomplete;
+      plan = i .plan;
+      presentation = i .presentation;
+      screening = i .screening;
+      len = length (i .values);
+    }
+
+abbrev pub commonHeadOf : Part → Common
+commonHeadOf p = record { header = p .header; value = p .value; transfers = length (p .items) }
+
+unfoldable pub valuesOf : List Item → List ℕ
+valuesOf [] = []
+valuesOf (i ∷ is) = i .values ++ valuesOf is
+
+unfoldable pub pack : List Part → Record
+pack r =
+    record {
+      commons = length r;
+      common = pad 6 noCommon (map commonHeadOf r);
+      transfer = pad 52 noTransfer (map headOf (itemsIn r));
+      values = pad 512 0 (valuesOf (itemsIn r));
+    }
+
+-- ---- view: what any struct at all stands for
+
+abbrev pub rawItem : Transfer → List ℕ → Item
+rawItem t vs =
+    record {
+      header = t .header;
+      notification = t .notification;
+      verification = t .verification;
+      dialling = t .dialling;
+      numberType = t .«number_type»;
+      incomplete = t .incomplete;
+      plan = t .plan;
+      presentation = t .presentation;
+      screening = t .screening;
+      values = vs;
+    }
+
+-- the parameters of which these are the heads, with their values one after the other; what a parameter does not have is no part of it
+unfoldable pub viewItems : List Transfer → List ℕ → List Item
+viewItems [] vs = []
+viewItems (t ∷ ts) vs = ownOf (rawItem t (take (t .len) vs)) ∷ viewItems ts (drop (t .len) vs)
+
+unfoldable pub lengthsOf : List Transfer → ℕ
+lengthsOf [] = 0
+lengthsOf (t ∷ ts) = t .len + lengthsOf ts
+
+-- only a C5 has transfer parameters
+abbrev pub transfersIn : Common → ℕ
+transfersIn c = cond (eqb (c .header) transfer-data) (c .transfers) 0
+
+unfoldable pub transfersSum : List Common → ℕ
+transfersSum [] = 0
+transfersSum (c ∷ cs) = transfersIn c + transfersSum cs
+
+unfoldable pub viewParts : List Common → List Transfer → List ℕ → List Part
+viewParts [] ts vs = []
+viewParts (c ∷ cs) ts vs =
+    ownPart (record { header = c .header; value = c .value; items = viewItems (take (transfersIn c) ts) vs }) ∷
+    viewParts cs (drop (transfersIn c) ts) (drop (lengthsOf (take (transfersIn c) ts)) vs)
+
+abbrev pub commonsIn : Record → List Common
+commonsIn r = take (r .commons) (r .common)
+
+-- the struct's counts and lengths stay within its arrays
+unfoldable pub isWhole : Record → Bool
+isWhole r =
+    leb (r .commons) most-commons
+    && (leb (transfersSum (commonsIn r)) most-transfers
+    && leb (lengthsOf (take (transfersSum (commonsIn r)) (r .transfer))) 512)
+
+unfoldable pub view : Record → List Part
+view r = viewParts (commonsIn r) (r .transfer) (r .values)
+
+-- ---- what reading gives: the record of an accepted message; "a record beside it is empty, all zero"
+
+abbrev pub readBy : Answer → List Part → Reading
+readBy (Accepted n) r = record { answer = Accepted n; «record» = pack r }
+readBy (Refused k p) r = record { answer = Refused k p; «record» = pack [] }
+
+unfoldable pub readingOf : List ℕ → Reading
+readingOf m = readBy (verdictOf m) (recordOf m)

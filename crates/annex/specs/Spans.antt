@@ -1,0 +1,55 @@
+-- Spans: document 01, "Spans". "one row (offset of header, header, contents length) per parameter, in order of offset, into the caller's
+-- table of rows, end mark included". "Reading's numbers, then 15. Rows past the last stay."
+use Prim.Native.Nat.{ℕ, _+_, _-_}
+use mathlib.Core.Bool.{cond}
+use mathlib.Core.List.{List, [], _∷_, _++_}
+use lib.Dec.{eqb, ltb}
+use lib.ListN.{length, getD, drop}
+use Rattle.annex.specs.Answers.{no-room, refuse, andThen}
+use Rattle.annex.specs.Units.{leadOf, extentOf, commonExtentOf}
+use Rattle.annex.specs.Heads.{transfer-data}
+use Rattle.annex.specs.Walk.{Par}
+use Rattle.annex.specs.Reading.{verdictOf, commonsOf, transfersOf, dataIn}
+use Rattle.annex.specs.declared.Extent.{Extent}
+use Rattle.annex.specs.declared.Row.{Row}
+use Rattle.annex.specs.declared.Answer.{Answer}
+use Rattle.annex.specs.declared.Answer.the-variants.{Accepted, Refused}
+
+abbrev pub rowBy : Extent → ℕ → Par → Row
+rowBy e s q = record { offset = s + q .place; header = q .head; len = length (q .own) - leadOf e }
+
+-- the rows of transfer parameters, in transfer data that starts at s
+unfoldable pub transferRows : ℕ → List Par → List Row
+transferRows s [] = []
+transferRows s (q ∷ qs) = rowBy (extentOf (q .head)) s q ∷ transferRows s qs
+
+-- the rows inside a common parameter: those of a C5
+abbrev pub innerRows : Par → List Row
+innerRows q = cond (eqb (q .head) transfer-data) (transferRows (q .place + 2) (transfersOf (dataIn q))) []
+
+unfoldable pub commonRows : List Par → List Row
+commonRows [] = []
+commonRows (q ∷ qs) = rowBy (commonExtentOf (q .head)) 0 q ∷ (innerRows q ++ commonRows qs)
+
+-- the rows of an accepted message
+unfoldable pub rowsOf : List ℕ → List Row
+rowsOf m = commonRows (commonsOf m)
+
+abbrev pub noRow : Row
+noRow = record { offset = 0; header = 0; len = 0 }
+
+-- row k, or the empty row
+unfoldable pub rowAt : List ℕ → ℕ → Row
+rowAt m k = getD (rowsOf m) k noRow
+
+-- the row count, or number and place
+unfoldable pub spansOf : List ℕ → ℕ → Answer
+spansOf m room = andThen (verdictOf m) (λ _. refuse (ltb room (length (rowsOf m))) no-room 0 (Accepted (length (rowsOf m))))
+
+-- what the table then holds
+abbrev pub tableBy : Answer → List Row → List Row → List Row
+tableBy (Accepted n) rows table = rows ++ drop n table
+tableBy (Refused k p) rows table = table
+
+unfoldable pub tableOf : List ℕ → List Row → List Row
+tableOf m table = tableBy (spansOf m (length table)) (rowsOf m) table

@@ -1,0 +1,59 @@
+-- The two counting units, the one conversion, and the length rules: document 01, "Common part" and "Transfer data", Common PLI and
+-- Transfer PLI.
+use Prim.Native.Nat.{ℕ, zero, suc, _+_, _/_, _%_}
+use mathlib.Core.Bool.{cond}
+use mathlib.Core.List.{List}
+use lib.Dec.{eqb}
+use lib.ListN.{drop}
+use Rattle.annex.specs.declared.HalfOctets.{HalfOctets}
+use Rattle.annex.specs.declared.Octets.{Octets}
+use Rattle.annex.specs.declared.Extent.{Extent}
+use Rattle.annex.specs.declared.Extent.the-variants.{Fixed, CountOctet, LengthOctet}
+
+-- a header octet: PLI in bits 7-6, the name (F0 and F1, or P0 and P1) in bits 5-0
+abbrev pub pliOf : ℕ → ℕ
+pliOf h = h / 64
+
+abbrev pub nameOf : ℕ → ℕ
+nameOf h = h % 64
+
+-- "half that many octets, rounded up"
+abbrev pub octetsOf : HalfOctets → Octets
+octetsOf n = record { 0 = (n .0 + 1) / 2 }
+
+-- how many octets follow a header; x is the octet right after it, or 0. Both counts are octets where they meet the sum
+unfoldable pub afterOf : Extent → ℕ → ℕ
+afterOf (Fixed n) x = n
+afterOf CountOctet x = 1 + octetsOf (record { 0 = x % 64 }) .0
+afterOf LengthOctet x = 1 + x
+
+-- "Contents means all octets after the header, and after the length octet"; a count octet is contents
+unfoldable pub leadOf : Extent → ℕ
+leadOf (Fixed n) = 0
+leadOf CountOctet = 0
+leadOf LengthOctet = 1
+
+-- common PLI: 00 one octet of contents, 01 two, 10 three, 11 a length octet and that many octets
+abbrev pub commonByPli : ℕ → Extent
+commonByPli zero = Fixed 1
+commonByPli (suc zero) = Fixed 2
+commonByPli (suc (suc zero)) = Fixed 3
+commonByPli (suc (suc (suc n))) = LengthOctet
+
+-- the end mark, though its PLI is 00, has no contents (house)
+unfoldable pub commonExtentOf : ℕ → Extent
+commonExtentOf h = cond (eqb h 0x00) (Fixed 0) (commonByPli (pliOf h))
+
+-- transfer PLI: 00 nothing follows, 01 one octet, 10 a count octet and its half-octets, 11 a length octet and that many octets
+abbrev pub transferByPli : ℕ → Extent
+transferByPli zero = Fixed 0
+transferByPli (suc zero) = Fixed 1
+transferByPli (suc (suc zero)) = CountOctet
+transferByPli (suc (suc (suc n))) = LengthOctet
+
+unfoldable pub extentOf : ℕ → Extent
+extentOf h = transferByPli (pliOf h)
+
+-- the contents among the octets after a header that are its own
+abbrev pub contentsIn : Extent → List ℕ → List ℕ
+contentsIn e own = drop (leadOf e) own

@@ -1,0 +1,58 @@
+-- A walk over octets, parameter by parameter. Verdict, record, finding and rows are instances of it, in Reading, Finding and Spans.
+-- Nothing counts down but the list itself: after a header as many octets are passed over as its step says are its own.
+use Prim.Native.Nat.{ℕ, zero, suc, _+_}
+use mathlib.Core.List.{List, [], _∷_}
+use lib.ListN.{getD, set, take, replicate}
+use Rattle.annex.specs.Units.{nameOf}
+use Rattle.annex.specs.declared.Answer.{Answer}
+use Rattle.annex.specs.declared.Answer.the-variants.{Accepted, Refused}
+
+-- how often each of the 64 names has been seen
+abbrev pub Seen : Type 0
+Seen = List ℕ
+
+abbrev pub unseen : Seen
+unseen = replicate 64 0
+
+abbrev pub timesSeen : Seen → ℕ → ℕ
+timesSeen seen h = getD seen (nameOf h) 0
+
+abbrev pub counted : Seen → ℕ → Seen
+counted seen h = set seen (nameOf h) (timesSeen seen h + 1)
+
+-- a parameter: the place of its header, the header, and the octets after it that are its own
+pub record Par : Type 0 where
+  pub place : ℕ
+  pub head : ℕ
+  pub own : List ℕ
+
+-- Of a header, with the octets after it, a step says: refused, at a place counted from the header; or how many of those octets are its own.
+abbrev pub Step : Type 0
+Step = Seen → ℕ → List ℕ → Answer
+
+-- close: at the end of the octets. stop: at a refusal. more: a parameter, and what comes of those after it
+pub record Walker (R : Type 0) : Type 0 where
+  pub step : Step
+  pub close : Seen → ℕ → R
+  pub stop : ℕ → ℕ → R
+  pub more : Par → R → R
+
+abbrev pub byStep : {R : Type 0} → Answer → (ℕ → ℕ → R) → (ℕ → R) → R
+byStep (Accepted n) stop f = f n
+byStep (Refused k p) stop f = stop k p
+
+-- k octets still belong to the parameter before; `at` is the place of the next octet
+unfoldable pub walk : {R : Type 0} → Walker R → Seen → ℕ → ℕ → List ℕ → R
+walk r seen k at [] = r .close seen at
+walk r seen (suc k) at (x ∷ xs) = walk r seen k (at + 1) xs
+walk r seen zero at (x ∷ xs) =
+    byStep (r .step seen x xs) (λ k q. r .stop k (at + q))
+    (λ n. r .more (record { place = at; head = x; own = take n xs }) (walk r (counted seen x) n (at + 1) xs))
+
+-- the walk that tells only whether all is accepted, and else the first refusal
+abbrev pub judging : Step → (Seen → ℕ → Answer) → Walker Answer
+judging step close = record { step = step; close = close; stop = Refused; more = λ q a. a }
+
+-- the walk that lists the parameters, up to the first refusal
+abbrev pub listing : Step → Walker (List Par)
+listing step = record { step = step; close = λ seen p. []; stop = λ k p. []; more = λ q qs. q ∷ qs }

@@ -1,0 +1,110 @@
+-- Writing: document 01, "Refusal numbers and their order", Writing. "1 first, then 2, 3, 5, 8-13 in the reader's order, places being where
+-- octets would stand." "After the last transfer parameter 14, at the end 6, then 15. Octets past the written ones stay."
+use Prim.Native.Nat.{ℕ, _+_, _-_}
+use mathlib.Core.Bool.{Bool, true, false, cond, not, _||_}
+use mathlib.Core.List.{List, [], _∷_, _++_}
+use lib.Dec.{eqb, leb, ltb}
+use lib.ListN.{length, drop}
+use Rattle.annex.specs.Answers.{
+  over-limits,
+  unlisted,
+  repeated,
+  not-allowed,
+  missing,
+  unused-name,
+  other-pli,
+  repeated-name,
+  cut-contents,
+  bad-form,
+  bad-digit,
+  transfer-over,
+  no-room,
+  refuse,
+  andThen,
+}
+use Rattle.annex.specs.Units.{nameOf}
+use Rattle.annex.specs.Heads.{
+  among,
+  commonHeaders,
+  transfer-data,
+  most-commons,
+  most-transfers,
+  most-transfer-octets,
+  nameUsed,
+  pliRight,
+  oftenOf,
+}
+use Rattle.annex.specs.Items.{Item, Part}
+use Rattle.annex.specs.Layout.{layoutItem, layoutPart, layout}
+use Rattle.annex.specs.Allowed.{lengthRight, formRight, digitsRight, valueRight, valueFits, itemsIn, contentsSum}
+use Rattle.annex.specs.Walk.{Seen, unseen, timesSeen, counted}
+use Rattle.annex.specs.Reading.{wholeIn}
+use Rattle.annex.specs.Records.{isWhole, view}
+use Rattle.annex.specs.declared.Record.{Record}
+use Rattle.annex.specs.declared.Answer.{Answer}
+use Rattle.annex.specs.declared.Answer.the-variants.{Accepted, Refused}
+
+-- a transfer parameter whose name stood so many times before, its header at the place p: 8 to 13, or the place behind it
+unfoldable pub itemWriting : ℕ → ℕ → Item → Answer
+itemWriting times p i =
+    refuse (not (nameUsed (i .header))) unused-name p
+    (refuse (not (pliRight (i .header))) other-pli p
+    (refuse (leb (oftenOf (nameOf (i .header))) times) repeated-name p
+    (refuse (not (lengthRight i)) cut-contents p
+    (refuse (not (formRight i)) bad-form p
+    (refuse (not (digitsRight i)) bad-digit p
+    (Accepted (p + length (layoutItem i))))))))
+
+-- transfer parameters from the place p on, or the place behind them
+unfoldable pub itemsWriting : Seen → ℕ → List Item → Answer
+itemsWriting seen p [] = Accepted p
+itemsWriting seen p (i ∷ is) =
+    andThen (itemWriting (timesSeen seen (i .header)) p i) (λ q. itemsWriting (counted seen (i .header)) q is)
+
+-- C5, its header at the place p: its parameters start behind the length octet; then 14
+unfoldable pub dataWriting : ℕ → List Item → Answer
+dataWriting p is =
+    andThen (itemsWriting unseen (p + 2) is) (λ q. refuse (ltb most-transfer-octets (q - (p + 2))) transfer-over p (Accepted q))
+
+-- a common parameter whose name stood so many times before, its header at the place p: 2, 3, 5, a number too large for its bits 12, and
+-- for C5 its parameters; or the place behind it
+unfoldable pub partWriting : ℕ → ℕ → Part → Answer
+partWriting times p q =
+    refuse (not (among (q .header) commonHeaders)) unlisted p
+    (refuse (ltb 0 times) repeated p
+    (refuse (not (valueRight q)) not-allowed p
+    (refuse (not (valueFits q)) bad-form p
+    (cond (eqb (q .header) transfer-data) (dataWriting p (q .items))
+    (Accepted (p + length (layoutPart q)))))))
+
+-- the parameters from the place p on, and the end mark: 6, or the message's length
+unfoldable pub partsWriting : Seen → ℕ → List Part → Answer
+partsWriting seen p [] = refuse (not (wholeIn seen)) missing p (Accepted (p + 1))
+partsWriting seen p (q ∷ qs) =
+    andThen (partWriting (timesSeen seen (q .header)) p q) (λ p′. partsWriting (counted seen (q .header)) p′ qs)
+
+-- a record over its limits
+unfoldable pub overLimits : List Part → Bool
+overLimits r =
+    ltb most-commons (length r)
+    || (ltb most-transfers (length (itemsIn r)) || ltb most-transfer-octets (contentsSum (itemsIn r)))
+
+-- a record, room aside: the message's length, or the first refusal
+unfoldable pub recordWriting : List Part → Answer
+recordWriting r = refuse (overLimits r) over-limits 0 (partsWriting unseen 0 r)
+
+-- a struct: one whose counts or lengths leave its arrays is over its limits
+unfoldable pub structWriting : Record → Answer
+structWriting s = refuse (not (isWhole s)) over-limits 0 (recordWriting (view s))
+
+-- and where the message goes: 15 where the room is shorter
+unfoldable pub writingOf : Record → ℕ → Answer
+writingOf s room = andThen (structWriting s) (λ n. refuse (ltb room n) no-room 0 (Accepted n))
+
+-- what the room then holds: the message at its front, octets past it as before; unchanged where refused
+abbrev pub roomAfter : Answer → List ℕ → List ℕ → List ℕ
+roomAfter (Accepted n) octets room = octets ++ drop n room
+roomAfter (Refused k p) octets room = room
+
+unfoldable pub writtenOf : Record → List ℕ → List ℕ
+writtenOf s room = roomAfter (writingOf s (length room)) (layout (view s)) room

@@ -1,0 +1,446 @@
+// The types of document 01, with the constants and constructors of the common, transfer and signal kinds.
+// What they mean is said in specs/, which is all that a reader has to believe.
+ghost use mathlib.Core.Path.{_≡_};
+ghost use Prim.Native.Nat.{_+_, _*_, _%_};
+ghost use Rattle.annex.specs.Units.{octetsOf};
+ghost use Rattle.annex.specs.Records.{octetHead, callHead, dataHead, carriedHead, dialledHead, numberHead, noCommon, noTransfer};
+
+// What a call answers: accepted, with a count, or refused, with a number and a place.
+pub enum Answer {
+    Accepted(usize),
+    Refused(u8, usize),
+}
+
+// The refusal numbers.
+impl Answer {
+    pub const OVER_LIMITS: u8 = 1;
+
+    pub const UNLISTED: u8 = 2;
+
+    pub const REPEATED: u8 = 3;
+
+    pub const CUT_SHORT: u8 = 4;
+
+    pub const NOT_ALLOWED: u8 = 5;
+
+    pub const MISSING: u8 = 6;
+
+    pub const LEFT_OVER: u8 = 7;
+
+    pub const UNUSED_NAME: u8 = 8;
+
+    pub const OTHER_PLI: u8 = 9;
+
+    pub const REPEATED_NAME: u8 = 10;
+
+    pub const CUT_CONTENTS: u8 = 11;
+
+    pub const BAD_FORM: u8 = 12;
+
+    pub const BAD_DIGIT: u8 = 13;
+
+    pub const TRANSFER_OVER: u8 = 14;
+
+    pub const NO_ROOM: u8 = 15;
+
+    pub const ABSENT: u8 = 16;
+
+    pub const NO_CLASS_LIST: u8 = 17;
+}
+
+// What is wrong with contents: nothing, or the refusal's number and the offset of the octet in the contents.
+pub enum Fault {
+    Sound,
+    Bad(u8, usize),
+}
+
+// A count of half-octets (PLI 10) and one of octets (PLI 11). They meet only through the conversion.
+pub struct HalfOctets(pub usize);
+
+pub struct Octets(pub usize);
+
+impl HalfOctets {
+    // Two half-octets to an octet, rounded up.
+    pub fn octets(self) -> Octets
+        ensures { λ r. ⌜ r ≡ octetsOf self ⌝ }
+    {
+        let n = self.0;
+        Octets(n / 2 + n % 2)
+    }
+}
+
+// What a PLI says of the octets after a header: how many there are, or that a count octet (half-octets in bits 5-0)
+// or a length octet (octets) comes first.
+pub enum Extent {
+    Fixed(usize),
+    CountOctet,
+    LengthOctet,
+}
+
+// How half-octets stand for digits: zero is code 10 where digits are dialled (PLI 10), and code 0 in a number (D7).
+pub enum Alphabet {
+    Dialled,
+    Numbered,
+}
+
+// A message.
+pub struct Message;
+
+impl Message {
+    pub const MOST_OCTETS: usize = 272;
+
+    pub const MOST_ROWS: usize = 59;
+}
+
+// A common parameter. value: the octet of 01, 04 and 06, the number of 82 and 83. transfers: how many parameters a C5 holds.
+pub struct Common {
+    pub header: u8,
+    pub value: u32,
+    pub transfers: u8,
+}
+
+impl Common {
+    pub const END_MARK: u8 = 0x00;
+
+    pub const USER_CLASS: u8 = 0x01;
+
+    pub const PARTNERS_CALL: u8 = 0x82;
+
+    pub const OWN_CALL: u8 = 0x83;
+
+    pub const SEQUENCE: u8 = 0x04;
+
+    pub const SIGNAL_KIND: u8 = 0x06;
+
+    pub const TRANSFER_DATA: u8 = 0xC5;
+
+    // the one user class that is not spare
+    pub const ADVANCED_TELEPHONY: u8 = 0x01;
+
+    pub const MOST: usize = 6;
+
+    pub const CALL_NUMBER_BELOW: u32 = 0x1000000;
+
+    pub fn none() -> Common
+        ensures { λ r. ⌜ r ≡ noCommon ⌝ }
+    {
+        Common {
+            header: 0,
+            value: 0,
+            transfers: 0,
+        }
+    }
+
+    pub fn octet(header: u8, octet: u8) -> Common
+        ensures { λ r. ⌜ r ≡ octetHead header octet ⌝ }
+    {
+        Common {
+            header: header,
+            value: octet as u32,
+            transfers: 0,
+        }
+    }
+
+    pub fn call_number(header: u8, number: u32) -> Common
+        ensures { λ r. ⌜ r ≡ callHead header number ⌝ }
+    {
+        Common {
+            header: header,
+            value: number,
+            transfers: 0,
+        }
+    }
+
+    pub fn transfer_data(transfers: u8) -> Common
+        ensures { λ r. ⌜ r ≡ dataHead transfers ⌝ }
+    {
+        Common {
+            header: Common::TRANSFER_DATA,
+            value: 0,
+            transfers: transfers,
+        }
+    }
+}
+
+// A transfer parameter: its header, its upper marks and fields, and how many values it has: digits, or the octets that it carries.
+pub struct Transfer {
+    pub header: u8,
+    pub notification: u8,
+    pub verification: u8,
+    pub dialling: u8,
+    pub number_type: u8,
+    pub incomplete: u8,
+    pub plan: u8,
+    pub presentation: u8,
+    pub screening: u8,
+    pub len: u16,
+}
+
+impl Transfer {
+    // PLI 01
+    pub const CHARGING_REQUEST: u8 = 0x41;
+
+    pub const RELEASE_EVENT: u8 = 0x42;
+
+    pub const CHARGING_RESEND: u8 = 0x43;
+
+    pub const CHANNEL_CHECK: u8 = 0x44;
+
+    pub const RECONTROL_OBJECT: u8 = 0x45;
+
+    pub const INITIAL_SETTING: u8 = 0x46;
+
+    pub const CALLING_USER_CLASS: u8 = 0x52;
+
+    pub const HOST_OR_MATE: u8 = 0x65;
+
+    pub const NETWORK_FUNCTION: u8 = 0x66;
+
+    pub const CHARGING_FORM: u8 = 0x67;
+
+    pub const REJECTED_CALL: u8 = 0x68;
+
+    pub const FUNCTION_LEVEL: u8 = 0x6C;
+
+    pub const CHANNEL_REQUEST: u8 = 0x6E;
+
+    pub const ISUP_LINK: u8 = 0x6F;
+
+    pub const ANNOUNCEMENTS: u8 = 0x73;
+
+    pub const SECTION_MBI: u8 = 0x75;
+
+    pub const CONNECTION_RESULT: u8 = 0x79;
+
+    pub const ARE_RESULT: u8 = 0x7A;
+
+    pub const CHARGING_ORDER: u8 = 0x7C;
+
+    pub const ADJACENT_NETWORK: u8 = 0x7E;
+
+    // PLI 10
+    pub const ORIGINATING_AREA: u8 = 0x90;
+
+    pub const ORIGINATING_ID: u8 = 0x91;
+
+    pub const CALLED_TERMINAL: u8 = 0x95;
+
+    pub const DIALLED_DIGITS: u8 = 0x98;
+
+    pub const RECONTROL_DIGITS: u8 = 0xA3;
+
+    // PLI 11
+    pub const CARRIERS: u8 = 0xCC;
+
+    pub const CALLED_IN_NUMBER: u8 = 0xCD;
+
+    pub const TEST_CALL: u8 = 0xCE;
+
+    pub const FORWARD_CALL: u8 = 0xCF;
+
+    pub const CALLED_USER_NUMBER: u8 = 0xD3;
+
+    pub const ADDED_USER_CLASS: u8 = 0xD6;
+
+    pub const CALLING_USER_NUMBER: u8 = 0xD7;
+
+    pub const WITHHELD_REASON: u8 = 0xD9;
+
+    pub const GENERIC_NUMBER: u8 = 0xDA;
+
+    pub const SECOND_FUNCTION: u8 = 0xDB;
+
+    pub const CALLING_NUMBER: u8 = 0xDC;
+
+    pub const CONNECTION_ORDER: u8 = 0xE0;
+
+    pub const REJECTION_CONTROL: u8 = 0xE9;
+
+    pub const SIGNALLING_POINT: u8 = 0xEA;
+
+    pub const REASON: u8 = 0xEB;
+
+    pub const USER_SET_NUMBER: u8 = 0xED;
+
+    pub const CALL_DURATION: u8 = 0xF2;
+
+    pub const CHARGE_NOTICE: u8 = 0xF4;
+
+    pub const IP_NUMBER: u8 = 0xF6;
+
+    pub const CHARGING_INFORMATION: u8 = 0xF7;
+
+    pub const NSP_SETTING: u8 = 0xF8;
+
+    pub const ORIGINATING_REGION: u8 = 0xFD;
+
+    // names with no layout, under any PLI
+    pub const RESULT_REQUEST_NAME: u8 = 0x07;
+
+    pub const CALL_IDENTITY_NAME: u8 = 0x24;
+
+    pub const CALL_START_NAME: u8 = 0x30;
+
+    pub const CALL_END_NAME: u8 = 0x31;
+
+    pub const WAITING_START_NAME: u8 = 0x3B;
+
+    // the first octet of a generic number that holds digits
+    pub const ADDED_CALLING_NUMBER: u8 = 0x06;
+
+    // the presentation with which a calling number is withheld
+    pub const WITHHELD: u8 = 2;
+
+    pub const NAMES: usize = 64;
+
+    pub const MOST: usize = 52;
+
+    pub const MOST_DIGITS: usize = 63;
+
+    pub const MOST_OCTETS: usize = 255;
+
+    pub const MOST_VALUES: usize = 512;
+
+    pub fn none() -> Transfer
+        ensures { λ r. ⌜ r ≡ noTransfer ⌝ }
+    {
+        Transfer::carried(0, 0)
+    }
+
+    pub fn carried(header: u8, len: u16) -> Transfer
+        ensures { λ r. ⌜ r ≡ carriedHead header len ⌝ }
+    {
+        Transfer {
+            header: header,
+            notification: 0,
+            verification: 0,
+            dialling: 0,
+            number_type: 0,
+            incomplete: 0,
+            plan: 0,
+            presentation: 0,
+            screening: 0,
+            len: len,
+        }
+    }
+
+    pub fn dialled(
+        header: u8,
+        notification: u8,
+        verification: u8,
+        dialling: u8,
+        len: u16,
+    ) -> Transfer
+        ensures { λ r. ⌜ r ≡ dialledHead header notification verification dialling len ⌝ }
+    {
+        Transfer {
+            header: header,
+            notification: notification,
+            verification: verification,
+            dialling: dialling,
+            number_type: 0,
+            incomplete: 0,
+            plan: 0,
+            presentation: 0,
+            screening: 0,
+            len: len,
+        }
+    }
+
+    // A number with its first two octets, as in D7.
+    pub fn number(header: u8, first: u8, second: u8, len: u16) -> Transfer
+        ensures { λ r. ⌜ r ≡ numberHead header first second len ⌝ }
+    {
+        Transfer {
+            header: header,
+            notification: 0,
+            verification: 0,
+            dialling: 0,
+            number_type: first % 128,
+            incomplete: second / 128,
+            plan: second / 16 % 8,
+            presentation: second / 4 % 4,
+            screening: second % 4,
+            len: len,
+        }
+    }
+}
+
+// A signal kind: H0 in bits 7-4, H1 in bits 3-0.
+pub struct Signal(pub u8);
+
+impl Signal {
+    pub const DATA_ENQUIRY: u8 = 0x11;
+
+    pub const DATA_RESPONSE: u8 = 0x12;
+
+    pub const RECONTROL_REQUEST: u8 = 0x23;
+
+    pub const RECONTROL_RESPONSE: u8 = 0x24;
+
+    pub const RECONTROL_ORDER: u8 = 0x25;
+
+    pub const CONNECTION_REPORT: u8 = 0x26;
+
+    pub const CALL_TRANSFER: u8 = 0x31;
+
+    pub const CHARGING: u8 = 0x61;
+
+    pub const CHARGING_RESPONSE: u8 = 0x62;
+
+    pub const CHANNEL_CHECK: u8 = 0x71;
+
+    pub const CHANNEL_RESPONSE: u8 = 0x72;
+
+    pub const CHANNEL_INITIAL: u8 = 0x73;
+
+    pub const CHANNEL_INITIAL_RESPONSE: u8 = 0x74;
+
+    // The kind with this H0 and H1, each taken as four bits.
+    pub fn of(h0: u8, h1: u8) -> Signal
+        ensures { λ r. ⌜ r .0 ≡ 16 * (h0 % 16) + h1 % 16 ⌝ }
+    {
+        Signal(16 * (h0 % 16) + h1 % 16)
+    }
+}
+
+// A record: the first `commons` of `common`; the parameters of its C5s one after the other in `transfer`; their values one after
+// the other in `values`. Unused room is zero in a record handed out.
+pub struct Record {
+    pub commons: u8,
+    pub common: [Common; Common::MOST],
+    pub transfer: [Transfer; Transfer::MOST],
+    pub values: [u8; Transfer::MOST_VALUES],
+}
+
+// What reading gives: the verdict, and the record beside it, empty where refused.
+pub struct Reading {
+    pub answer: Answer,
+    pub record: Record,
+}
+
+// Where contents stand in a message: from an octet to before another.
+pub enum Found {
+    At(usize, usize),
+    Nowhere,
+}
+
+// A row of a listing: offset of the header, header, length of the contents.
+#[repr(C)]
+pub struct Row {
+    pub offset: usize,
+    pub header: u8,
+    pub len: usize,
+}
+
+// The class of a code value.
+pub enum Class {
+    Named,
+    HeldBack,
+    Spare,
+}
+
+pub enum ClassAnswer {
+    Is(Class),
+    Refused(u8, usize),
+}
