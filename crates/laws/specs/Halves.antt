@@ -1,0 +1,50 @@
+-- Laws of half-octets.
+use Prim.Native.Nat.{ℕ, zero, suc, _+_, _*_, _/_, _%_, _<_, _≤_}
+use native.Mathlib.Omega.{arith}
+use mathlib.Core.Path.{_≡_, refl, sym, ap, _∙_}
+use mathlib.Core.List.{List, [], _∷_, map}
+use lib.ListN.{length, getD, take, length-map, List·getD-map, length-take}
+use lib.Seq.{getD-take}
+use Rattle.annex.specs.Digits.{halves, digitOf, digitsOf}
+use Rattle.annex.specs.declared.Alphabet.{Alphabet}
+use Rattle.annex.specs.declared.Alphabet.the-variants.{Dialled, Numbered}
+
+pub length-halves : (s : List ℕ) → length (halves s) ≡ length s * 2
+unfolding halves
+length-halves [] = refl
+length-halves (x ∷ s) = omega (arith, length-halves s)
+
+pub halves-even : (s : List ℕ) (i : ℕ) → i % 2 ≡ 0 → getD (halves s) i 0 ≡ getD s (i / 2) 0 % 16
+unfolding halves
+halves-even [] i h = refl
+halves-even (x ∷ s) zero h = refl
+halves-even (x ∷ s) (suc zero) h = omega arith
+halves-even (x ∷ s) (suc (suc i)) h =
+    let e : suc (suc i) / 2 ≡ suc (i / 2) = omega arith in
+    rw e (halves-even s i (omega arith))
+
+pub halves-odd : (s : List ℕ) (i : ℕ) → (i % 2 ≡ 0 → ⊥) → getD (halves s) i 0 ≡ getD s (i / 2) 0 / 16
+unfolding halves
+halves-odd [] i h = refl
+halves-odd (x ∷ s) zero h = absurd (h refl)
+halves-odd (x ∷ s) (suc zero) h = refl
+halves-odd (x ∷ s) (suc (suc i)) h =
+    let e : suc (suc i) / 2 ≡ suc (i / 2) = omega arith in
+    rw e (halves-odd s i (λ z. h (omega arith)))
+
+-- the digits that octets hold: how many, and each
+pub length-digitsOf : (z : Alphabet) (n : ℕ) (s : List ℕ) → n ≤ length s * 2 → length (digitsOf z n s) ≡ n
+unfolding digitsOf
+length-digitsOf z n s h = simp (length-map, length-take, length-halves) (omega arith)
+
+digit-none : (z : Alphabet) → digitOf z 0 ≡ 0
+unfolding digitOf
+digit-none Dialled = refl
+digit-none Numbered = refl
+
+mapped : (g : ℕ → ℕ) (l : List ℕ) (i : ℕ) → g 0 ≡ 0 → getD (map g l) i 0 ≡ g (getD l i 0)
+mapped g l i e = rw e at (List·getD-map g l i 0)
+
+pub digitsOf-at : (z : Alphabet) (n : ℕ) (s : List ℕ) (i : ℕ) → i < n → getD (digitsOf z n s) i 0 ≡ digitOf z (getD (halves s) i 0)
+unfolding digitsOf
+digitsOf-at z n s i h = mapped (digitOf z) (take n (halves s)) i (digit-none z) ∙ ap (digitOf z) (getD-take n (halves s) i 0 h)

@@ -1,0 +1,1 @@
+// No code: laws of the definitions of `annex`, for the proofs of the other crates.
