@@ -3,3 +3,4 @@ pub mod Bools
 pub mod Octet
 pub mod Halves
 pub mod Walks
+pub mod Steps

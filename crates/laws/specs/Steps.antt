@@ -1,0 +1,251 @@
+-- Laws of the steps of reading: what an accepted step says, and that its octets, and a refusal's place, lie within what it was handed.
+use mathlib.Core.Path.{_≡_, refl, sym, ap, _∙_}
+use mathlib.Core.Bool.{Bool, true, false, cond, not}
+use mathlib.Core.List.{List, [], _∷_}
+use Prim.Native.Nat.{ℕ, zero, suc, _+_, _≤_, _<_}
+use native.Mathlib.Omega.{arith}
+use borrow.Author.Tests.{ltb-false, leb-false, eqb-true, not-false, lt-ltb}
+use lib.Dec.{eqb, ltb, leb}
+use lib.ListN.{length, getD, take, drop, length-drop, length-take}
+use Rattle.annex.specs.Answers.{
+  unlisted,
+  repeated,
+  cut-short,
+  not-allowed,
+  missing,
+  left-over,
+  unused-name,
+  other-pli,
+  repeated-name,
+  cut-contents,
+  refuse,
+  andThen,
+  shifted,
+}
+use Rattle.annex.specs.Units.{nameOf, afterOf, leadOf, extentOf, commonExtentOf, contentsIn}
+use Rattle.annex.specs.Heads.{among, listedHeaders, end-mark, transfer-data, nameUsed, pliRight, oftenOf}
+use Rattle.annex.specs.Contents.{faultOf}
+use Rattle.annex.specs.Walk.{Seen, unseen, counted, Step, walk, judging, byStep}
+use Rattle.annex.specs.Reading.{
+  soundThen,
+  transferOf,
+  transferStep,
+  transfersVerdict,
+  octetAllowed,
+  commonForm,
+  endOf,
+  dataOf,
+  commonOf,
+}
+use Rattle.annex.specs.declared.Answer.{Answer}
+use Rattle.annex.specs.declared.Answer.the-variants.{Accepted, Refused}
+use Rattle.annex.specs.declared.Fault.{Fault}
+use Rattle.annex.specs.declared.Fault.the-variants.{Sound, Bad}
+
+-- ---- answers
+
+-- what is accepted was not refused on the way
+pub passed : (b : Bool) (k p n : ℕ) (a : Answer) → refuse b k p a ≡ Accepted n → (b ≡ false) × (a ≡ Accepted n)
+passed true k p n a e = absurd (let z : _≡_ {A = ℕ} 0 1 = cc in omega arith)
+passed false k p n a e = (refl, e)
+
+pub sounded : (f : Fault) (n : ℕ) (a : Answer) → soundThen f a ≡ Accepted n → (f ≡ Sound) × (a ≡ Accepted n)
+sounded Sound n a e = (refl, e)
+sounded (Bad k i) n a e = absurd (let z : _≡_ {A = ℕ} 0 1 = cc in omega arith)
+
+-- where an answer is a refusal, its place is at most l
+pub record PlaceTo (l : ℕ) (a : Answer) : Type 0 where
+  pub at : (k p : ℕ) → a ≡ Refused k p → p ≤ l
+
+pub accepted-place : (l n : ℕ) → PlaceTo l (Accepted n)
+accepted-place l n = record { at = λ k p e. absurd (let z : _≡_ {A = ℕ} 0 1 = cc in omega arith) }
+
+pub refused-place : (l k p : ℕ) → p ≤ l → PlaceTo l (Refused k p)
+refused-place l k p h = record { at = λ j q e. let same : p ≡ q = cc in omega arith }
+
+pub refuse-place : (l : ℕ) (b : Bool) (k p : ℕ) (a : Answer) → p ≤ l → PlaceTo l a → PlaceTo l (refuse b k p a)
+refuse-place l true k p a h g = refused-place l k p h
+refuse-place l false k p a h g = g
+
+sound-place : (l : ℕ) (f : Fault) (a : Answer) → PlaceTo l a → PlaceTo l (soundThen f a)
+sound-place l Sound a g = g
+sound-place l (Bad k i) a g = refused-place l k 0 (omega arith)
+
+pub place-up : (l m : ℕ) (a : Answer) → l ≤ m → PlaceTo l a → PlaceTo m a
+place-up l m a h g = record { at = λ k p e. omega (arith, g .at k p e) }
+
+-- ---- a transfer parameter
+
+pub record TransferTaken (times h : ℕ) (xs : List ℕ) (n : ℕ) : Type 0 where
+  pub used : nameUsed h ≡ true
+  pub pli : pliRight h ≡ true
+  pub often : times < oftenOf (nameOf h)
+  pub size : n ≡ afterOf (extentOf h) (getD xs 0 0)
+  pub within : n ≤ length xs
+  pub sound : faultOf h (contentsIn (extentOf h) (take n xs)) ≡ Sound
+
+pub transfer-taken : (times h : ℕ) (xs : List ℕ) (n : ℕ) → transferOf times h xs ≡ Accepted n → TransferTaken times h xs n
+unfolding transferOf
+transfer-taken times h xs n e =
+    let l = afterOf (extentOf h) (getD xs 0 0) in
+    let e₁ = passed (not (nameUsed h)) _ 0 n _ e in
+    let e₂ = passed (not (pliRight h)) _ 0 n _ (e₁ .1) in
+    let e₃ = passed (leb (oftenOf (nameOf h)) times) _ 0 n _ (e₂ .1) in
+    let e₄ = passed (ltb (length xs) l) _ 0 n _ (e₃ .1) in
+    let e₅ = sounded (faultOf h (contentsIn (extentOf h) (take l xs))) n (Accepted l) (e₄ .1) in
+    let same : l ≡ n = cc in
+    record {
+      used = not-false (nameUsed h) (e₁ .0);
+      pli = not-false (pliRight h) (e₂ .0);
+      often = leb-false (oftenOf (nameOf h)) times (e₃ .0);
+      size = sym same;
+      within = omega (arith, ltb-false (length xs) l (e₄ .0));
+      sound = rw same at (e₅ .0);
+    }
+
+pub transfer-place : (times h : ℕ) (xs : List ℕ) → PlaceTo 0 (transferOf times h xs)
+unfolding transferOf
+transfer-place times h xs =
+    let n = afterOf (extentOf h) (getD xs 0 0) in
+    let sound = sound-place 0 (faultOf h (contentsIn (extentOf h) (take n xs))) (Accepted n) (accepted-place 0 n) in
+    let whole = refuse-place 0 (ltb (length xs) n) cut-contents 0 _ (omega arith) sound in
+    let once = refuse-place 0 (leb (oftenOf (nameOf h)) times) repeated-name 0 _ (omega arith) whole in
+    let right = refuse-place 0 (not (pliRight h)) other-pli 0 _ (omega arith) once in
+    refuse-place 0 (not (nameUsed h)) unused-name 0 _ (omega arith) right
+
+-- ---- places in a walk
+
+module _ (step : Step) (close : Seen → ℕ → Answer)
+    (l : ℕ) (placed : (seen : Seen) (h : ℕ) (xs : List ℕ) → PlaceTo (length xs + l) (step seen h xs)) (closed : (seen : Seen) (p : ℕ) → PlaceTo (p + l) (close seen p)) where
+  pub walk-place : (xs : List ℕ) (seen : Seen) (k p : ℕ) → PlaceTo (p + length xs + l) (walk (judging step close) seen k p xs)
+  unfolding walk
+  walk-place [] seen k p = let e : p + 0 + l ≡ p + l = omega arith in rw e (closed seen p)
+  walk-place (x ∷ xs) seen (suc k) p = place-up (p + 1 + length xs + l) _ _ (omega arith) (walk-place xs seen k (p + 1))
+  walk-place (x ∷ xs) seen zero p = go (step seen x xs) refl (walk-place xs (counted seen x))
+    where
+      go : (a : Answer) → step seen x xs ≡ a → ((k p : ℕ) → PlaceTo (p + length xs + l) (walk (judging step close) (counted seen x) k p xs)) → PlaceTo (p + suc (length xs) + l) (byStep a (λ k q. Refused k (p + q)) (λ n. walk (judging step close) (counted seen x) n (p + 1) xs))
+      go (Accepted n) e ih = place-up (p + 1 + length xs + l) _ _ (omega arith) (ih n (p + 1))
+      go (Refused k q) e ih = refused-place _ k (p + q) (omega (arith, placed seen x xs .at k q e))
+
+pub transfers-place : (t : List ℕ) → PlaceTo (length t) (transfersVerdict t)
+unfolding transfersVerdict
+transfers-place t =
+    let f : 0 + length t + 0 ≡ length t = omega arith in
+    rw f at
+    (walk-place transferStep (λ seen p. Accepted p) 0
+    (λ seen h xs. place-up 0 (length xs + 0) (transferStep seen h xs) (omega arith) (transfer-place _ h xs))
+    (λ seen p. accepted-place (p + 0) p) t unseen 0 0)
+
+-- ---- a common parameter
+
+pub record FormTaken (times h : ℕ) (xs : List ℕ) (n : ℕ) : Type 0 where
+  pub listed : among h listedHeaders ≡ true
+  pub once : times ≡ 0
+  pub size : n ≡ afterOf (commonExtentOf h) (getD xs 0 0)
+  pub within : n ≤ length xs
+  pub right : octetAllowed h (getD xs 0 0) ≡ true
+
+pub form-taken : (times h : ℕ) (xs : List ℕ) (n : ℕ) → commonForm times h xs ≡ Accepted n → FormTaken times h xs n
+unfolding commonForm
+form-taken times h xs n e =
+    let l = afterOf (commonExtentOf h) (getD xs 0 0) in
+    let e₁ = passed (not (among h listedHeaders)) _ 0 n _ e in
+    let e₂ = passed (ltb 0 times) _ 0 n _ (e₁ .1) in
+    let e₃ = passed (ltb (length xs) l) _ 0 n _ (e₂ .1) in
+    let e₄ = passed (not (octetAllowed h (getD xs 0 0))) _ 0 n (Accepted l) (e₃ .1) in
+    let same : l ≡ n = cc in
+    record {
+      listed = not-false (among h listedHeaders) (e₁ .0);
+      once = omega (arith, ltb-false 0 times (e₂ .0));
+      size = sym same;
+      within = omega (arith, ltb-false (length xs) l (e₃ .0));
+      right = not-false (octetAllowed h (getD xs 0 0)) (e₄ .0);
+    }
+
+form-place : (times h : ℕ) (xs : List ℕ) → PlaceTo 0 (commonForm times h xs)
+unfolding commonForm
+form-place times h xs =
+    let n = afterOf (commonExtentOf h) (getD xs 0 0) in
+    let right = refuse-place 0 (not (octetAllowed h (getD xs 0 0))) not-allowed 0 (Accepted n) (omega arith) (accepted-place 0 n) in
+    let whole = refuse-place 0 (ltb (length xs) n) cut-short 0 _ (omega arith) right in
+    let once = refuse-place 0 (ltb 0 times) repeated 0 _ (omega arith) whole in
+    refuse-place 0 (not (among h listedHeaders)) unlisted 0 _ (omega arith) once
+
+end-place : (whole : Bool) (xs : List ℕ) → PlaceTo 1 (endOf whole xs)
+unfolding endOf
+end-place whole xs =
+    let last = refuse-place 1 (ltb 0 (length xs)) left-over 1 (Accepted 0) (omega arith) (accepted-place 1 0) in
+    refuse-place 1 (not whole) missing 0 _ (omega arith) last
+
+-- what follows 2 to 5
+pub common-formed : (times : ℕ) (whole : Bool) (h : ℕ) (xs : List ℕ) (n : ℕ) → commonForm times h xs ≡ Accepted n → commonOf times whole h xs ≡ cond (eqb h end-mark) (endOf whole xs) (cond (eqb h transfer-data) (dataOf n xs) (Accepted n))
+unfolding commonOf
+common-formed times whole h xs n e = rw e
+
+pub common-refused : (times : ℕ) (whole : Bool) (h : ℕ) (xs : List ℕ) (k p : ℕ) → commonForm times h xs ≡ Refused k p → commonOf times whole h xs ≡ Refused k p
+unfolding commonOf
+common-refused times whole h xs k p e = rw e
+
+-- ---- C5 and the whole step
+
+behind-data : (n : ℕ) (xs : List ℕ) → n ≤ length xs → length (contentsIn (commonExtentOf transfer-data) (take n xs)) ≤ length xs
+unfolding commonExtentOf leadOf
+behind-data n xs h = simp (length-drop, length-take) (omega arith)
+
+shifted-place : (l s : ℕ) (a : Answer) → PlaceTo l a → PlaceTo (s + l) (shifted s a)
+shifted-place l s (Accepted n) g = accepted-place (s + l) n
+shifted-place l s (Refused k p) g = refused-place (s + l) k (s + p) (omega (arith, g .at k p refl))
+
+then-place : (l n : ℕ) (a : Answer) → PlaceTo l a → PlaceTo l (andThen a (λ _. Accepted n))
+then-place l n (Accepted k) g = accepted-place l n
+then-place l n (Refused k p) g = g
+
+data-place : (n : ℕ) (xs : List ℕ) → n ≤ length xs → PlaceTo (2 + length xs) (dataOf n xs)
+unfolding dataOf
+data-place n xs h =
+    let t = contentsIn (commonExtentOf transfer-data) (take n xs) in
+    place-up (2 + length t) (2 + length xs) _ (omega (arith, behind-data n xs h))
+    (then-place (2 + length t) n _ (shifted-place (length t) 2 _ (transfers-place t)))
+
+pub data-taken : (n : ℕ) (xs : List ℕ) (k : ℕ) → dataOf n xs ≡ Accepted k → (q : ℕ) × (transfersVerdict (contentsIn (commonExtentOf transfer-data) (take n xs)) ≡ Accepted q) × (k ≡ n)
+unfolding dataOf
+data-taken n xs k e = go (transfersVerdict (contentsIn (commonExtentOf transfer-data) (take n xs))) refl e
+  where
+    go : (a : Answer) → transfersVerdict (contentsIn (commonExtentOf transfer-data) (take n xs)) ≡ a → andThen (shifted 2 a) (λ _. Accepted n) ≡ Accepted k → (q : ℕ) × (transfersVerdict (contentsIn (commonExtentOf transfer-data) (take n xs)) ≡ Accepted q) × (k ≡ n)
+    go (Accepted q) f e = (q, f, cc)
+    go (Refused j p) f e = absurd (let z : _≡_ {A = ℕ} 0 1 = cc in omega arith)
+
+pub common-place : (times : ℕ) (whole : Bool) (h : ℕ) (xs : List ℕ) → PlaceTo (length xs + 2) (commonOf times whole h xs)
+common-place times whole h xs = go (commonForm times h xs) refl
+  where
+    byKind : (a b : Bool) (n : ℕ) → n ≤ length xs → PlaceTo (length xs + 2) (cond a (endOf whole xs) (cond b (dataOf n xs) (Accepted n)))
+    byKind true b n l = place-up 1 _ _ (omega arith) (end-place whole xs)
+    byKind false true n l = place-up (2 + length xs) _ _ (omega arith) (data-place n xs l)
+    byKind false false n l = accepted-place _ n
+
+    go : (a : Answer) → commonForm times h xs ≡ a → PlaceTo (length xs + 2) (commonOf times whole h xs)
+    go (Accepted n) e =
+        rw (common-formed times whole h xs n e) (byKind (eqb h end-mark) (eqb h transfer-data) n (form-taken times h xs n e .within))
+    go (Refused k p) e = rw (common-refused times whole h xs k p e) (refused-place _ k p (omega (arith, form-place times h xs .at k p e)))
+
+-- an accepted common parameter lies within its octets
+pub common-within : (times : ℕ) (whole : Bool) (h : ℕ) (xs : List ℕ) (n : ℕ) → commonOf times whole h xs ≡ Accepted n → n ≤ length xs
+unfolding endOf
+common-within times whole h xs n e = go (commonForm times h xs) refl
+  where
+    byEnd : endOf whole xs ≡ Accepted n → n ≤ length xs
+    byEnd f =
+        let f₁ = passed (not whole) _ 0 n _ f in
+        let f₂ = passed (ltb 0 (length xs)) _ 1 n (Accepted 0) (f₁ .1) in
+        let same : 0 ≡ n = cc in
+        omega arith
+
+    byKind : (a b : Bool) (k : ℕ) → k ≤ length xs → cond a (endOf whole xs) (cond b (dataOf k xs) (Accepted k)) ≡ Accepted n → n ≤ length xs
+    byKind true b k l f = byEnd f
+    byKind false true k l f = omega (arith, data-taken k xs n f .2)
+    byKind false false k l f = let same : k ≡ n = cc in omega arith
+
+    go : (a : Answer) → commonForm times h xs ≡ a → n ≤ length xs
+    go (Accepted k) f =
+        byKind (eqb h end-mark) (eqb h transfer-data) k (form-taken times h xs k f .within) (sym (common-formed times whole h xs k f) ∙ e)
+    go (Refused k q) f = absurd (let g = common-refused times whole h xs k q f in let z : _≡_ {A = ℕ} 0 1 = cc in omega arith)
