@@ -1,6 +1,16 @@
 -- Laws that the proofs of several crates cite. A reader need not believe any of them: the checker does.
+-- Of tests, lists and octets:
 pub mod Bools
+pub mod Lists
 pub mod Octet
+-- of one transfer parameter, up to its two laws in Leaves:
 pub mod Halves
+pub mod Faults
+pub mod Joined
+pub mod Headers
+pub mod Counted
+pub mod Numbers
+pub mod Leaves
+-- of the walk over a message:
 pub mod Walks
 pub mod Steps

@@ -2,11 +2,12 @@
 use mathlib.Core.Path.{_≡_, refl, sym, ap, _∙_}
 use mathlib.Core.Bool.{Bool, true, false, cond, not}
 use mathlib.Core.List.{List, [], _∷_}
-use Prim.Native.Nat.{ℕ, zero, suc, _+_, _≤_, _<_}
+use Prim.Native.Nat.{ℕ, zero, suc, _+_, _-_, _≤_, _<_}
 use native.Mathlib.Omega.{arith}
 use borrow.Author.Tests.{ltb-false, leb-false, eqb-true, not-false, lt-ltb}
 use lib.Dec.{eqb, ltb, leb}
 use lib.ListN.{length, getD, take, drop, length-drop, length-take}
+use Rattle.laws.specs.Lists.{drop-take}
 use Rattle.annex.specs.Answers.{
   unlisted,
   repeated,
@@ -200,6 +201,15 @@ then-place : (l n : ℕ) (a : Answer) → PlaceTo l a → PlaceTo l (andThen a (
 then-place l n (Accepted k) g = accepted-place l n
 then-place l n (Refused k p) g = g
 
+-- C5 by the part behind its length octet
+pub data-part : (n : ℕ) (xs : List ℕ) → contentsIn (commonExtentOf transfer-data) (take n xs) ≡ take (n - 1) (drop 1 xs)
+unfolding commonExtentOf leadOf
+data-part n xs = drop-take 1 n xs
+
+pub data-told : (n : ℕ) (xs : List ℕ) → dataOf n xs ≡ andThen (shifted 2 (transfersVerdict (take (n - 1) (drop 1 xs)))) (λ _. Accepted n)
+unfolding dataOf
+data-told n xs = rw (data-part n xs)
+
 data-place : (n : ℕ) (xs : List ℕ) → n ≤ length xs → PlaceTo (2 + length xs) (dataOf n xs)
 unfolding dataOf
 data-place n xs h =
@@ -248,4 +258,12 @@ common-within times whole h xs n e = go (commonForm times h xs) refl
     go : (a : Answer) → commonForm times h xs ≡ a → n ≤ length xs
     go (Accepted k) f =
         byKind (eqb h end-mark) (eqb h transfer-data) k (form-taken times h xs k f .within) (sym (common-formed times whole h xs k f) ∙ e)
+    go (Refused k q) f = absurd (let g = common-refused times whole h xs k q f in let z : _≡_ {A = ℕ} 0 1 = cc in omega arith)
+
+-- an accepted common parameter has passed 2 to 5
+pub common-taken : (times : ℕ) (whole : Bool) (h : ℕ) (xs : List ℕ) (n : ℕ) → commonOf times whole h xs ≡ Accepted n → (k : ℕ) × FormTaken times h xs k × (commonForm times h xs ≡ Accepted k)
+common-taken times whole h xs n e = go (commonForm times h xs) refl
+  where
+    go : (a : Answer) → commonForm times h xs ≡ a → (k : ℕ) × FormTaken times h xs k × (commonForm times h xs ≡ Accepted k)
+    go (Accepted k) f = (k, form-taken times h xs k f, f)
     go (Refused k q) f = absurd (let g = common-refused times whole h xs k q f in let z : _≡_ {A = ℕ} 0 1 = cc in omega arith)
