@@ -2,6 +2,7 @@
 -- Of tests, lists and octets:
 pub mod Bools
 pub mod Lists
+pub mod Stores
 pub mod Octet
 -- of one transfer parameter, up to its two laws in Leaves:
 pub mod Halves

@@ -1,0 +1,62 @@
+-- Opening a transfer parameter: its contents become a head, and values that are stored after those of the parameters before it.
+-- Where the values have no room, the head is empty and nothing is stored.
+use Prim.Native.Nat.{ℕ, _+_, _/_, _%_}
+use mathlib.Core.Bool.{Bool, cond}
+use mathlib.Core.List.{List}
+use lib.Dec.{leb}
+use lib.ListN.{length}
+use lib.Seq.{sets}
+use Rattle.annex.specs.Heads.{Form, Marks, formOf}
+use Rattle.annex.specs.Heads.Form.{Carried, Digits, Number, Calling, Generic, Long, Two}
+use Rattle.annex.specs.Heads.Marks.{Unmarked, Notified, Verified, Typed}
+use Rattle.annex.specs.Items.{Item, Holding, itemOf}
+use Rattle.annex.specs.Items.Holding.{AsContents, AsDigits, AsNumber, AsGeneric}
+use Rattle.annex.specs.Records.{headOf, noTransfer, dialledHead}
+use Rattle.annex.specs.declared.Transfer.{Transfer}
+use Rattle.parameter.specs.declared.opening.Held.{Held}
+use Rattle.parameter.specs.declared.opening.Held.the-variants as held
+
+-- the values of a parameter fit after the `used` ones
+abbrev pub hasRoom : ℕ → Item → Bool
+hasRoom used i = leb (used + length (i .values)) 512
+
+-- a parameter opened after `used` values: the head, and what the array vs then holds
+abbrev pub headFor : Item → ℕ → Transfer
+headFor i used = cond (hasRoom used i) (headOf i) noTransfer
+
+abbrev pub valuesWith : Item → ℕ → List ℕ → List ℕ
+valuesWith i used vs = cond (hasRoom used i) (sets vs used (i .values)) vs
+
+-- the same of the parameter with the header h and the contents s
+abbrev pub openedHead : ℕ → List ℕ → ℕ → Transfer
+openedHead h s used = headFor (itemOf h s) used
+
+abbrev pub openedValues : ℕ → List ℕ → ℕ → List ℕ → List ℕ
+openedValues h s used vs = valuesWith (itemOf h s) used vs
+
+-- a holding without its marks
+abbrev pub heldBy : Holding → Held
+heldBy AsContents = held.Contents
+heldBy (AsDigits m) = held.Digits
+heldBy AsNumber = held.Number
+heldBy AsGeneric = held.Generic
+
+-- the marks of a form, none where it is not digits
+abbrev pub marksIn : Form → Marks
+marksIn Carried = Unmarked
+marksIn (Digits m) = m
+marksIn Number = Unmarked
+marksIn Calling = Unmarked
+marksIn Generic = Unmarked
+marksIn (Long n) = Unmarked
+marksIn (Two mask) = Unmarked
+
+unfoldable pub marksOf : ℕ → Marks
+marksOf h = marksIn (formOf h)
+
+-- the head of l digits, with the upper two bits u of their count octet
+abbrev pub markedHead : Marks → ℕ → ℕ → ℕ → Transfer
+markedHead Unmarked h u l = dialledHead h 0 0 0 l
+markedHead Notified h u l = dialledHead h (u / 2) 0 0 l
+markedHead Verified h u l = dialledHead h (u / 2) (u % 2) 0 l
+markedHead Typed h u l = dialledHead h 0 0 u l
