@@ -1,6 +1,6 @@
 -- Opening a transfer parameter: its contents become a head, and values that are stored after those of the parameters before it.
 -- Where the values have no room, the head is empty and nothing is stored.
-use Prim.Native.Nat.{ℕ, _+_, _/_, _%_}
+use Prim.Native.Nat.{ℕ, _+_}
 use mathlib.Core.Bool.{Bool, cond}
 use mathlib.Core.List.{List}
 use lib.Dec.{leb}
@@ -8,10 +8,10 @@ use lib.ListN.{length}
 use lib.Seq.{sets}
 use Rattle.annex.specs.Heads.{Form, Marks, formOf}
 use Rattle.annex.specs.Heads.Form.{Carried, Digits, Number, Calling, Generic, Long, Two}
-use Rattle.annex.specs.Heads.Marks.{Unmarked, Notified, Verified, Typed}
+use Rattle.annex.specs.Heads.Marks.{Unmarked}
 use Rattle.annex.specs.Items.{Item, Holding, itemOf}
 use Rattle.annex.specs.Items.Holding.{AsContents, AsDigits, AsNumber, AsGeneric}
-use Rattle.annex.specs.Records.{headOf, noTransfer, dialledHead}
+use Rattle.annex.specs.Records.{headOf, noTransfer}
 use Rattle.annex.specs.declared.Transfer.{Transfer}
 use Rattle.parameter.specs.declared.opening.Held.{Held}
 use Rattle.parameter.specs.declared.opening.Held.the-variants as held
@@ -53,10 +53,3 @@ marksIn (Two mask) = Unmarked
 
 unfoldable pub marksOf : ℕ → Marks
 marksOf h = marksIn (formOf h)
-
--- the head of l digits, with the upper two bits u of their count octet
-abbrev pub markedHead : Marks → ℕ → ℕ → ℕ → Transfer
-markedHead Unmarked h u l = dialledHead h 0 0 0 l
-markedHead Notified h u l = dialledHead h (u / 2) 0 0 l
-markedHead Verified h u l = dialledHead h (u / 2) (u % 2) 0 l
-markedHead Typed h u l = dialledHead h 0 0 u l

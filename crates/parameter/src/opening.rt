@@ -5,7 +5,8 @@ use annex::Alphabet;
 use annex::Transfer;
 ghost use mathlib.Core.Path.{_≡_};
 ghost use mathlib.Core.Bool.{not};
-ghost use Prim.Native.Nat.{_+_, _*_, _≤_, _<_, min};
+ghost use mathlib.Core.List.{List};
+ghost use Prim.Native.Nat.{ℕ, _+_, _*_, _≤_, _<_, min};
 ghost use lib.Dec.{leb};
 ghost use lib.ListN.{length, getD, drop};
 ghost use lib.Seq.{sets};
@@ -13,7 +14,8 @@ ghost use Rattle.annex.specs.Heads.{isFree};
 ghost use Rattle.annex.specs.Digits.{digitsOf};
 ghost use Rattle.annex.specs.Contents.{countOf};
 ghost use Rattle.annex.specs.Items.{holdingOf, openBy, openMarks, Holding.AsContents, Holding.AsDigits, Holding.AsNumber, Holding.AsGeneric};
-ghost use Rattle.parameter.specs.Opening.{headFor, valuesWith, openedHead, openedValues, heldBy, marksOf, markedHead};
+ghost use Rattle.parameter.specs.Opening.{headFor, valuesWith, openedHead, openedValues, heldBy, marksOf};
+ghost use Rattle.annex.specs.Records.{headOf};
 
 // How a parameter's values are held: as its contents, as digits with marks, as a number, as a number after 06.
 enum Held {
@@ -85,4 +87,65 @@ fn unpack_digits(z: Alphabet, octets: &[u8], count: usize, values: &mut [u8; 512
         values[used + i] = d;
         i += 1;
     }
+}
+
+// Whether the header's name has a layout.
+fn has_layout(header: u8) -> bool
+    ensures { λ r. ⌜ r ≡ not (isFree header) ⌝ }
+{
+    match header % 64 {
+        Transfer::RESULT_REQUEST_NAME
+        | Transfer::CALL_IDENTITY_NAME
+        | Transfer::CALL_START_NAME
+        | Transfer::CALL_END_NAME
+        | Transfer::WAITING_START_NAME => false,
+        _ => true,
+    }
+}
+
+// How the values under this header are held; `first` is the first octet of the contents, or 0.
+fn held_as(header: u8, first: u8) -> Held
+    ensures { λ r. ⌜ r ≡ heldBy (holdingOf header first) ⌝ }
+{
+    if header / 64 == 2 {
+        if has_layout(header) {
+            return Held::Digits;
+        }
+        return Held::Contents;
+    }
+    match header {
+        Transfer::CALLING_USER_NUMBER | Transfer::CALLING_NUMBER => Held::Number,
+        Transfer::GENERIC_NUMBER => {
+            if first == Transfer::ADDED_CALLING_NUMBER {
+                Held::Generic
+            } else {
+                Held::Contents
+            }
+        }
+        _ => Held::Contents,
+    }
+}
+
+// The head of `len` digits, with the upper two bits of their count octet.
+fn marked(header: u8, upper: u8, len: u16) -> Transfer
+    ensures { λ r. ⌜ ((vs : List ℕ) → length vs ≡ len → r ≡ headOf (openMarks (marksOf header) header upper vs)) ⌝ }
+{
+    match header {
+        Transfer::ORIGINATING_AREA | Transfer::CALLED_TERMINAL => {
+            Transfer::dialled(header, upper / 2, 0, 0, len)
+        }
+        Transfer::ORIGINATING_ID => Transfer::dialled(header, upper / 2, upper % 2, 0, len),
+        Transfer::DIALLED_DIGITS => Transfer::dialled(header, 0, 0, upper, len),
+        _ => Transfer::dialled(header, 0, 0, 0, len),
+    }
+}
+
+// The digits of a number with these octets.
+fn count_of(s: &[u8]) -> usize
+    ensures { λ r. ⌜ r ≡ countOf (now (s .entry)) ⌝ }
+{
+    if s.len() <= 2 {
+        return 0;
+    }
+    (s.len() - 2) * 2 - (s[0] / 128) as usize
 }
