@@ -1,18 +1,25 @@
 -- Opening a transfer parameter: its contents become a head, and values that are stored after those of the parameters before it.
 -- Where the values have no room, the head is empty and nothing is stored.
-use Prim.Native.Nat.{ℕ, _+_}
-use mathlib.Core.Bool.{Bool, cond}
+use Prim.Native.Nat.{ℕ, _+_, _*_, _≤_}
+use native.Mathlib.Omega.{arith}
+use mathlib.Core.Path.{_≡_, sym, _∙_}
+use mathlib.Core.Bool.{Bool, true, false, cond, not}
 use mathlib.Core.List.{List}
+use borrow.Author.Tests.{leb-true, not-true, not-false}
 use lib.Dec.{leb}
-use lib.ListN.{length}
+use lib.ListN.{length, drop, length-drop}
 use lib.Seq.{sets}
 use Rattle.annex.specs.Heads.{Form, Marks, formOf}
 use Rattle.annex.specs.Heads.Form.{Carried, Digits, Number, Calling, Generic, Long, Two}
 use Rattle.annex.specs.Heads.Marks.{Unmarked}
+use Rattle.annex.specs.Digits.{digitsOf}
+use Rattle.annex.specs.Contents.{countOf}
 use Rattle.annex.specs.Items.{Item, Holding, itemOf}
 use Rattle.annex.specs.Items.Holding.{AsContents, AsDigits, AsNumber, AsGeneric}
 use Rattle.annex.specs.Records.{headOf, noTransfer}
 use Rattle.annex.specs.declared.Transfer.{Transfer}
+use Rattle.annex.specs.declared.Alphabet.the-variants.{Numbered}
+use Rattle.laws.specs.Halves.{length-digitsOf}
 use Rattle.parameter.specs.declared.opening.Held.{Held}
 use Rattle.parameter.specs.declared.opening.Held.the-variants as held
 
@@ -53,3 +60,24 @@ marksIn (Two mask) = Unmarked
 
 unfoldable pub marksOf : ℕ → Marks
 marksOf h = marksIn (formOf h)
+
+-- the two cases of a parameter of n values, by a flag that says whether they fit
+pub without-room : (i : Item) (used n : ℕ) (vs : List ℕ) (b : Bool) → length (i .values) ≡ n → b ≡ leb (used + n) 512 → not b ≡ true → (noTransfer ≡ headFor i used) × (vs ≡ valuesWith i used vs)
+without-room i used n vs b e f t =
+    let g = sym f ∙ not-true b t in
+    (rw (e, g), rw (e, g))
+
+pub with-room : (i : Item) (used n : ℕ) (vs : List ℕ) (b : Bool) → length (i .values) ≡ n → b ≡ leb (used + n) 512 → not b ≡ false → (headOf i ≡ headFor i used) × (sets vs used (i .values) ≡ valuesWith i used vs)
+with-room i used n vs b e f t =
+    let g = sym f ∙ not-false b t in
+    (rw (e, g), rw (e, g))
+
+pub room-left : (used n : ℕ) (b : Bool) → b ≡ leb (used + n) 512 → not b ≡ false → used + n ≤ 512
+room-left used n b f t = leb-true (used + n) 512 (sym f ∙ not-false b t)
+
+-- a number's octets hold as many digits as it counts
+pub count-within : (s : List ℕ) → countOf s ≤ length (drop 2 s) * 2
+count-within s = omega (arith, length-drop 2 s)
+
+pub number-digits : (s : List ℕ) → length (digitsOf Numbered (countOf s) (drop 2 s)) ≡ countOf s
+number-digits s = length-digitsOf Numbered (countOf s) (drop 2 s) (count-within s)

@@ -6,7 +6,7 @@ use annex::Transfer;
 ghost use mathlib.Core.Path.{_≡_};
 ghost use mathlib.Core.Bool.{not};
 ghost use mathlib.Core.List.{List};
-ghost use Prim.Native.Nat.{ℕ, _+_, _*_, _≤_, _<_, min};
+ghost use Prim.Native.Nat.{ℕ, _+_, _*_, _≤_, min};
 ghost use lib.Dec.{leb};
 ghost use lib.ListN.{length, getD, drop};
 ghost use lib.Seq.{sets};
@@ -14,8 +14,8 @@ ghost use Rattle.annex.specs.Heads.{isFree};
 ghost use Rattle.annex.specs.Digits.{digitsOf};
 ghost use Rattle.annex.specs.Contents.{countOf};
 ghost use Rattle.annex.specs.Items.{holdingOf, openBy, openMarks, Holding.AsContents, Holding.AsDigits, Holding.AsNumber, Holding.AsGeneric};
-ghost use Rattle.parameter.specs.Opening.{headFor, valuesWith, openedHead, openedValues, heldBy, marksOf};
 ghost use Rattle.annex.specs.Records.{headOf};
+ghost use Rattle.parameter.specs.Opening.{headFor, valuesWith, openedHead, openedValues, heldBy, marksOf};
 
 // How a parameter's values are held: as its contents, as digits with marks, as a number, as a number after 06.
 enum Held {
@@ -45,6 +45,7 @@ fn octets_from(s: &[u8], i: usize) -> &[u8]
     &s[i..]
 }
 
+// The smaller of two counts.
 fn smaller(a: usize, b: usize) -> usize
     ensures { λ r. ⌜ r ≡ min a b ⌝ }
 {
@@ -65,7 +66,7 @@ fn fit_after(used: usize, count: usize) -> bool
 }
 
 // Stores the octets of `s` in `values` from `used` on.
-fn copy_values(s: &[u8], values: &mut [u8; 512], used: usize)
+fn copy_values(s: &[u8], values: &mut [u8; Transfer::MOST_VALUES], used: usize)
     requires { ⌜ used + length (now s) ≤ 512 ⌝ }
     ensures { λ r. ⌜ now (values .exit) ≡ sets (now (values .entry)) used (now (s .entry)) ⌝ }
 {
@@ -77,7 +78,13 @@ fn copy_values(s: &[u8], values: &mut [u8; 512], used: usize)
 }
 
 // Stores the first `count` digits of `octets` in `values` from `used` on.
-fn unpack_digits(z: Alphabet, octets: &[u8], count: usize, values: &mut [u8; 512], used: usize)
+fn unpack_digits(
+    z: Alphabet,
+    octets: &[u8],
+    count: usize,
+    values: &mut [u8; Transfer::MOST_VALUES],
+    used: usize,
+)
     requires { ⌜ (used + count ≤ 512) × (count ≤ length (now octets) * 2) ⌝ }
     ensures { λ r. ⌜ now (values .exit) ≡ sets (now (values .entry)) used (digitsOf z count (now (octets .entry))) ⌝ }
 {
@@ -89,7 +96,7 @@ fn unpack_digits(z: Alphabet, octets: &[u8], count: usize, values: &mut [u8; 512
     }
 }
 
-// Whether the header's name has a layout.
+// Whether the header's name, its lower six bits, has a layout.
 fn has_layout(header: u8) -> bool
     ensures { λ r. ⌜ r ≡ not (isFree header) ⌝ }
 {
@@ -107,7 +114,8 @@ fn has_layout(header: u8) -> bool
 fn held_as(header: u8, first: u8) -> Held
     ensures { λ r. ⌜ r ≡ heldBy (holdingOf header first) ⌝ }
 {
-    if header / 64 == 2 {
+    let pli = header / 64;
+    if pli == 2 {
         if has_layout(header) {
             return Held::Digits;
         }
@@ -140,7 +148,7 @@ fn marked(header: u8, upper: u8, len: u16) -> Transfer
     }
 }
 
-// The digits of a number with these octets.
+// How many digits a number with these octets has.
 fn count_of(s: &[u8]) -> usize
     ensures { λ r. ⌜ r ≡ countOf (now (s .entry)) ⌝ }
 {
@@ -148,4 +156,111 @@ fn count_of(s: &[u8]) -> usize
         return 0;
     }
     (s.len() - 2) * 2 - (s[0] / 128) as usize
+}
+
+// A parameter that holds its contents.
+fn open_contents(
+    header: u8,
+    s: &[u8],
+    values: &mut [u8; Transfer::MOST_VALUES],
+    used: usize,
+) -> Transfer
+    ensures head { λ r. ⌜ r ≡ headFor (openBy AsContents header (now (s .entry))) used ⌝ }
+    ensures put { λ r. ⌜ now (values .exit) ≡ valuesWith (openBy AsContents header (now (s .entry))) used (now (values .entry)) ⌝ }
+{
+    let count = s.len();
+    if !fit_after(used, count) {
+        return Transfer::none();
+    }
+    copy_values(s, values, used);
+    Transfer::carried(header, count as u16)
+}
+
+// Digits of PLI 10, after their count octet: as many as it tells, or fewer where the octets end.
+fn open_digits(
+    header: u8,
+    s: &[u8],
+    values: &mut [u8; Transfer::MOST_VALUES],
+    used: usize,
+) -> Transfer
+    ensures head { λ r. ⌜ r ≡ headFor (openBy (AsDigits (marksOf header)) header (now (s .entry))) used ⌝ }
+    ensures put { λ r. ⌜ now (values .exit) ≡ valuesWith (openBy (AsDigits (marksOf header)) header (now (s .entry))) used (now (values .entry)) ⌝ }
+{
+    let first = octet_at(s, 0);
+    let octets = octets_from(s, 1);
+    let count = smaller((first % 64) as usize, octets.len() * 2);
+    if !fit_after(used, count) {
+        return Transfer::none();
+    }
+    unpack_digits(Alphabet::Dialled, octets, count, values, used);
+    marked(header, first / 64, count as u16)
+}
+
+// A number, as in D7.
+fn open_number(
+    header: u8,
+    s: &[u8],
+    values: &mut [u8; Transfer::MOST_VALUES],
+    used: usize,
+) -> Transfer
+    ensures head { λ r. ⌜ r ≡ headFor (openBy AsNumber header (now (s .entry))) used ⌝ }
+    ensures put { λ r. ⌜ now (values .exit) ≡ valuesWith (openBy AsNumber header (now (s .entry))) used (now (values .entry)) ⌝ }
+{
+    let count = count_of(s);
+    if !fit_after(used, count) {
+        return Transfer::none();
+    }
+    unpack_digits(Alphabet::Numbered, octets_from(s, 2), count, values, used);
+    Transfer::number(header, octet_at(s, 0), octet_at(s, 1), count as u16)
+}
+
+// A number after its first octet 06, which is held before the digits.
+fn open_generic(
+    header: u8,
+    s: &[u8],
+    values: &mut [u8; Transfer::MOST_VALUES],
+    used: usize,
+) -> Transfer
+    ensures head { λ r. ⌜ r ≡ headFor (openBy AsGeneric header (now (s .entry))) used ⌝ }
+    ensures put { λ r. ⌜ now (values .exit) ≡ valuesWith (openBy AsGeneric header (now (s .entry))) used (now (values .entry)) ⌝ }
+{
+    let number = octets_from(s, 1);
+    let count = count_of(number);
+    if !fit_after(used, count + 1) {
+        return Transfer::none();
+    }
+    values[used] = Transfer::ADDED_CALLING_NUMBER;
+    unpack_digits(
+        Alphabet::Numbered,
+        octets_from(number, 2),
+        count,
+        values,
+        used + 1,
+    );
+    Transfer::number(
+        header,
+        octet_at(number, 0),
+        octet_at(number, 1),
+        (count + 1) as u16,
+    )
+}
+
+// The head of the parameter with this header and contents. Its values go into `values` after the used ones; where they have no room, the
+// head is empty and nothing is stored.
+pub fn open(
+    header: u8,
+    contents: &[u8],
+    values: &mut [u8; Transfer::MOST_VALUES],
+    used: usize,
+) -> Transfer
+    ensures head { λ r. ⌜ r ≡ openedHead header (now (contents .entry)) used ⌝ }
+    ensures put { λ r. ⌜ now (values .exit) ≡ openedValues header (now (contents .entry)) used (now (values .entry)) ⌝ }
+{
+    let held = held_as(header, octet_at(contents, 0));
+    match held {
+        Held::Contents => open_contents(header, contents, values, used),
+        Held::Digits => open_digits(header, contents, values, used),
+        Held::Number => open_number(header, contents, values, used),
+        Held::Generic => open_generic(header, contents, values, used),
+    }
 }

@@ -2,7 +2,7 @@
 use native.Mathlib.Omega.{arith}
 use mathlib.Core.Path.{_≡_, refl, _∙_}
 use Prim.Native.Nat.{_-_, _≤_}
-use lib.ListN.{length, take}
+use lib.ListN.{take}
 use lib.Seq.{sets, take-all}
 use borrow.Author.Needs.{needs}
 use Rattle.annex.specs.Digits.{digitsOf}

@@ -1,0 +1,116 @@
+-- `open` meets its contract: the header and the first octet decide how the values are held, and each arm opens them so.
+use mathlib.Core.Path.{_≡_, refl, sym, _∙_}
+use Prim.Native.Nat.{ℕ}
+use mathlib.Core.Bool.{Bool, true, false, cond}
+use mathlib.Core.List.{List}
+use lib.Dec.{eqb}
+use lib.ListN.{getD}
+use Rattle.annex.specs.Heads.{Form, Marks, formOf}
+use Rattle.annex.specs.Heads.Form.{Carried, Digits, Number, Calling, Generic, Long, Two}
+use Rattle.annex.specs.Heads.Marks.{Unmarked}
+use Rattle.annex.specs.Items.{Holding, holdingBy, holdingOf, openBy, itemOf}
+use Rattle.annex.specs.Items.Holding.{AsContents, AsDigits, AsNumber, AsGeneric}
+use Rattle.parameter.specs.declared.opening.Held.{Held}
+use Rattle.parameter.specs.declared.opening.Held.the-variants as held
+use Rattle.parameter.specs.Opening.{heldBy, marksIn, marksOf}
+use borrow.Author.Needs.{needs}
+use Rattle.parameter.proofs.opening.open.Statement.{statement}
+use Rattle.parameter.proofs.opening.open.Tie as tie
+
+-- a holding again, from its case and its marks
+abbrev asHeld : Held → Marks → Holding
+asHeld held.Contents m = AsContents
+asHeld held.Digits m = AsDigits m
+asHeld held.Number m = AsNumber
+asHeld held.Generic m = AsGeneric
+
+generic : (b : Bool) → asHeld (heldBy (cond b AsGeneric AsContents)) Unmarked ≡ cond b AsGeneric AsContents
+generic true = refl
+generic false = refl
+
+again : (f : Form) (x : ℕ) → asHeld (heldBy (holdingBy f x)) (marksIn f) ≡ holdingBy f x
+again Carried x = refl
+again (Digits m) x = refl
+again Number x = refl
+again Calling x = refl
+again Generic x = generic (eqb x 6)
+again (Long n) x = refl
+again (Two mask) x = refl
+
+opens : (h : ℕ) (s : List ℕ) (v : Held) → v ≡ heldBy (holdingOf h (getD s 0 0)) → openBy (asHeld v (marksOf h)) h s ≡ itemOf h s
+unfolding itemOf holdingOf marksOf
+opens h s v e = rw (e, again (formOf h) (getD s 0 0))
+
+decided : (c : tie.After-held-as) (v : Held) → c .held-as .result ≡ v → openBy (asHeld v (marksOf (c .before .before .before .args .header))) (c .before .before .before .args .header) (c .before .before .before .args .contents .now) ≡ itemOf (c .before .before .before .args .header) (c .before .before .before .args .contents .now)
+decided c v e =
+    let a = c .before .before .before .args in
+    opens (a .header) (a .contents .now) v (sym e ∙ rw (c .held-as .ensures, c .before .octet-at .ensures))
+
+octet-at-requires : tie.Need-octet-at-requires
+octet-at-requires c κs = search needs
+
+held-as-requires : tie.Need-held-as-requires
+held-as-requires c κs = search needs
+
+enum-told : tie.Need-enum-told
+enum-told c = search needs
+
+open-contents-requires : tie.Need-open-contents-requires
+open-contents-requires c κs = search needs
+
+enum-told-2 : tie.Need-enum-told-2
+enum-told-2 c = search needs
+
+open-digits-requires : tie.Need-open-digits-requires
+open-digits-requires c κs = search needs
+
+enum-told-3 : tie.Need-enum-told-3
+enum-told-3 c = search needs
+
+open-number-requires : tie.Need-open-number-requires
+open-number-requires c κs = search needs
+
+enum-told-4 : tie.Need-enum-told-4
+enum-told-4 c = search needs
+
+open-generic-requires : tie.Need-open-generic-requires
+open-generic-requires c κs = search needs
+
+returns : tie.Need-returns
+returns c =
+    let e = decided (c .before .before .before .before) held.Contents (c .before .before .enum-told .given .1) in
+    (rw (← e) (c .open-contents .ensures .0), rw (← e) (c .open-contents .ensures .1))
+
+returns-2 : tie.Need-returns-2
+returns-2 c =
+    let e = decided (c .before .before .before .before) held.Digits (c .before .before .enum-told2 .given .1) in
+    (rw (← e) (c .open-digits .ensures .0), rw (← e) (c .open-digits .ensures .1))
+
+returns-3 : tie.Need-returns-3
+returns-3 c =
+    let e = decided (c .before .before .before .before) held.Number (c .before .before .enum-told3 .given .1) in
+    (rw (← e) (c .open-number .ensures .0), rw (← e) (c .open-number .ensures .1))
+
+returns-4 : tie.Need-returns-4
+returns-4 c =
+    let e = decided (c .before .before .before .before) held.Generic (c .before .before .enum-told4 .given .1) in
+    (rw (← e) (c .open-generic .ensures .0), rw (← e) (c .open-generic .ensures .1))
+
+pub open-spec : {M : Type 1} → statement M
+open-spec =
+    tie.close
+    (tie.spec
+    octet-at-requires
+    held-as-requires
+    enum-told
+    open-contents-requires
+    enum-told-2
+    open-digits-requires
+    enum-told-3
+    open-number-requires
+    enum-told-4
+    open-generic-requires
+    returns
+    returns-2
+    returns-3
+    returns-4)
