@@ -1,0 +1,64 @@
+// How many octets follow a header. Half-octets and octets meet only through the conversion.
+use annex::Common;
+use annex::Extent;
+use annex::HalfOctets;
+use annex::Octets;
+ghost use mathlib.Core.Path.{_≡_};
+ghost use Rattle.annex.specs.Units.{afterOf, leadOf, commonExtentOf, extentOf};
+
+// What the PLI of a transfer header says.
+pub fn extent_of(header: u8) -> Extent
+    ensures { λ r. ⌜ r ≡ extentOf header ⌝ }
+{
+    let pli = header / 64;
+    match pli {
+        0 => Extent::Fixed(0),
+        1 => Extent::Fixed(1),
+        2 => Extent::CountOctet,
+        _ => Extent::LengthOctet,
+    }
+}
+
+// What the PLI of a common header says. The end mark has no contents.
+pub fn common_extent_of(header: u8) -> Extent
+    ensures { λ r. ⌜ r ≡ commonExtentOf header ⌝ }
+{
+    if header == Common::END_MARK {
+        return Extent::Fixed(0);
+    }
+    let pli = header / 64;
+    match pli {
+        0 => Extent::Fixed(1),
+        1 => Extent::Fixed(2),
+        2 => Extent::Fixed(3),
+        _ => Extent::LengthOctet,
+    }
+}
+
+// How many octets follow a header; next is the octet right after it, or 0.
+pub fn octets_after(e: Extent, next: u8) -> usize
+    ensures { λ r. ⌜ r ≡ afterOf e next ⌝ }
+{
+    match e {
+        Extent::Fixed(n) => n,
+        Extent::CountOctet => {
+            let n = HalfOctets((next % 64) as usize).octets();
+            1 + n.0
+        }
+        Extent::LengthOctet => {
+            let n = Octets(next as usize);
+            1 + n.0
+        }
+    }
+}
+
+// How many of them stand before the contents: a length octet, and no count octet.
+pub fn lead(e: Extent) -> usize
+    ensures { λ r. ⌜ r ≡ leadOf e ⌝ }
+{
+    match e {
+        Extent::Fixed(_) => 0,
+        Extent::CountOctet => 0,
+        Extent::LengthOctet => 1,
+    }
+}
