@@ -2,3 +2,5 @@
 // message.
 pub mod digits;
 pub mod opening;
+pub mod heads;
+pub mod units;
