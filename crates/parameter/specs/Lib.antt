@@ -2,3 +2,4 @@
 pub mod Opening
 -- What the contracts of this crate's own steps cite beside the definitions of `annex`.
 pub mod Listed
+pub mod Forms

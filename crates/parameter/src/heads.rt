@@ -1,8 +1,9 @@
 // The headers of transfer parameters: names in use, the PLI of each, and the bits that must be 0.
 use annex::Transfer;
 ghost use mathlib.Core.Path.{_≡_};
-ghost use Rattle.annex.specs.Heads.{among, freeNames, nameUsed, pliRight, oftenOf, zeroesOf};
+ghost use Rattle.annex.specs.Heads.{among, freeNames, nameUsed, pliRight, oftenOf, zeroesOf, formOf};
 ghost use Rattle.parameter.specs.Listed.{listedUnder};
+ghost use Rattle.parameter.specs.Forms.{isDialled};
 
 // Whether a name has no layout: any PLI is its own.
 fn is_free(name: u8) -> bool
@@ -143,6 +144,17 @@ pub fn zeroes_of(header: u8) -> u8
         Transfer::ORIGINATING_AREA | Transfer::CALLED_TERMINAL => 0x40,
         Transfer::RECONTROL_DIGITS => 0xC0,
         _ => 0,
+    }
+}
+
+// Whether the contents are digits of PLI 10.
+pub fn holds_digits(header: u8) -> bool
+    ensures { λ r. ⌜ r ≡ isDialled (formOf header) ⌝ }
+{
+    if is_free(header % 64) {
+        false
+    } else {
+        header / 64 == 2
     }
 }
 

@@ -1,5 +1,6 @@
 // One transfer parameter: its length, what is wrong with its contents, and the values that they hold. Nothing here knows a place in a
 // message.
+pub mod contents;
 pub mod digits;
 pub mod opening;
 pub mod heads;

@@ -1,0 +1,12 @@
+-- `formed` meets its contract: each arm is a case of the definition.
+use Rattle.parameter.proofs.contents.formed.Statement.{statement}
+use Rattle.parameter.proofs.contents.formed.Tie as tie
+
+returns : tie.Need-returns
+returns c = rw (c .if1 .taken)
+
+returns-2 : tie.Need-returns-2
+returns-2 c = rw (c .if1 .left)
+
+pub formed-spec : {M : Type 1} → statement M
+formed-spec = tie.close (tie.spec returns returns-2)
