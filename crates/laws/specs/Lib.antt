@@ -15,3 +15,5 @@ pub mod Leaves
 -- of the walk over a message:
 pub mod Walks
 pub mod Steps
+pub mod Parts
+pub mod Extents

@@ -1,4 +1,4 @@
--- One turn of the loop over half-octets, its end, and parts of a slice that go to its end.
+-- One turn of the loop over half-octets and its end.
 use Prim.Native.Nat.{ℕ, zero, suc, _+_, _-_, _/_, _≤_, _<_}
 use native.Mathlib.Numerals.{add-one}
 use native.Mathlib.Omega.{arith}
@@ -7,8 +7,8 @@ use mathlib.Core.Bool.{Bool, true, false, cond}
 use mathlib.Core.List.{List, [], _∷_}
 use borrow.Author.Tests.{lt-ltb, le-ltb, ltb-true, ltb-false}
 use lib.Dec.{eqb, ltb}
-use lib.ListN.{length, getD, take, drop, length-drop, drop-of-length-le}
-use lib.Seq.{drop-cons, take-all}
+use lib.ListN.{length, getD, drop, drop-of-length-le}
+use lib.Seq.{drop-cons}
 use Rattle.annex.specs.Answers.{bad-digit}
 use Rattle.annex.specs.Digits.{halves, isCode, halvesFault, digitsFault}
 use Rattle.annex.specs.declared.Alphabet.{Alphabet}
@@ -43,7 +43,3 @@ halves-end z n i p hs l = rw (drop-of-length-le hs)
 pub digits-none : (z : Alphabet) (n at i : ℕ) (s : List ℕ) → length s ≤ i → digitsFault z n at (drop i s) ≡ Sound
 unfolding digitsFault halvesFault halves
 digits-none z n at i s l = rw (drop-of-length-le s)
-
--- a part that goes to the end
-pub to-end : (i : ℕ) (s : List ℕ) → take (length s - i) (drop i s) ≡ drop i s
-to-end i s = take-all (length s - i) (drop i s) (simp length-drop (omega arith))

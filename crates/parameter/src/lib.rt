@@ -4,4 +4,5 @@ pub mod contents;
 pub mod digits;
 pub mod opening;
 pub mod heads;
+pub mod transfer;
 pub mod units;

@@ -5,7 +5,8 @@ use borrow.Author.Needs.{needs}
 use lib.ListN.{getD, length-drop}
 use Rattle.annex.specs.Contents.{dialledFault}
 use Rattle.annex.specs.declared.Alphabet.the-variants.{Dialled}
-use Rattle.parameter.proofs.Turns.{to-end, digits-none}
+use Rattle.laws.specs.Parts.{to-end}
+use Rattle.parameter.proofs.Turns.{digits-none}
 use Rattle.parameter.proofs.contents.dialled_fault.Statement.{statement}
 use Rattle.parameter.proofs.contents.dialled_fault.Tie as tie
 

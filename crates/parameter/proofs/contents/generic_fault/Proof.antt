@@ -2,7 +2,7 @@
 use borrow.Author.Needs.{needs}
 use borrow.Author.Tests.{eq-eqb, ne-eqb}
 use Rattle.annex.specs.Contents.{genericFault}
-use Rattle.parameter.proofs.Turns.{to-end}
+use Rattle.laws.specs.Parts.{to-end}
 use Rattle.parameter.proofs.contents.generic_fault.Statement.{statement}
 use Rattle.parameter.proofs.contents.generic_fault.Tie as tie
 

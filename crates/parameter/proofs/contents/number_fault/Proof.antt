@@ -8,7 +8,7 @@ use borrow.Author.Tests.{eq-eqb, ne-eqb, lt-ltb, le-ltb, eqb-false}
 use lib.Dec.{eqb}
 use lib.ListN.{length}
 use Rattle.annex.specs.Contents.{oddOf, numberFault}
-use Rattle.parameter.proofs.Turns.{to-end}
+use Rattle.laws.specs.Parts.{to-end}
 use Rattle.parameter.proofs.contents.number_fault.Statement.{statement}
 use Rattle.parameter.proofs.contents.number_fault.Tie as tie
 

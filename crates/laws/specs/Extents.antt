@@ -1,0 +1,13 @@
+-- Laws of the length rules.
+use Prim.Native.Nat.{ℕ, _≤_}
+use native.Mathlib.Omega.{arith}
+use Rattle.annex.specs.Units.{afterOf, leadOf}
+use Rattle.annex.specs.declared.Extent.{Extent}
+use Rattle.annex.specs.declared.Extent.the-variants.{Fixed, CountOctet, LengthOctet}
+
+-- a length octet is among the octets after its header
+pub lead-within : (e : Extent) (x : ℕ) → leadOf e ≤ afterOf e x
+unfolding leadOf afterOf
+lead-within (Fixed n) x = omega arith
+lead-within CountOctet x = omega arith
+lead-within LengthOctet x = omega arith

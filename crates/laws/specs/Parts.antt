@@ -1,0 +1,19 @@
+-- Laws of parts of a list, as the parts of a slice are told: `&s[a..e]` is take (e - a) (drop a s).
+use Prim.Native.Nat.{ℕ, zero, suc, _-_}
+use native.Mathlib.Nat.{sub-zero}
+use native.Mathlib.Omega.{arith}
+use mathlib.Core.Path.{_≡_, refl}
+use mathlib.Core.List.{List, [], _∷_}
+use lib.ListN.{length, take, drop, length-drop}
+use lib.Seq.{take-nil, take-all}
+
+-- a part that goes to the end
+pub to-end : (a : ℕ) (s : List ℕ) → take (length s - a) (drop a s) ≡ drop a s
+to-end a s = take-all (length s - a) (drop a s) (simp length-drop (omega arith))
+
+-- from a to before e
+pub from-to : (a e : ℕ) (s : List ℕ) → take (e - a) (drop a s) ≡ drop a (take e s)
+from-to zero e s = rw sub-zero
+from-to (suc a) zero s = let z : zero - suc a ≡ 0 = omega arith in rw z
+from-to (suc a) (suc e) [] = rw take-nil
+from-to (suc a) (suc e) (x ∷ s) = let z : suc e - suc a ≡ e - a = omega arith in rw z (from-to a e s)
