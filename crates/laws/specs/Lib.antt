@@ -1,10 +1,11 @@
 -- Laws that the proofs of several crates cite. A reader need not believe any of them: the checker does.
 -- Of tests, lists and octets:
 pub mod Bools
-pub mod Lists
+pub mod Parts
 pub mod Stores
 pub mod Octet
 -- of one transfer parameter, up to its two laws in Leaves:
+pub mod Extents
 pub mod Halves
 pub mod Faults
 pub mod Joined
@@ -15,5 +16,4 @@ pub mod Leaves
 -- of the walk over a message:
 pub mod Walks
 pub mod Steps
-pub mod Parts
-pub mod Extents
+pub mod Plain

@@ -7,7 +7,7 @@ use native.Mathlib.Omega.{arith}
 use borrow.Author.Tests.{ltb-false, leb-false, eqb-true, not-false, lt-ltb}
 use lib.Dec.{eqb, ltb, leb}
 use lib.ListN.{length, getD, take, drop, length-drop, length-take}
-use Rattle.laws.specs.Lists.{drop-take}
+use Rattle.laws.specs.Parts.{from-to}
 use Rattle.annex.specs.Answers.{
   unlisted,
   repeated,
@@ -204,7 +204,7 @@ then-place l n (Refused k p) g = g
 -- C5 by the part behind its length octet
 pub data-part : (n : ℕ) (xs : List ℕ) → contentsIn (commonExtentOf transfer-data) (take n xs) ≡ take (n - 1) (drop 1 xs)
 unfolding commonExtentOf leadOf
-data-part n xs = drop-take 1 n xs
+data-part n xs = sym (from-to 1 n xs)
 
 pub data-told : (n : ℕ) (xs : List ℕ) → dataOf n xs ≡ andThen (shifted 2 (transfersVerdict (take (n - 1) (drop 1 xs)))) (λ _. Accepted n)
 unfolding dataOf

@@ -2,7 +2,7 @@
 // message.
 pub mod contents;
 pub mod digits;
-pub mod opening;
 pub mod heads;
+pub mod opening;
 pub mod transfer;
 pub mod units;

@@ -1,0 +1,24 @@
+-- `octet_allowed` meets its contract: its arms are the tests of the definition.
+use borrow.Author.Needs.{needs}
+use borrow.Author.Tests.{ne-eqb}
+use Rattle.annex.specs.Reading.{octetAllowed}
+use Rattle.reader.proofs.common.octet_allowed.Statement.{statement}
+use Rattle.reader.proofs.common.octet_allowed.Tie as tie
+
+signal-kind-requires : tie.Need-signal-kind-requires
+signal-kind-requires c κs = search needs
+
+returns : tie.Need-returns
+unfolding octetAllowed
+returns c = rw (c .match .keys1)
+
+returns-2 : tie.Need-returns-2
+unfolding octetAllowed
+returns-2 c = rw (c .before .match .keys2) (c .signal-kind .ensures)
+
+returns-3 : tie.Need-returns-3
+unfolding octetAllowed
+returns-3 c = rw (ne-eqb _ _ (c .match .rest .0 .1), ne-eqb _ _ (c .match .rest .1))
+
+pub octet-allowed-spec : {M : Type 1} → statement M
+octet-allowed-spec = tie.close (tie.spec signal-kind-requires returns returns-2 returns-3)

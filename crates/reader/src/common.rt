@@ -1,0 +1,103 @@
+// One common parameter: its header, its length, and the values that are allowed.
+use annex::Answer;
+use annex::Common;
+use annex::Signal;
+use parameter::units::common_extent_of;
+use parameter::units::octets_after;
+ghost use mathlib.Core.Path.{_≡_};
+ghost use lib.ListN.{getD};
+ghost use Rattle.annex.specs.Heads.{among, listedHeaders, signalKinds};
+ghost use Rattle.annex.specs.Reading.{octetAllowed, commonForm, endOf};
+
+// Whether the header is one of a message's.
+pub fn listed(header: u8) -> bool
+    ensures { λ r. ⌜ r ≡ among header listedHeaders ⌝ }
+{
+    match header {
+        Common::END_MARK
+        | Common::USER_CLASS
+        | Common::SEQUENCE
+        | Common::SIGNAL_KIND
+        | Common::PARTNERS_CALL
+        | Common::OWN_CALL
+        | Common::TRANSFER_DATA => true,
+        _ => false,
+    }
+}
+
+// Whether the octet is a signal kind.
+pub fn signal_kind(octet: u8) -> bool
+    ensures { λ r. ⌜ r ≡ among octet signalKinds ⌝ }
+{
+    match octet {
+        Signal::DATA_ENQUIRY
+        | Signal::DATA_RESPONSE
+        | Signal::RECONTROL_REQUEST
+        | Signal::RECONTROL_RESPONSE
+        | Signal::RECONTROL_ORDER
+        | Signal::CONNECTION_REPORT
+        | Signal::CALL_TRANSFER
+        | Signal::CHARGING
+        | Signal::CHARGING_RESPONSE
+        | Signal::CHANNEL_CHECK
+        | Signal::CHANNEL_RESPONSE
+        | Signal::CHANNEL_INITIAL
+        | Signal::CHANNEL_INITIAL_RESPONSE => true,
+        _ => false,
+    }
+}
+
+// Whether the octet right after the header is allowed: the user class, or a signal kind.
+pub fn octet_allowed(header: u8, octet: u8) -> bool
+    ensures { λ r. ⌜ r ≡ octetAllowed header octet ⌝ }
+{
+    match header {
+        Common::USER_CLASS => octet == Common::ADVANCED_TELEPHONY,
+        Common::SIGNAL_KIND => signal_kind(octet),
+        _ => true,
+    }
+}
+
+// The first octet, or 0.
+pub fn first(xs: &[u8]) -> u8
+    ensures { λ r. ⌜ r ≡ getD (now (xs .entry)) 0 0 ⌝ }
+{
+    if xs.len() == 0 {
+        return 0;
+    }
+    xs[0]
+}
+
+// 2 to 5 of a common parameter whose name stood so many times before; xs are the octets after its header.
+pub fn common_form(times: u8, header: u8, xs: &[u8]) -> Answer
+    ensures { λ r. ⌜ r ≡ commonForm times header (now (xs .entry)) ⌝ }
+{
+    if !listed(header) {
+        return Answer::Refused(Answer::UNLISTED, 0);
+    }
+    if 0 < times {
+        return Answer::Refused(Answer::REPEATED, 0);
+    }
+    let x = first(xs);
+    let n = octets_after(common_extent_of(header), x);
+    if xs.len() < n {
+        return Answer::Refused(Answer::CUT_SHORT, 0);
+    }
+    if !octet_allowed(header, x) {
+        return Answer::Refused(Answer::NOT_ALLOWED, 0);
+    }
+    Answer::Accepted(n)
+}
+
+// The end mark: 6, then 7 at the first octet after it. whole: 01 and 06 have been seen.
+pub fn end_mark(whole: bool, xs: &[u8]) -> Answer
+    ensures { λ r. ⌜ r ≡ endOf whole (now (xs .entry)) ⌝ }
+{
+    if !whole {
+        return Answer::Refused(Answer::MISSING, 0);
+    }
+    if 0 < xs.len() {
+        return Answer::Refused(Answer::LEFT_OVER, 1);
+    }
+    Answer::Accepted(0)
+}

@@ -1,0 +1,3 @@
+// Reading: the verdict of a message, its record, finding contents, and the rows of a listing.
+pub mod common;
+pub mod verdict;
