@@ -38,9 +38,14 @@ rowsOf m = commonRows (commonsOf m)
 abbrev pub noRow : Row
 noRow = record { offset = 0; header = 0; len = 0 }
 
+-- the rows that a listing gives: none of a refused message
+abbrev pub rowsBy : Answer → List Row → List Row
+rowsBy (Accepted n) rows = rows
+rowsBy (Refused k p) rows = []
+
 -- row k, or the empty row
 unfoldable pub rowAt : List ℕ → ℕ → Row
-rowAt m k = getD (rowsOf m) k noRow
+rowAt m k = getD (rowsBy (verdictOf m) (rowsOf m)) k noRow
 
 -- the row count, or number and place
 unfoldable pub spansOf : List ℕ → ℕ → Answer
