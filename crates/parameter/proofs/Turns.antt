@@ -4,7 +4,7 @@ use native.Mathlib.Numerals.{add-one}
 use native.Mathlib.Omega.{arith}
 use mathlib.Core.Path.{_≡_, refl, sym, ap, _∙_}
 use mathlib.Core.Bool.{Bool, true, false, cond}
-use mathlib.Core.List.{List, [], _∷_}
+use mathlib.Core.List.{List, _∷_}
 use borrow.Author.Tests.{lt-ltb, le-ltb, ltb-true, ltb-false}
 use lib.Dec.{eqb, ltb}
 use lib.ListN.{length, getD, drop, drop-of-length-le}
@@ -12,7 +12,6 @@ use lib.Seq.{drop-cons}
 use Rattle.annex.specs.Answers.{bad-digit}
 use Rattle.annex.specs.Digits.{halves, isCode, halvesFault, digitsFault}
 use Rattle.annex.specs.declared.Alphabet.{Alphabet}
-use Rattle.annex.specs.declared.Fault.{Fault}
 use Rattle.annex.specs.declared.Fault.the-variants.{Sound, Bad}
 
 first-left : (i n : ℕ) → ltb 0 (n - i) ≡ ltb i n

@@ -42,12 +42,13 @@ pub fn octets_after(e: Extent, next: u8) -> usize
     match e {
         Extent::Fixed(n) => n,
         Extent::CountOctet => {
-            let n = HalfOctets((next % 64) as usize).octets();
-            1 + n.0
+            let count = HalfOctets((next % 64) as usize);
+            let octets = count.octets();
+            1 + octets.0
         }
         Extent::LengthOctet => {
-            let n = Octets(next as usize);
-            1 + n.0
+            let length = Octets(next as usize);
+            1 + length.0
         }
     }
 }

@@ -2,7 +2,6 @@
 use native.Mathlib.Omega.{arith}
 use mathlib.Core.Path.{sym}
 use borrow.Author.Needs.{needs}
-use lib.ListN.{getD, length-drop}
 use Rattle.annex.specs.Contents.{dialledFault}
 use Rattle.annex.specs.declared.Alphabet.the-variants.{Dialled}
 use Rattle.laws.specs.Parts.{to-end}

@@ -1,5 +1,5 @@
 -- `digits_fault` meets its contract. The invariant: the fault of all the halves is that of the halves from i on.
-use Prim.Native.Nat.{_+_, _-_, _*_, _/_, _≤_, _<_}
+use Prim.Native.Nat.{_+_, _-_, _*_, _/_, _≤_}
 use native.Mathlib.Nat.{sub-zero, add-zero, add-assoc}
 use native.Mathlib.Omega.{arith}
 use mathlib.Core.Path.{_≡_, refl, sym, _∙_}

@@ -1,8 +1,7 @@
 -- `form_fault` meets its contract: at each header of the match the form computes, and elsewhere, digits of PLI 10 aside, contents are carried.
 use Prim.Native.Nat.{ℕ}
 use native.Mathlib.Omega.{arith}
-use mathlib.Core.Path.{_≡_, sym, _∙_}
-use mathlib.Core.Bool.{false}
+use mathlib.Core.Path.{sym, _∙_}
 use mathlib.Core.List.{List, [], _∷_}
 use borrow.Author.Needs.{needs}
 use Rattle.annex.specs.Heads.{formOf}

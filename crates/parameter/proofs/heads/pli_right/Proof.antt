@@ -2,7 +2,7 @@
 use Prim.Native.Nat.{_/_}
 use native.Mathlib.Omega.{arith}
 use mathlib.Core.Path.{_≡_, sym, _∙_}
-use mathlib.Core.Bool.{false, true}
+use mathlib.Core.Bool.{false}
 use borrow.Author.Needs.{needs}
 use Rattle.annex.specs.Heads.{isFree, pliRight}
 use Rattle.parameter.specs.Listed.{pli-none, pli-listed}

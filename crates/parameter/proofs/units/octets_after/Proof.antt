@@ -1,30 +1,14 @@
 -- `octets_after` meets its contract: each arm is a case of the rule, and the half-octets come through the conversion.
 use native.Mathlib.Omega.{arith}
+use mathlib.Core.Path.{ap}
 use borrow.Author.Needs.{needs}
 use Rattle.annex.specs.Units.{afterOf}
+use Rattle.annex.specs.declared.Octets.{Octets}
 use Rattle.parameter.proofs.units.octets_after.Statement.{statement}
 use Rattle.parameter.proofs.units.octets_after.Tie as tie
 
-enum-known-e : tie.Need-enum-known-e
-enum-known-e c = search needs
-
-enum-told : tie.Need-enum-told
-enum-told c = search needs
-
-cast-t8 : tie.Need-cast-t8
-cast-t8 c = search needs
-
-octets-requires : tie.Need-octets-requires
-octets-requires c κs = search needs
-
 add-result : tie.Need-add-result
-add-result c = rw (c .before .octets .ensures) (omega arith)
-
-enum-told-2 : tie.Need-enum-told-2
-enum-told-2 c = search needs
-
-add-result-2 : tie.Need-add-result-2
-add-result-2 c = search needs
+add-result c = omega (arith, ap (λ (n : Octets). n .0) (c .before .octets .ensures))
 
 returns : tie.Need-returns
 unfolding afterOf
@@ -32,7 +16,8 @@ returns c = rw (c .before .e .given .1)
 
 returns-2 : tie.Need-returns-2
 unfolding afterOf
-returns-2 c = rw (c .before .before .enum-told .given .1, c .before .octets .ensures)
+returns-2 c =
+    rw (c .before .before .enum-told .given .1) (omega (arith, ap (λ (n : Octets). n .0) (c .before .octets .ensures)))
 
 returns-3 : tie.Need-returns-3
 unfolding afterOf
@@ -42,13 +27,13 @@ pub octets-after-spec : {M : Type 1} → statement M
 octets-after-spec =
     tie.close
     (tie.spec
-    enum-known-e
-    enum-told
-    cast-t8
-    octets-requires
+    (λ c. search needs)
+    (λ c. search needs)
+    (λ c. search needs)
+    (λ c κs. search needs)
     add-result
-    enum-told-2
-    add-result-2
+    (λ c. search needs)
+    (λ c. search needs)
     returns
     returns-2
     returns-3)
