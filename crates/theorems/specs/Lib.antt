@@ -1,0 +1,5 @@
+-- Theorems about the definitions of document 01: reading and layout undo one another.
+pub mod Leaves
+pub mod Lists
+pub mod Trails
+pub mod Counts
