@@ -3,3 +3,5 @@ pub mod Leaves
 pub mod Lists
 pub mod Trails
 pub mod Counts
+pub mod Lengths
+pub mod Steps

@@ -57,6 +57,15 @@ pub each-map : {A B : Type 0} (P : A → Type 0) (Q : B → Type 0) (g : A → B
 each-map P Q g h [] p = tt
 each-map P Q g h (x ∷ xs) p = (h x (p .0), each-map P Q g h xs (p .1))
 
+-- what holds of each of a list holds of one that is among them
+pub among-each : (P : ℕ → Type 0) (ks : List ℕ) → Each P ks → (x : ℕ) → among x ks ≡ true → P x
+among-each P [] p x e = absurd (let z : _≡_ {A = ℕ} 0 1 = cc in omega arith)
+among-each P (k ∷ ks) p x e = go (eqb x k) refl e (among-each P ks (p .1) x)
+  where
+    go : (b : Bool) → eqb x k ≡ b → b || among x ks ≡ true → (among x ks ≡ true → P x) → P x
+    go true q r f = rw (eqb-true x k q) (p .0)
+    go false q r f = f r
+
 -- ---- how often one stands
 
 pub times-append : (u : ℕ) (xs ys : List ℕ) → timesIn u (xs ++ ys) ≡ timesIn u xs + timesIn u ys
