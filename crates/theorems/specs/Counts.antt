@@ -11,8 +11,9 @@ use lib.ListN.{length, getD, set, length-set, replicate}
 use lib.Seq.{getD-set-same, getD-set-other}
 use Rattle.annex.specs.Units.{nameOf}
 use Rattle.annex.specs.Allowed.{timesIn}
-use Rattle.annex.specs.Walk.{Seen, unseen, timesSeen, counted, Par}
-use Rattle.theorems.specs.Trails.{seenBy}
+use Rattle.annex.specs.Walk.{Seen, unseen, timesSeen, counted, Par, Step}
+use Rattle.annex.specs.declared.Answer.the-variants.{Accepted}
+use Rattle.theorems.specs.Trails.{seenBy, Trail}
 
 -- the names of parameters
 abbrev pub namesIn : List Par → List ℕ
@@ -77,3 +78,10 @@ module _ (often : ℕ → ℕ) (seen : Seen) (h : ℕ) (f : Full seen) where
       go : (b : Bool) → eqb u (nameOf h) ≡ b → getD (counted seen h) u 0 ≡ getD seen u 0 + cond b 1 0 → getD (counted seen h) u 0 + 0 ≤ often u
       go true e q = rw (eqb-true u (nameOf h) e) (omega (arith, rw (eqb-true u (nameOf h) e) at q))
       go false e q = omega (arith, s u)
+
+-- a step that accepts a name only while it was seen less often than it may stand
+pub sparing-trail : (often : ℕ → ℕ) (step : Step) → ((seen : Seen) (h : ℕ) (xs : List ℕ) (n : ℕ) → step seen h xs ≡ Accepted n → timesSeen seen h < often (nameOf h)) → (qs : List Par) (seen : Seen) (p : ℕ) → Full seen → Sparing often seen [] → Trail step seen p qs → Sparing often seen (namesIn qs)
+sparing-trail often step fewer [] seen p f s t = s
+sparing-trail often step fewer (q ∷ qs) seen p f s t =
+    let h = q .head in
+    sparing-cons often seen h f (namesIn qs) (sparing-trail often step fewer qs (counted seen h) _ (full-counted seen h f) (sparing-more often seen h f s (fewer seen h _ _ (t .1))) (t .2))

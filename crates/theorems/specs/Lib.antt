@@ -5,3 +5,4 @@ pub mod Trails
 pub mod Counts
 pub mod Lengths
 pub mod Steps
+pub mod Transfers

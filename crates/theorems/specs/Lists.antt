@@ -53,6 +53,10 @@ module _ {A : Type 0} (P : A → Type 0) where
   each-every f h [] p = refl
   each-every f h (x ∷ xs) p = and-both (f x) _ (h x (p .0)) (each-every f h xs (p .1))
 
+pub each-so : {A : Type 0} (P Q : A → Type 0) → ((x : A) → P x → Q x) → (xs : List A) → Each P xs → Each Q xs
+each-so P Q h [] p = tt
+each-so P Q h (x ∷ xs) p = (h x (p .0), each-so P Q h xs (p .1))
+
 pub each-map : {A B : Type 0} (P : A → Type 0) (Q : B → Type 0) (g : A → B) → ((x : A) → P x → Q (g x)) → (xs : List A) → Each P xs → Each Q (map g xs)
 each-map P Q g h [] p = tt
 each-map P Q g h (x ∷ xs) p = (h x (p .0), each-map P Q g h xs (p .1))
