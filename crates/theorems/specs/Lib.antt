@@ -6,3 +6,5 @@ pub mod Counts
 pub mod Lengths
 pub mod Steps
 pub mod Transfers
+pub mod Commons
+pub mod Records

@@ -1,6 +1,6 @@
 -- Laws of lists: tests of each, how often one stands, and the pigeonhole law.
 use Prim.Native.Nat.{ℕ, zero, suc, _+_, _*_, _≤_, _<_}
-use native.Mathlib.Nat.{mul-zero, mul-suc, mul-one, mul-le-mul-left}
+use native.Mathlib.Nat.{mul-suc, mul-le-mul-left}
 use native.Mathlib.Omega.{arith}
 use mathlib.Core.Path.{_≡_, refl, sym, ap, _∙_}
 use mathlib.Core.Bool.{Bool, true, false, cond, _&&_, _||_}
@@ -80,6 +80,16 @@ times-append u (x ∷ xs) ys = go (eqb u x) (times-append u xs ys)
     go true e = omega arith
     go false e = omega arith
 
+pub times-here : (x : ℕ) (xs : List ℕ) → timesIn x (x ∷ xs) ≡ suc (timesIn x xs)
+times-here x xs = rw (eq-eqb x x refl)
+
+pub times-rest : (u x : ℕ) (xs : List ℕ) → timesIn u xs ≤ timesIn u (x ∷ xs)
+times-rest u x xs = go (eqb u x)
+  where
+    go : (b : Bool) → timesIn u xs ≤ cond b (suc (timesIn u xs)) (timesIn u xs)
+    go true = omega arith
+    go false = omega arith
+
 -- what is tested of each is so of one that stands there
 pub stands : (f : ℕ → Bool) (xs : List ℕ) (u : ℕ) → every f xs ≡ true → 0 < timesIn u xs → f u ≡ true
 stands f [] u p h = absurd (omega arith)
@@ -99,6 +109,14 @@ at-most often xs p u = go (timesIn u xs) refl
 pub most-at : (often : ℕ → ℕ) (xs : List ℕ) → ((u : ℕ) → timesIn u xs ≤ often u) → atMost often xs ≡ true
 most-at often xs h = every-all (λ x. leb (timesIn x xs) (often x)) xs (λ x. le-leb _ _ (h x))
 
+pub among-append : (x : ℕ) (xs ys : List ℕ) → among x (xs ++ ys) ≡ among x xs || among x ys
+among-append x [] ys = refl
+among-append x (y ∷ xs) ys = go (eqb x y) (among-append x xs ys)
+  where
+    go : (b : Bool) → among x (xs ++ ys) ≡ among x xs || among x ys → b || among x (xs ++ ys) ≡ b || among x xs || among x ys
+    go true e = refl
+    go false e = e
+
 -- ---- pigeonhole: what is weighed of a list is at most the weights of all that may stand in it, as often as they may
 
 unfoldable pub total : (ℕ → ℕ) → List ℕ → ℕ
@@ -115,14 +133,10 @@ module _ (w : ℕ → ℕ) where
   weighed xs u = w u * timesIn u xs
 
   weighed-more : (x : ℕ) (xs : List ℕ) (u : ℕ) → weighed xs u ≤ weighed (x ∷ xs) u
-  weighed-more x xs u = go (eqb u x)
-    where
-      go : (b : Bool) → w u * timesIn u xs ≤ w u * cond b (suc (timesIn u xs)) (timesIn u xs)
-      go true = omega (arith, mul-suc (w u) (timesIn u xs))
-      go false = omega arith
+  weighed-more x xs u = mul-le-mul-left (w u) (times-rest u x xs)
 
   weighed-one : (x : ℕ) (xs : List ℕ) → weighed (x ∷ xs) x ≡ w x + weighed xs x
-  weighed-one x xs = rw (eq-eqb x x refl) (omega (arith, mul-suc (w x) (timesIn x xs)))
+  weighed-one x xs = rw (times-here x xs) (omega (arith, mul-suc (w x) (timesIn x xs)))
 
   one-more : (x : ℕ) (xs us : List ℕ) → among x us ≡ true → w x + total (weighed xs) us ≤ total (weighed (x ∷ xs)) us
   unfolding total

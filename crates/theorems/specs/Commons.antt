@@ -1,0 +1,221 @@
+-- One common parameter: what is accepted opens to an allowed part that lays out to it, and an allowed part lays out to what is accepted
+-- and opens to it.
+use Prim.Native.Nat.{ℕ, zero, suc, _+_, _*_, _/_, _%_, _≤_, _<_}
+use native.Mathlib.Omega.{arith}
+use mathlib.Core.Path.{_≡_, refl, sym, ap, _∙_}
+use mathlib.Core.Bool.{Bool, true, false, cond}
+use mathlib.Core.List.{List, [], _∷_, _++_, map}
+use borrow.Author.Tests.{ltb-true, lt-ltb, leb-true, eqb-true, eq-eqb}
+use lib.Dec.{eqb, ltb}
+use lib.ListN.{length, getD, drop}
+use Rattle.annex.specs.Units.{nameOf, afterOf, leadOf, extentOf, commonExtentOf, contentsIn}
+use Rattle.annex.specs.Heads.{
+  among,
+  user-class,
+  partners-call,
+  own-call,
+  sequence,
+  signal-kind,
+  transfer-data,
+  isCall,
+  commonHeaders,
+  signalKinds,
+  call-numbers,
+  most-transfer-octets,
+  pliRight,
+}
+use Rattle.annex.specs.Contents.{faultOf}
+use Rattle.annex.specs.Items.{Item, Part}
+use Rattle.annex.specs.Layout.{layoutItems, layoutPart, callOctets}
+use Rattle.annex.specs.Allowed.{
+  every,
+  Each,
+  isOctet,
+  lengthFits,
+  lengthRight,
+  formRight,
+  digitsRight,
+  HeldItem,
+  HeldPart,
+  ownPart,
+  valueRight,
+  valueFits,
+}
+use Rattle.annex.specs.Walk.{Par}
+use Rattle.annex.specs.Reading.{transfersVerdict, transfersOf, octetAllowed, openTransfer, openCommon, callNumber}
+use Rattle.annex.specs.declared.Answer.the-variants.{Accepted}
+use Rattle.annex.specs.declared.Extent.{Extent}
+use Rattle.annex.specs.declared.Extent.the-variants.{Fixed, LengthOctet}
+use Rattle.annex.specs.declared.Fault.the-variants.{Sound}
+use Rattle.laws.specs.Bools.{and-left, and-right, and-both}
+use Rattle.theorems.specs.Leaves.{Opened, Closed}
+use Rattle.theorems.specs.Lists.{among-each, each-so, every-drop}
+use Rattle.theorems.specs.Lengths.{Long, cut}
+use Rattle.theorems.specs.Steps.{InnerAccepted, CommonOwn}
+use Rattle.theorems.specs.Transfers.{AllowedItem, AllowedItems, transfers-read, transfers-built}
+
+-- ---- the three kinds
+
+-- 01, 04 and 06: one octet, which the rules keep an octet in a record too
+pub record OneOctet (h : ℕ) : Type 0 where
+  pub plain : eqb h transfer-data ≡ false
+  pub uncalled : isCall h ≡ false
+  pub extent : commonExtentOf h ≡ Fixed 1
+  pub small : (v : ℕ) → octetAllowed h v ≡ true → cond (eqb h sequence) (isOctet v) true ≡ true → v < 256
+
+-- 82 and 83: three octets, of which none is refused
+pub record CallNumber (h : ℕ) : Type 0 where
+  pub plain : eqb h transfer-data ≡ false
+  pub called : isCall h ≡ true
+  pub unsequenced : eqb h sequence ≡ false
+  pub extent : commonExtentOf h ≡ Fixed 3
+  pub free : (v : ℕ) → octetAllowed h v ≡ true
+
+pub data Kind (h : ℕ) : Type 0 where
+  octet : OneOctet h → Kind h
+  call : CallNumber h → Kind h
+  many : h ≡ transfer-data → Kind h
+
+class-octet : OneOctet user-class
+unfolding commonExtentOf octetAllowed
+class-octet = record { plain = refl; uncalled = refl; extent = refl; small = λ v e f. omega (arith, eqb-true v 1 e) }
+
+sequence-octet : OneOctet sequence
+unfolding commonExtentOf octetAllowed
+sequence-octet = record { plain = refl; uncalled = refl; extent = refl; small = λ v e f. ltb-true v 256 f }
+
+kind-octet : OneOctet signal-kind
+unfolding commonExtentOf octetAllowed
+kind-octet =
+    record {
+      plain = refl;
+      uncalled = refl;
+      extent = refl;
+      small = λ v e f. among-each (λ k. k < 256) signalKinds (omega arith) v e;
+    }
+
+partners-number : CallNumber partners-call
+unfolding commonExtentOf octetAllowed
+partners-number = record { plain = refl; called = refl; unsequenced = refl; extent = refl; free = λ v. refl }
+
+own-number : CallNumber own-call
+unfolding commonExtentOf octetAllowed
+own-number = record { plain = refl; called = refl; unsequenced = refl; extent = refl; free = λ v. refl }
+
+pub kind : (h : ℕ) → among h commonHeaders ≡ true → Kind h
+kind h e =
+    among-each Kind commonHeaders
+    (octet class-octet, (call partners-number, (call own-number, (octet sequence-octet, (octet kind-octet, (many refl, tt))))))
+    h e
+
+-- one allowed common parameter
+pub record AllowedPart (p : Part) : Type 0 where
+  pub held : HeldPart p
+  pub listed : among (p .header) commonHeaders ≡ true
+  pub right : valueRight p ≡ true
+  pub fits : valueFits p ≡ true
+  pub items : AllowedItems (p .items)
+
+pub no-items : AllowedItems []
+unfolding layoutItems
+no-items = record { each = tt; often = λ u. omega arith; few-octets = omega arith }
+
+-- ---- from octets
+
+-- the part that these octets open to
+pub record PartRead (h : ℕ) (own : List ℕ) (p : Part) : Type 0 where
+  pub header : p .header ≡ h
+  pub laid : layoutPart p ≡ h ∷ own
+  pub allowed : AllowedPart p
+
+octet-read : (times h : ℕ) (own : List ℕ) → h < 256 → every isOctet own ≡ true → OneOctet h → CommonOwn times h own → length own ≡ 1 → PartRead h own (record { header = h; value = getD own 0 0; items = [] })
+unfolding layoutPart valueRight valueFits octetAllowed
+octet-read times h [] s o k c l = absurd (omega arith)
+octet-read times h (x ∷ y ∷ own) s o k c l = absurd (omega arith)
+octet-read times h (x ∷ []) s o k c l =
+    record {
+      header = refl;
+      laid = rw (k .plain, k .uncalled);
+      allowed =
+          record {
+            held = record { octet = s; own = rw (k .plain); each = tt };
+            listed = c .listed;
+            right = c .allowed;
+            fits = rw (k .uncalled, and-left (isOctet x) _ o) (either (eqb h sequence));
+            items = no-items;
+          };
+    }
+  where
+    either : (b : Bool) → cond b true true ≡ true
+    either true = refl
+    either false = refl
+
+-- the octets of a call number, least first
+low-octet : (x n : ℕ) → x < 256 → (x + 256 * n) % 256 ≡ x
+low-octet x n h = omega arith
+
+upper-octets : (x n : ℕ) → x < 256 → (x + 256 * n) / 256 ≡ n
+upper-octets x n h = omega arith
+
+last-octet : (w z : ℕ) → w < 65536 → z < 256 → (w + 65536 * z) / 65536 % 256 ≡ z
+last-octet w z h g = let e : (w + 65536 * z) / 65536 ≡ z = omega arith in rw e (omega arith)
+
+call-read : (times h : ℕ) (own : List ℕ) → h < 256 → every isOctet own ≡ true → CallNumber h → CommonOwn times h own → length own ≡ 3 → PartRead h own (record { header = h; value = callNumber own; items = [] })
+unfolding layoutPart valueRight valueFits octetAllowed
+call-read times h [] s o k c l = absurd (omega arith)
+call-read times h (x ∷ []) s o k c l = absurd (omega arith)
+call-read times h (x ∷ y ∷ []) s o k c l = absurd (omega arith)
+call-read times h (x ∷ y ∷ z ∷ w ∷ own) s o k c l = absurd (omega arith)
+call-read times h (x ∷ y ∷ z ∷ []) s o k c l =
+    let v = x + 256 * y + 65536 * z in
+    let x< = ltb-true x 256 (and-left (isOctet x) _ o) in
+    let oy = and-right (isOctet x) _ o in
+    let y< = ltb-true y 256 (and-left (isOctet y) _ oy) in
+    let z< = ltb-true z 256 (and-left (isOctet z) _ (and-right (isOctet y) _ oy)) in
+    let again : v ≡ x + 256 * (y + 256 * z) = omega arith in
+    let ex : v % 256 ≡ x = rw again (low-octet x (y + 256 * z) x<) in
+    let ey : v / 256 % 256 ≡ y = rw (again, upper-octets x (y + 256 * z) x<) (low-octet y z y<) in
+    let ez : v / 65536 % 256 ≡ z = last-octet (x + 256 * y) z (omega arith) z< in
+    record {
+      header = refl;
+      laid = rw (k .plain, k .called, ex, ey, ez);
+      allowed =
+          record {
+            held = record { octet = s; own = rw (k .plain); each = tt };
+            listed = c .listed;
+            right = k .free v;
+            fits = rw (k .unsequenced, k .called) (lt-ltb v call-numbers (omega arith));
+            items = no-items;
+          };
+    }
+
+module _ (opened : (h : ℕ) (s : List ℕ) → h < 256 → every isOctet s ≡ true → pliRight h ≡ true → lengthFits (extentOf h) s ≡ true → faultOf h s ≡ Sound → Opened h s) where
+  data-read : (times : ℕ) (own : List ℕ) → every isOctet own ≡ true → CommonOwn times transfer-data own → PartRead transfer-data own (record { header = transfer-data; value = 0; items = map openTransfer (transfersOf (contentsIn (commonExtentOf transfer-data) own)) })
+  unfolding layoutPart valueRight valueFits commonExtentOf afterOf leadOf
+  data-read times own o c =
+      let s = contentsIn LengthOctet own in
+      let k = cut LengthOctet own (c .long) o in
+      let i = c .inner refl in
+      let is = map openTransfer (transfersOf s) in
+      let r = transfers-read opened s (i .0) (every-drop isOctet 1 own o) (leb-true (length s) most-transfer-octets (k .fits)) (i .1) in
+      record {
+        header = refl;
+        laid = rw (r .laid) (ap (λ (l : List ℕ). transfer-data ∷ l) (k .led));
+        allowed =
+            record {
+              held = record { octet = omega arith; own = refl; each = each-so AllowedItem HeldItem (λ i a. a .held) is (r .items .each) };
+              listed = refl;
+              right = refl;
+              fits = refl;
+              items = r .items;
+            };
+      }
+
+  pub part-read : (q : Par) (times : ℕ) → q .head < 256 → every isOctet (q .own) ≡ true → CommonOwn times (q .head) (q .own) → PartRead (q .head) (q .own) (openCommon q)
+  unfolding openCommon afterOf
+  part-read q times s o c = go (kind (q .head) (c .listed))
+    where
+      go : Kind (q .head) → PartRead (q .head) (q .own) (openCommon q)
+      go (octet k) = rw (k .plain, k .uncalled) (octet-read times (q .head) (q .own) s o k c (rw (k .extent) at (c .long)))
+      go (call k) = rw (k .plain, k .called) (call-read times (q .head) (q .own) s o k c (rw (k .extent) at (c .long)))
+      go (many e) = rw e (data-read times (q .own) o (rw e at c))

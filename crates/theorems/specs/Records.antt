@@ -1,0 +1,158 @@
+-- A record is allowed exactly if each of its parts is, none stands twice, and 01 and 06 are there. The limits on how many follow.
+use Prim.Native.Nat.{ℕ, zero, suc, _+_, _*_, _/_, _≤_, _<_}
+use native.Mathlib.Omega.{arith}
+use mathlib.Core.Path.{_≡_, refl, sym, ap, _∙_}
+use mathlib.Core.Bool.{Bool, true, false, cond, _||_}
+use mathlib.Core.List.{List, [], _∷_, _++_, map, append-nil}
+use borrow.Author.Tests.{eqb-true, eq-eqb}
+use lib.Dec.{eqb}
+use lib.ListN.{length, drop, length-append, length-map, length-drop}
+use Rattle.annex.specs.Units.{nameOf, extentOf}
+use Rattle.annex.specs.Heads.{
+  among,
+  heads,
+  freeNames,
+  isFree,
+  user-class,
+  signal-kind,
+  transfer-data,
+  commonHeaders,
+  most-commons,
+  most-transfers,
+  most-transfer-octets,
+  nameUsed,
+  pliRight,
+  oftenOf,
+}
+use Rattle.annex.specs.Items.{Item, Part, Holding, contentsOf, contentsBy, heldAs, numberContents}
+use Rattle.annex.specs.Items.Holding.{AsContents, AsDigits, AsNumber, AsGeneric}
+use Rattle.annex.specs.Digits.{joined, packed}
+use Rattle.annex.specs.Layout.{ledBy, layoutItem, layoutItems}
+use Rattle.annex.specs.Allowed.{
+  every,
+  Each,
+  timesIn,
+  atMost,
+  HeldItem,
+  HeldPart,
+  lengthRight,
+  formRight,
+  digitsRight,
+  valueRight,
+  valueFits,
+  itemsIn,
+  contentsSum,
+  headersOf,
+  namesOf,
+  partNamesOf,
+  Allowed,
+}
+use Rattle.annex.specs.Records.{valuesOf}
+use Rattle.laws.specs.Bools.{and-left, and-right, and-both}
+use Rattle.theorems.specs.Lists.{
+  every-left,
+  every-right,
+  each-left,
+  each-right,
+  each-every,
+  each-so,
+  among-each,
+  times-here,
+  times-rest,
+  times-append,
+  among-append,
+  at-most,
+  most-at,
+  total,
+  total-length,
+  pigeons,
+}
+use Rattle.theorems.specs.Lengths.{led-length}
+use Rattle.theorems.specs.Transfers.{AllowedItem, AllowedItems}
+use Rattle.theorems.specs.Commons.{AllowedPart, no-items}
+
+-- no common parameter stands twice
+abbrev pub Once : List Part → Type 0
+Once r = (u : ℕ) → timesIn u (partNamesOf r) ≤ 1
+
+-- ---- the transfer parameters of all parts
+
+-- only a C5 has transfer parameters
+pub plain-items : (p : Part) → HeldPart p → eqb (p .header) transfer-data ≡ false → p .items ≡ []
+plain-items p h e =
+    let own : record { header = p .header; value = p .value; items = [] } ≡ p = rw e at (h .own) in
+    sym (ap (λ (q : Part). q .items) own)
+
+-- and with none there are none
+no-data : (r : List Part) → Each AllowedPart r → timesIn (nameOf transfer-data) (partNamesOf r) ≡ 0 → itemsIn r ≡ []
+no-data [] a t = refl
+no-data (p ∷ r) a t = go (eqb (p .header) transfer-data) refl (no-data r (a .1))
+  where
+    x : ℕ
+    x = nameOf transfer-data
+
+    names : List ℕ
+    names = partNamesOf r
+
+    go : (b : Bool) → eqb (p .header) transfer-data ≡ b → (timesIn x names ≡ 0 → itemsIn r ≡ []) → p .items ++ itemsIn r ≡ []
+    go true e f = absurd (omega (arith, times-here x names, rw (eqb-true (p .header) transfer-data e) at t))
+    go false e f = rw (plain-items p (a .0 .held) e) (f (omega (arith, times-rest x (nameOf (p .header)) names)))
+
+pub parts-items : (r : List Part) → Each AllowedPart r → Once r → AllowedItems (itemsIn r)
+parts-items [] a o = no-items
+parts-items (p ∷ r) a o = go (eqb (p .header) transfer-data) refl (parts-items r (a .1) (λ u. once-rest u))
+  where
+    x : ℕ
+    x = nameOf transfer-data
+
+    names : List ℕ
+    names = partNamesOf r
+
+    once-rest : Once r
+    once-rest u = omega (arith, o u, times-rest u (nameOf (p .header)) names)
+
+    go : (b : Bool) → eqb (p .header) transfer-data ≡ b → AllowedItems (itemsIn r) → AllowedItems (p .items ++ itemsIn r)
+    go true e f = rw (no-data r (a .1) (omega (arith, times-here x names, rw (eqb-true (p .header) transfer-data e) at (o x))), append-nil) (a .0 .items)
+    go false e f = rw (plain-items p (a .0 .held) e) f
+
+-- ---- the limits
+
+-- six common parameters
+abbrev commonNames : List ℕ
+commonNames = map nameOf commonHeaders
+
+common-name : (h : ℕ) → among h commonHeaders ≡ true → among (nameOf h) commonNames ≡ true
+common-name h e = among-each (λ k. among (nameOf k) commonNames ≡ true) commonHeaders (refl, (refl, (refl, (refl, (refl, (refl, tt)))))) h e
+
+pub common-names : (r : List Part) → Each AllowedPart r → every (λ x. among x commonNames) (partNamesOf r) ≡ true
+common-names [] a = refl
+common-names (p ∷ r) a = and-both (among (nameOf (p .header)) commonNames) _ (common-name (p .header) (a .0 .listed)) (common-names r (a .1))
+
+pub few-parts : (r : List Part) → Each AllowedPart r → Once r → length r ≤ most-commons
+unfolding total
+few-parts r a o =
+    omega (arith, total-length (λ p. nameOf (p .header)) r, pigeons (λ x. 1) (λ x. 1) commonNames (partNamesOf r) (common-names r a) o)
+
+-- fifty-two transfer parameters
+abbrev usedNames : List ℕ
+usedNames = freeNames ++ map (λ r. nameOf (r .header)) heads
+
+used-name : (h : ℕ) → nameUsed h ≡ true → among (nameOf h) usedNames ≡ true
+unfolding nameUsed
+used-name h e = among-append (nameOf h) freeNames (map (λ r. nameOf (r .header)) heads) ∙ e
+
+used-names : (is : List Item) → Each AllowedItem is → every (λ x. among x usedNames) (namesOf is) ≡ true
+used-names [] a = refl
+used-names (i ∷ is) a = and-both (among (nameOf (i .header)) usedNames) _ (used-name (i .header) (a .0 .used)) (used-names is (a .1))
+
+pub few-items : (is : List Item) → AllowedItems is → length is ≤ most-transfers
+unfolding total oftenOf
+few-items is a =
+    omega (arith, total-length (λ i. nameOf (i .header)) is, pigeons (λ x. 1) oftenOf usedNames (namesOf is) (used-names is (a .each)) (a .often))
+
+-- contents and octets
+pub contents-within : (is : List Item) → contentsSum is ≤ length (layoutItems is)
+unfolding layoutItems layoutItem
+contents-within [] = omega arith
+contents-within (i ∷ is) =
+    simp length-append (omega (arith, led-length (extentOf (i .header)) (contentsOf i), contents-within is))
