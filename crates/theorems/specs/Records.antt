@@ -26,7 +26,7 @@ use Rattle.annex.specs.Heads.{
 }
 use Rattle.annex.specs.Items.{Item, Part, Holding, contentsOf, contentsBy, heldAs, numberContents}
 use Rattle.annex.specs.Items.Holding.{AsContents, AsDigits, AsNumber, AsGeneric}
-use Rattle.annex.specs.Digits.{joined, packed}
+use Rattle.annex.specs.Digits.{codeOf, joined, packed}
 use Rattle.annex.specs.Layout.{ledBy, layoutItem, layoutItems}
 use Rattle.annex.specs.Allowed.{
   every,
@@ -48,6 +48,8 @@ use Rattle.annex.specs.Allowed.{
   Allowed,
 }
 use Rattle.annex.specs.Records.{valuesOf}
+use Rattle.annex.specs.declared.Alphabet.{Alphabet}
+use Rattle.annex.specs.declared.Alphabet.the-variants.{Dialled, Numbered}
 use Rattle.laws.specs.Bools.{and-left, and-right, and-both}
 use Rattle.theorems.specs.Lists.{
   every-left,
@@ -156,3 +158,55 @@ unfolding layoutItems layoutItem
 contents-within [] = omega arith
 contents-within (i ∷ is) =
     simp length-append (omega (arith, led-length (extentOf (i .header)) (contentsOf i), contents-within is))
+
+-- a value takes at least half an octet of the contents
+joined-length : (hs : List ℕ) → length hs ≤ 2 * length (joined hs)
+unfolding joined
+joined-length [] = omega arith
+joined-length (a ∷ []) = omega arith
+joined-length (a ∷ b ∷ hs) = omega (arith, joined-length hs)
+
+packed-length : (z : Alphabet) (ds : List ℕ) → length ds ≤ 2 * length (packed z ds)
+unfolding packed
+packed-length z ds = omega (arith, joined-length (map (codeOf z) ds), length-map ds (codeOf z))
+
+values-length : (i : Item) → length (i .values) ≤ 2 * length (contentsOf i)
+unfolding contentsOf
+values-length i = go (heldAs i)
+  where
+    go : (k : Holding) → length (i .values) ≤ 2 * length (contentsBy k i)
+    go AsContents = omega arith
+    go (AsDigits m) = omega (arith, packed-length Dialled (i .values))
+    go AsNumber = omega (arith, packed-length Numbered (i .values))
+    go AsGeneric = omega (arith, packed-length Numbered (drop 1 (i .values)), length-drop 1 (i .values))
+
+pub values-within : (is : List Item) → length (valuesOf is) ≤ 2 * contentsSum is
+unfolding valuesOf
+values-within [] = omega arith
+values-within (i ∷ is) = simp length-append (omega (arith, values-length i, values-within is))
+
+-- ---- an allowed record, part by part
+
+pub allowed : (r : List Part) → Each AllowedPart r → Once r → among user-class (headersOf r) ≡ true → among signal-kind (headersOf r) ≡ true → Allowed r
+allowed r a o c k =
+    let is = itemsIn r in
+    let i = parts-items r a o in
+    record {
+      held = each-so AllowedPart HeldPart (λ p b. b .held) r a;
+      few-commons = few-parts r a o;
+      listed = each-every AllowedPart (λ p. among (p .header) commonHeaders) (λ p b. b .listed) r a;
+      once = most-at (λ x. 1) (partNamesOf r) o;
+      has-class = c;
+      has-kind = k;
+      values-right = each-every AllowedPart valueRight (λ p b. b .right) r a;
+      values-fit = each-every AllowedPart valueFits (λ p b. b .fits) r a;
+      few-transfers = few-items is i;
+      few-contents = omega (arith, contents-within is, i .few-octets);
+      few-octets = i .few-octets;
+      names-used = each-every AllowedItem (λ i. nameUsed (i .header)) (λ i b. b .used) is (i .each);
+      plis-right = each-every AllowedItem (λ i. pliRight (i .header)) (λ i b. b .pli) is (i .each);
+      names-often = most-at oftenOf (namesOf is) (i .often);
+      lengths-right = each-every AllowedItem lengthRight (λ i b. b .length-right) is (i .each);
+      forms-right = each-every AllowedItem formRight (λ i b. b .form-right) is (i .each);
+      digits-right = each-every AllowedItem digitsRight (λ i b. b .digits-right) is (i .each);
+    }
