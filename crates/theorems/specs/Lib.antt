@@ -8,3 +8,4 @@ pub mod Steps
 pub mod Transfers
 pub mod Commons
 pub mod Records
+pub mod Messages

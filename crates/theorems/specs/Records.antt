@@ -6,14 +6,18 @@ use mathlib.Core.Bool.{Bool, true, false, cond, _||_}
 use mathlib.Core.List.{List, [], _∷_, _++_, map, append-nil}
 use borrow.Author.Tests.{eqb-true, eq-eqb}
 use lib.Dec.{eqb}
-use lib.ListN.{length, drop, length-append, length-map, length-drop}
+use lib.ListN.{length, getD, drop, length-append, length-map, length-drop}
 use Rattle.annex.specs.Units.{nameOf, extentOf}
 use Rattle.annex.specs.Heads.{
   among,
   heads,
   freeNames,
   isFree,
+  end-mark,
   user-class,
+  partners-call,
+  own-call,
+  sequence,
   signal-kind,
   transfer-data,
   commonHeaders,
@@ -185,6 +189,45 @@ unfolding valuesOf
 values-within [] = omega arith
 values-within (i ∷ is) = simp length-append (omega (arith, values-length i, values-within is))
 
+-- ---- a listed header stands exactly if its name does
+
+abbrev headersByName : List ℕ
+headersByName = end-mark ∷ user-class ∷ partners-call ∷ own-call ∷ sequence ∷ transfer-data ∷ signal-kind ∷ []
+
+header-by-name : (h : ℕ) → among h commonHeaders ≡ true → getD headersByName (nameOf h) 0 ≡ h
+header-by-name h e =
+    among-each (λ k. getD headersByName (nameOf k) 0 ≡ k) commonHeaders (refl, (refl, (refl, (refl, (refl, (refl, tt)))))) h e
+
+same-header : (k h : ℕ) → among k commonHeaders ≡ true → among h commonHeaders ≡ true → nameOf k ≡ nameOf h → k ≡ h
+same-header k h l m e = sym (header-by-name k l) ∙ ap (λ (x : ℕ). getD headersByName x 0) e ∙ header-by-name h m
+
+module _ (k : ℕ) (l : among k commonHeaders ≡ true) where
+  pub header-stands : (r : List Part) → Each AllowedPart r → 0 < timesIn (nameOf k) (partNamesOf r) → among k (headersOf r) ≡ true
+  header-stands [] a t = absurd (omega arith)
+  header-stands (p ∷ r) a t = go (eqb (nameOf k) (nameOf (p .header))) refl t (header-stands r (a .1))
+    where
+      names : List ℕ
+      names = partNamesOf r
+
+      later : (b : Bool) → among k (headersOf r) ≡ true → b || among k (headersOf r) ≡ true
+      later true e = refl
+      later false e = e
+
+      go : (b : Bool) → eqb (nameOf k) (nameOf (p .header)) ≡ b → 0 < cond b (suc (timesIn (nameOf k) names)) (timesIn (nameOf k) names) → (0 < timesIn (nameOf k) names → among k (headersOf r) ≡ true) → eqb k (p .header) || among k (headersOf r) ≡ true
+      go true e t f = rw (eq-eqb k (p .header) (same-header k (p .header) l (a .0 .listed) (eqb-true _ _ e)))
+      go false e t f = later (eqb k (p .header)) (f t)
+
+  pub name-stands : (r : List Part) → among k (headersOf r) ≡ true → 0 < timesIn (nameOf k) (partNamesOf r)
+  name-stands [] e = absurd (let z : _≡_ {A = ℕ} 0 1 = cc in omega arith)
+  name-stands (p ∷ r) e = go (eqb k (p .header)) refl e (name-stands r)
+    where
+      names : List ℕ
+      names = partNamesOf r
+
+      go : (b : Bool) → eqb k (p .header) ≡ b → b || among k (headersOf r) ≡ true → (among k (headersOf r) ≡ true → 0 < timesIn (nameOf k) names) → 0 < timesIn (nameOf k) (nameOf (p .header) ∷ names)
+      go true q e f = rw (← eqb-true k (p .header) q, times-here (nameOf k) names) (omega arith)
+      go false q e f = omega (arith, f e, times-rest (nameOf k) (nameOf (p .header)) names)
+
 -- ---- an allowed record, part by part
 
 pub allowed : (r : List Part) → Each AllowedPart r → Once r → among user-class (headersOf r) ≡ true → among signal-kind (headersOf r) ≡ true → Allowed r
@@ -209,4 +252,18 @@ allowed r a o c k =
       lengths-right = each-every AllowedItem lengthRight (λ i b. b .length-right) is (i .each);
       forms-right = each-every AllowedItem formRight (λ i b. b .form-right) is (i .each);
       digits-right = each-every AllowedItem digitsRight (λ i b. b .digits-right) is (i .each);
+    }
+
+-- an allowed record has room in the struct
+pub record Within (r : List Part) : Type 0 where
+  pub commons : length r ≤ 6
+  pub transfers : length (itemsIn r) ≤ 52
+  pub values : length (valuesOf (itemsIn r)) ≤ 512
+
+pub allowed-within : (r : List Part) → Allowed r → Within r
+allowed-within r a =
+    record {
+      commons = a .few-commons;
+      transfers = a .few-transfers;
+      values = omega (arith, values-within (itemsIn r), a .few-contents);
     }
