@@ -26,7 +26,7 @@ use Rattle.annex.specs.Heads.{
 }
 use Rattle.annex.specs.Contents.{faultOf}
 use Rattle.annex.specs.Items.{Item, Part}
-use Rattle.annex.specs.Layout.{layoutItems, layoutPart, callOctets}
+use Rattle.annex.specs.Layout.{layoutItems, layoutPart, callOctets, dataOctets}
 use Rattle.annex.specs.Allowed.{
   every,
   Each,
@@ -56,11 +56,16 @@ use Rattle.theorems.specs.Transfers.{AllowedItem, AllowedItems, transfer
 
 -- ---- the three kinds
 
+-- the most octets of a common parameter, by its name: "2+4+4+2+2+257+1"
+abbrev pub mostOf : ℕ → ℕ
+mostOf x = getD (1 ∷ 2 ∷ 4 ∷ 4 ∷ 2 ∷ 257 ∷ 2 ∷ []) x 0
+
 -- 01, 04 and 06: one octet, which the rules keep an octet in a record too
 pub record OneOctet (h : ℕ) : Type 0 where
   pub plain : eqb h transfer-data ≡ false
   pub uncalled : isCall h ≡ false
   pub extent : commonExtentOf h ≡ Fixed 1
+  pub most : mostOf (nameOf h) ≡ 2
   pub small : (v : ℕ) → octetAllowed h v ≡ true → cond (eqb h sequence) (isOctet v) true ≡ true → v < 256
 
 -- 82 and 83: three octets, of which none is refused
@@ -69,20 +74,28 @@ pub record CallNumber (h : ℕ) : Type 0 where
   pub called : isCall h ≡ true
   pub unsequenced : eqb h sequence ≡ false
   pub extent : commonExtentOf h ≡ Fixed 3
+  pub most : mostOf (nameOf h) ≡ 4
+  pub free : (v : ℕ) → octetAllowed h v ≡ true
+
+-- C5: a length octet and its parameters
+pub record DataKind (h : ℕ) : Type 0 where
+  pub isData : eqb h transfer-data ≡ true
+  pub extent : commonExtentOf h ≡ LengthOctet
+  pub most : mostOf (nameOf h) ≡ 257
   pub free : (v : ℕ) → octetAllowed h v ≡ true
 
 pub data Kind (h : ℕ) : Type 0 where
   octet : OneOctet h → Kind h
   call : CallNumber h → Kind h
-  many : h ≡ transfer-data → Kind h
+  many : DataKind h → Kind h
 
 class-octet : OneOctet user-class
 unfolding commonExtentOf octetAllowed
-class-octet = record { plain = refl; uncalled = refl; extent = refl; small = λ v e f. omega (arith, eqb-true v 1 e) }
+class-octet = record { plain = refl; uncalled = refl; extent = refl; most = refl; small = λ v e f. omega (arith, eqb-true v 1 e) }
 
 sequence-octet : OneOctet sequence
 unfolding commonExtentOf octetAllowed
-sequence-octet = record { plain = refl; uncalled = refl; extent = refl; small = λ v e f. ltb-true v 256 f }
+sequence-octet = record { plain = refl; uncalled = refl; extent = refl; most = refl; small = λ v e f. ltb-true v 256 f }
 
 kind-octet : OneOctet signal-kind
 unfolding commonExtentOf octetAllowed
@@ -91,21 +104,26 @@ kind-octet =
       plain = refl;
       uncalled = refl;
       extent = refl;
+      most = refl;
       small = λ v e f. among-each (λ k. k < 256) signalKinds (omega arith) v e;
     }
 
 partners-number : CallNumber partners-call
 unfolding commonExtentOf octetAllowed
-partners-number = record { plain = refl; called = refl; unsequenced = refl; extent = refl; free = λ v. refl }
+partners-number = record { plain = refl; called = refl; unsequenced = refl; extent = refl; most = refl; free = λ v. refl }
 
 own-number : CallNumber own-call
 unfolding commonExtentOf octetAllowed
-own-number = record { plain = refl; called = refl; unsequenced = refl; extent = refl; free = λ v. refl }
+own-number = record { plain = refl; called = refl; unsequenced = refl; extent = refl; most = refl; free = λ v. refl }
+
+data-kind : DataKind transfer-data
+unfolding commonExtentOf octetAllowed
+data-kind = record { isData = refl; extent = refl; most = refl; free = λ v. refl }
 
 pub kind : (h : ℕ) → among h commonHeaders ≡ true → Kind h
 kind h e =
     among-each Kind commonHeaders
-    (octet class-octet, (call partners-number, (call own-number, (octet sequence-octet, (octet kind-octet, (many refl, tt))))))
+    (octet class-octet, (call partners-number, (call own-number, (octet sequence-octet, (octet kind-octet, (many data-kind, tt))))))
     h e
 
 -- one allowed common parameter
@@ -218,4 +236,96 @@ module _ (opened : (h : ℕ) (s : List ℕ) → h < 256 → every isOctet s ≡ 
       go : Kind (q .head) → PartRead (q .head) (q .own) (openCommon q)
       go (octet k) = rw (k .plain, k .uncalled) (octet-read times (q .head) (q .own) s o k c (rw (k .extent) at (c .long)))
       go (call k) = rw (k .plain, k .called) (call-read times (q .head) (q .own) s o k c (rw (k .extent) at (c .long)))
-      go (many e) = rw e (data-read times (q .own) o (rw e at c))
+      go (many k) =
+          let e = eqb-true (q .head) transfer-data (k .isData) in
+          rw e (data-read times (q .own) o (rw e at c))
+
+-- ---- and back
+
+-- a common parameter as it stands at a place
+abbrev pub partPar : ℕ → Part → Par
+partPar at p = record { place = at; head = p .header; own = drop 1 (layoutPart p) }
+
+pub record PartBuilt (p : Part) (own : List ℕ) : Type 0 where
+  pub laid : layoutPart p ≡ p .header ∷ own
+  pub accepted : CommonOwn 0 (p .header) own
+  pub opens : (at : ℕ) → openCommon (record { place = at; head = p .header; own = own }) ≡ p
+  pub octets : every isOctet own ≡ true
+  pub most : suc (length own) ≤ mostOf (nameOf (p .header))
+
+octet-built : (p : Part) → AllowedPart p → OneOctet (p .header) → PartBuilt p (p .value ∷ [])
+unfolding layoutPart openCommon afterOf valueRight valueFits octetAllowed
+octet-built p a k =
+    let h = p .header in
+    let v = p .value in
+    let small = k .small v (a .right) (rw (k .uncalled) at (a .fits)) in
+    record {
+      laid = rw (k .plain, k .uncalled);
+      accepted =
+          record {
+            listed = a .listed;
+            new = refl;
+            long = rw (k .extent);
+            allowed = a .right;
+            inner = λ e. absurd (let z : _≡_ {A = ℕ} 0 1 = cc (k .plain) in omega arith);
+          };
+      opens = λ at. rw (k .plain, k .uncalled) (rw (k .plain) at (a .held .own));
+      octets = and-both (isOctet v) true (lt-ltb v 256 small) refl;
+      most = omega (arith, k .most);
+    }
+
+call-whole : (v : ℕ) → v < call-numbers → callNumber (callOctets v) ≡ v
+call-whole v h = omega arith
+
+call-built : (p : Part) → AllowedPart p → CallNumber (p .header) → PartBuilt p (callOctets (p .value))
+unfolding layoutPart openCommon afterOf valueFits
+call-built p a k =
+    let h = p .header in
+    let v = p .value in
+    let whole = call-whole v (ltb-true v call-numbers (rw (k .unsequenced, k .called) at (a .fits))) in
+    let octet-of : (n : ℕ) → isOctet (n % 256) ≡ true = λ n. lt-ltb (n % 256) 256 (omega arith) in
+    record {
+      laid = rw (k .plain, k .called);
+      accepted =
+          record {
+            listed = a .listed;
+            new = refl;
+            long = rw (k .extent);
+            allowed = k .free (v % 256);
+            inner = λ e. absurd (let z : _≡_ {A = ℕ} 0 1 = cc (k .plain) in omega arith);
+          };
+      opens = λ at. rw (k .plain, k .called, whole) (rw (k .plain) at (a .held .own));
+      octets = rw (octet-of v, octet-of (v / 256), octet-of (v / 65536));
+      most = omega (arith, k .most);
+    }
+
+module _ (closed : (i : Item) → HeldItem i → pliRight (i .header) ≡ true → lengthRight i ≡ true → formRight i ≡ true → digitsRight i ≡ true → Closed i) where
+  data-built : (p : Part) → AllowedPart p → DataKind (p .header) → PartBuilt p (dataOctets (layoutItems (p .items)))
+  unfolding layoutPart openCommon afterOf leadOf commonExtentOf
+  data-built p a k =
+      let t = layoutItems (p .items) in
+      let b = transfers-built closed (p .items) (a .items) in
+      let few = a .items .few-octets in
+      record {
+        laid = rw (k .isData);
+        accepted =
+            record {
+              listed = a .listed;
+              new = refl;
+              long = rw (k .extent) (omega arith);
+              allowed = k .free (length t);
+              inner = λ e. (length t, b .verdict);
+            };
+        opens = λ at. rw (k .isData, b .opens) (rw (k .isData) at (a .held .own));
+        octets = and-both (isOctet (length t)) _ (lt-ltb (length t) 256 (omega arith)) (b .octets);
+        most = omega (arith, k .most);
+      }
+
+  pub part-built : (p : Part) → AllowedPart p → PartBuilt p (drop 1 (layoutPart p))
+  unfolding layoutPart
+  part-built p a = go (kind (p .header) (a .listed))
+    where
+      go : Kind (p .header) → PartBuilt p (drop 1 (layoutPart p))
+      go (octet k) = rw (k .plain, k .uncalled) (octet-built p a k)
+      go (call k) = rw (k .plain, k .called) (call-built p a k)
+      go (many k) = rw (k .isData) (data-built p a k)
