@@ -3,7 +3,7 @@ use Prim.Native.Nat.{ℕ, zero, suc, _+_, _*_, _/_, _≤_, _<_}
 use native.Mathlib.Omega.{arith}
 use mathlib.Core.Path.{_≡_, refl, sym, ap, _∙_}
 use mathlib.Core.Bool.{Bool, true, false, cond, _||_}
-use mathlib.Core.List.{List, [], _∷_, _++_, map, append-nil}
+use mathlib.Core.List.{List, [], _∷_, _++_, map, append-nil, append-assoc}
 use borrow.Author.Tests.{eqb-true, eq-eqb}
 use lib.Dec.{eqb}
 use lib.ListN.{length, getD, drop, length-append, length-map, length-drop}
@@ -56,8 +56,7 @@ use Rattle.annex.specs.declared.Alphabet.{Alphabet}
 use Rattle.annex.specs.declared.Alphabet.the-variants.{Dialled, Numbered}
 use Rattle.laws.specs.Bools.{and-left, and-right, and-both}
 use Rattle.theorems.specs.Lists.{
-  every-left,
-  every-right,
+  each-append,
   each-left,
   each-right,
   each-every,
@@ -253,6 +252,84 @@ allowed r a o c k =
       forms-right = each-every AllowedItem formRight (λ i b. b .form-right) is (i .each);
       digits-right = each-every AllowedItem digitsRight (λ i b. b .digits-right) is (i .each);
     }
+
+-- the transfer parameters of a record, one by one
+items-each : (is : List Item) → Each HeldItem is → every (λ i. nameUsed (i .header)) is ≡ true → every (λ i. pliRight (i .header)) is ≡ true → every lengthRight is ≡ true → every formRight is ≡ true → every digitsRight is ≡ true → Each AllowedItem is
+items-each [] h u p l f d = tt
+items-each (i ∷ is) h u p l f d = (
+  record {
+    held = h .0;
+    used = and-left _ (every (λ i. nameUsed (i .header)) is) u;
+    pli = and-left _ (every (λ i. pliRight (i .header)) is) p;
+    length-right = and-left _ (every lengthRight is) l;
+    form-right = and-left _ (every formRight is) f;
+    digits-right = and-left _ (every digitsRight is) d;
+  },
+  items-each is (h .1) (and-right (nameUsed (i .header)) _ u) (and-right (pliRight (i .header)) _ p) (and-right (lengthRight i) _ l) (and-right (formRight i) _ f) (and-right (digitsRight i) _ d),
+)
+
+items-held : (r : List Part) → Each HeldPart r → Each HeldItem (itemsIn r)
+items-held [] h = tt
+items-held (p ∷ r) h = each-append HeldItem (p .items) (itemsIn r) (h .0 .each) (items-held r (h .1))
+
+pub allowed-items : (r : List Part) → Allowed r → AllowedItems (itemsIn r)
+allowed-items r a =
+    record {
+      each = items-each (itemsIn r) (items-held r (a .held)) (a .names-used) (a .plis-right) (a .lengths-right) (a .forms-right) (a .digits-right);
+      often = at-most oftenOf (namesOf (itemsIn r)) (a .names-often);
+      few-octets = a .few-octets;
+    }
+
+layout-append : (is js : List Item) → layoutItems (is ++ js) ≡ layoutItems is ++ layoutItems js
+unfolding layoutItems
+layout-append [] js = refl
+layout-append (i ∷ is) js = rw (append-assoc, layout-append is js)
+
+names-append : (is js : List Item) → namesOf (is ++ js) ≡ namesOf is ++ namesOf js
+names-append [] js = refl
+names-append (i ∷ is) js = ap (λ (l : List ℕ). nameOf (i .header) ∷ l) (names-append is js)
+
+module _ (is js : List Item) (a : AllowedItems (is ++ js)) where
+  both-often : (u : ℕ) → timesIn u (namesOf is) + timesIn u (namesOf js) ≤ oftenOf u
+  both-often u = rw (names-append is js, times-append) at (a .often u)
+
+  both-octets : length (layoutItems is) + length (layoutItems js) ≤ most-transfer-octets
+  both-octets = rw (layout-append is js, length-append) at (a .few-octets)
+
+  pub items-left : AllowedItems is
+  items-left =
+      record {
+        each = each-left AllowedItem is js (a .each);
+        often = λ u. omega (arith, both-often u);
+        few-octets = omega (arith, both-octets);
+      }
+
+  pub items-right : AllowedItems js
+  items-right =
+      record {
+        each = each-right AllowedItem is js (a .each);
+        often = λ u. omega (arith, both-often u);
+        few-octets = omega (arith, both-octets);
+      }
+
+parts-each : (r : List Part) → Each HeldPart r → every (λ p. among (p .header) commonHeaders) r ≡ true → every valueRight r ≡ true → every valueFits r ≡ true → AllowedItems (itemsIn r) → Each AllowedPart r
+parts-each [] h l v f a = tt
+parts-each (p ∷ r) h l v f a = (
+  record {
+    held = h .0;
+    listed = and-left _ (every (λ p. among (p .header) commonHeaders) r) l;
+    right = and-left _ (every valueRight r) v;
+    fits = and-left _ (every valueFits r) f;
+    items = items-left (p .items) (itemsIn r) a;
+  },
+  parts-each r (h .1) (and-right (among (p .header) commonHeaders) _ l) (and-right (valueRight p) _ v) (and-right (valueFits p) _ f) (items-right (p .items) (itemsIn r) a),
+)
+
+pub allowed-parts : (r : List Part) → Allowed r → Each AllowedPart r
+allowed-parts r a = parts-each r (a .held) (a .listed) (a .values-right) (a .values-fit) (allowed-items r a)
+
+pub allowed-once : (r : List Part) → Allowed r → Once r
+allowed-once r a = at-most (λ x. 1) (partNamesOf r) (a .once)
 
 -- an allowed record has room in the struct
 pub record Within (r : List Part) : Type 0 where
