@@ -9,3 +9,5 @@ pub mod Transfers
 pub mod Commons
 pub mod Records
 pub mod Messages
+pub mod Layouts
+pub mod Rounds

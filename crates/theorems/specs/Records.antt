@@ -123,7 +123,7 @@ parts-items (p ∷ r) a o = go (eqb (p .header) transfer-data) refl (parts-items
 -- ---- the limits
 
 -- six common parameters
-abbrev commonNames : List ℕ
+abbrev pub commonNames : List ℕ
 commonNames = map nameOf commonHeaders
 
 common-name : (h : ℕ) → among h commonHeaders ≡ true → among (nameOf h) commonNames ≡ true
