@@ -1,57 +1,25 @@
 -- One common parameter: what is accepted opens to an allowed part that lays out to it, and an allowed part lays out to what is accepted
 -- and opens to it.
-use Prim.Native.Nat.{ℕ, zero, suc, _+_, _*_, _/_, _%_, _≤_, _<_}
+use Prim.Native.Nat.{ℕ, suc, _+_, _*_, _/_, _%_, _≤_, _<_}
 use native.Mathlib.Omega.{arith}
-use mathlib.Core.Path.{_≡_, refl, sym, ap, _∙_}
+use mathlib.Core.Path.{_≡_, refl, ap}
 use mathlib.Core.Bool.{Bool, true, false, cond}
-use mathlib.Core.List.{List, [], _∷_, _++_, map}
-use borrow.Author.Tests.{ltb-true, lt-ltb, leb-true, eqb-true, eq-eqb}
-use lib.Dec.{eqb, ltb}
+use mathlib.Core.List.{List, [], _∷_, map}
+use borrow.Author.Tests.{ltb-true, lt-ltb, leb-true, eqb-true}
+use lib.Dec.{eqb}
 use lib.ListN.{length, getD, drop}
-use Rattle.annex.specs.Units.{nameOf, afterOf, leadOf, extentOf, commonExtentOf, contentsIn}
-use Rattle.annex.specs.Heads.{
-  among,
-  user-class,
-  partners-call,
-  own-call,
-  sequence,
-  signal-kind,
-  transfer-data,
-  isCall,
-  commonHeaders,
-  signalKinds,
-  call-numbers,
-  most-transfer-octets,
-  pliRight,
-}
-use Rattle.annex.specs.Contents.{faultOf}
-use Rattle.annex.specs.Items.{Item, Part}
+use Rattle.annex.specs.Units.{nameOf, afterOf, leadOf, commonExtentOf, contentsIn}
+use Rattle.annex.specs.Heads.{among, user-class, partners-call, own-call, sequence, signal-kind, transfer-data, isCall, commonHeaders, signalKinds, call-numbers, most-transfer-octets}
+use Rattle.annex.specs.Items.{Part}
 use Rattle.annex.specs.Layout.{layoutItems, layoutPart, callOctets, dataOctets}
-use Rattle.annex.specs.Allowed.{
-  every,
-  Each,
-  isOctet,
-  lengthFits,
-  lengthRight,
-  formRight,
-  digitsRight,
-  HeldItem,
-  HeldPart,
-  ownPart,
-  valueRight,
-  valueFits,
-}
+use Rattle.annex.specs.Allowed.{every, isOctet, HeldItem, HeldPart, valueRight, valueFits}
 use Rattle.annex.specs.Walk.{Par}
-use Rattle.annex.specs.Reading.{transfersVerdict, transfersOf, octetAllowed, openTransfer, openCommon, callNumber}
-use Rattle.annex.specs.declared.Answer.the-variants.{Accepted}
-use Rattle.annex.specs.declared.Extent.{Extent}
+use Rattle.annex.specs.Reading.{transfersOf, octetAllowed, openTransfer, openCommon, callNumber}
 use Rattle.annex.specs.declared.Extent.the-variants.{Fixed, LengthOctet}
-use Rattle.annex.specs.declared.Fault.the-variants.{Sound}
 use Rattle.laws.specs.Bools.{and-left, and-right, and-both}
-use Rattle.theorems.specs.Leaves.{Opened, Closed}
 use Rattle.theorems.specs.Lists.{among-each, each-so, every-drop}
-use Rattle.theorems.specs.Lengths.{Long, cut}
-use Rattle.theorems.specs.Steps.{InnerAccepted, CommonOwn}
+use Rattle.theorems.specs.Lengths.{cut}
+use Rattle.theorems.specs.Steps.{CommonOwn}
 use Rattle.theorems.specs.Transfers.{AllowedItem, AllowedItems, transfers-read, transfers-built}
 
 -- ---- the three kinds
@@ -207,38 +175,37 @@ call-read times h (x ∷ y ∷ z ∷ []) s o k c l =
           };
     }
 
-module _ (opened : (h : ℕ) (s : List ℕ) → h < 256 → every isOctet s ≡ true → pliRight h ≡ true → lengthFits (extentOf h) s ≡ true → faultOf h s ≡ Sound → Opened h s) where
-  data-read : (times : ℕ) (own : List ℕ) → every isOctet own ≡ true → CommonOwn times transfer-data own → PartRead transfer-data own (record { header = transfer-data; value = 0; items = map openTransfer (transfersOf (contentsIn (commonExtentOf transfer-data) own)) })
-  unfolding layoutPart valueRight valueFits commonExtentOf afterOf leadOf
-  data-read times own o c =
-      let s = contentsIn LengthOctet own in
-      let k = cut LengthOctet own (c .long) o in
-      let i = c .inner refl in
-      let is = map openTransfer (transfersOf s) in
-      let r = transfers-read opened s (i .0) (every-drop isOctet 1 own o) (leb-true (length s) most-transfer-octets (k .fits)) (i .1) in
-      record {
-        header = refl;
-        laid = rw (r .laid) (ap (λ (l : List ℕ). transfer-data ∷ l) (k .led));
-        allowed =
-            record {
-              held = record { octet = omega arith; own = refl; each = each-so AllowedItem HeldItem (λ i a. a .held) is (r .items .each) };
-              listed = refl;
-              right = refl;
-              fits = refl;
-              items = r .items;
-            };
-      }
+data-read : (times : ℕ) (own : List ℕ) → every isOctet own ≡ true → CommonOwn times transfer-data own → PartRead transfer-data own (record { header = transfer-data; value = 0; items = map openTransfer (transfersOf (contentsIn (commonExtentOf transfer-data) own)) })
+unfolding layoutPart valueRight valueFits commonExtentOf afterOf leadOf
+data-read times own o c =
+    let s = contentsIn LengthOctet own in
+    let k = cut LengthOctet own (c .long) o in
+    let i = c .inner refl in
+    let is = map openTransfer (transfersOf s) in
+    let r = transfers-read s (i .0) (every-drop isOctet 1 own o) (leb-true (length s) most-transfer-octets (k .fits)) (i .1) in
+    record {
+      header = refl;
+      laid = rw (r .laid) (ap (λ (l : List ℕ). transfer-data ∷ l) (k .led));
+      allowed =
+          record {
+            held = record { octet = omega arith; own = refl; each = each-so AllowedItem HeldItem (λ i a. a .held) is (r .items .each) };
+            listed = refl;
+            right = refl;
+            fits = refl;
+            items = r .items;
+          };
+    }
 
-  pub part-read : (q : Par) (times : ℕ) → q .head < 256 → every isOctet (q .own) ≡ true → CommonOwn times (q .head) (q .own) → PartRead (q .head) (q .own) (openCommon q)
-  unfolding openCommon afterOf
-  part-read q times s o c = go (kind (q .head) (c .listed))
-    where
-      go : Kind (q .head) → PartRead (q .head) (q .own) (openCommon q)
-      go (octet k) = rw (k .plain, k .uncalled) (octet-read times (q .head) (q .own) s o k c (rw (k .extent) at (c .long)))
-      go (call k) = rw (k .plain, k .called) (call-read times (q .head) (q .own) s o k c (rw (k .extent) at (c .long)))
-      go (many k) =
-          let e = eqb-true (q .head) transfer-data (k .isData) in
-          rw e (data-read times (q .own) o (rw e at c))
+pub part-read : (q : Par) (times : ℕ) → q .head < 256 → every isOctet (q .own) ≡ true → CommonOwn times (q .head) (q .own) → PartRead (q .head) (q .own) (openCommon q)
+unfolding openCommon afterOf
+part-read q times s o c = go (kind (q .head) (c .listed))
+  where
+    go : Kind (q .head) → PartRead (q .head) (q .own) (openCommon q)
+    go (octet k) = rw (k .plain, k .uncalled) (octet-read times (q .head) (q .own) s o k c (rw (k .extent) at (c .long)))
+    go (call k) = rw (k .plain, k .called) (call-read times (q .head) (q .own) s o k c (rw (k .extent) at (c .long)))
+    go (many k) =
+        let e = eqb-true (q .head) transfer-data (k .isData) in
+        rw e (data-read times (q .own) o (rw e at c))
 
 -- ---- and back
 
@@ -299,33 +266,32 @@ call-built p a k =
       most = omega (arith, k .most);
     }
 
-module _ (closed : (i : Item) → HeldItem i → pliRight (i .header) ≡ true → lengthRight i ≡ true → formRight i ≡ true → digitsRight i ≡ true → Closed i) where
-  data-built : (p : Part) → AllowedPart p → DataKind (p .header) → PartBuilt p (dataOctets (layoutItems (p .items)))
-  unfolding layoutPart openCommon afterOf leadOf commonExtentOf
-  data-built p a k =
-      let t = layoutItems (p .items) in
-      let b = transfers-built closed (p .items) (a .items) in
-      let few = a .items .few-octets in
-      record {
-        laid = rw (k .isData);
-        accepted =
-            record {
-              listed = a .listed;
-              new = refl;
-              long = rw (k .extent) (omega arith);
-              allowed = k .free (length t);
-              inner = λ e. (length t, b .verdict);
-            };
-        opens = λ at. rw (k .isData, b .opens) (rw (k .isData) at (a .held .own));
-        octets = and-both (isOctet (length t)) _ (lt-ltb (length t) 256 (omega arith)) (b .octets);
-        most = omega (arith, k .most);
-      }
+data-built : (p : Part) → AllowedPart p → DataKind (p .header) → PartBuilt p (dataOctets (layoutItems (p .items)))
+unfolding layoutPart openCommon afterOf leadOf commonExtentOf
+data-built p a k =
+    let t = layoutItems (p .items) in
+    let b = transfers-built (p .items) (a .items) in
+    let few = a .items .few-octets in
+    record {
+      laid = rw (k .isData);
+      accepted =
+          record {
+            listed = a .listed;
+            new = refl;
+            long = rw (k .extent) (omega arith);
+            allowed = k .free (length t);
+            inner = λ e. (length t, b .verdict);
+          };
+      opens = λ at. rw (k .isData, b .opens) (rw (k .isData) at (a .held .own));
+      octets = and-both (isOctet (length t)) _ (lt-ltb (length t) 256 (omega arith)) (b .octets);
+      most = omega (arith, k .most);
+    }
 
-  pub part-built : (p : Part) → AllowedPart p → PartBuilt p (drop 1 (layoutPart p))
-  unfolding layoutPart
-  part-built p a = go (kind (p .header) (a .listed))
-    where
-      go : Kind (p .header) → PartBuilt p (drop 1 (layoutPart p))
-      go (octet k) = rw (k .plain, k .uncalled) (octet-built p a k)
-      go (call k) = rw (k .plain, k .called) (call-built p a k)
-      go (many k) = rw (k .isData) (data-built p a k)
+pub part-built : (p : Part) → AllowedPart p → PartBuilt p (drop 1 (layoutPart p))
+unfolding layoutPart
+part-built p a = go (kind (p .header) (a .listed))
+  where
+    go : Kind (p .header) → PartBuilt p (drop 1 (layoutPart p))
+    go (octet k) = rw (k .plain, k .uncalled) (octet-built p a k)
+    go (call k) = rw (k .plain, k .called) (call-built p a k)
+    go (many k) = rw (k .isData) (data-built p a k)

@@ -1,32 +1,19 @@
 -- An allowed record, laid out, is accepted and read as that record: each part stands as an accepted parameter, and the end mark behind
 -- them finds 01 and 06 seen.
-use Prim.Native.Nat.{ℕ, zero, suc, _+_, _*_, _≤_, _<_}
+use Prim.Native.Nat.{ℕ, zero, suc, _+_, _≤_, _<_}
 use native.Mathlib.Omega.{arith}
-use mathlib.Core.Path.{_≡_, refl, sym, ap, _∙_}
-use mathlib.Core.Bool.{Bool, true, false, cond, not, _&&_, _||_}
-use mathlib.Core.List.{List, [], _∷_, _++_, map}
+use mathlib.Core.Path.{_≡_, refl, ap, _∙_}
+use mathlib.Core.Bool.{true, false}
+use mathlib.Core.List.{List, [], _∷_, map}
 use borrow.Author.Tests.{ne-eqb, lt-ltb, le-ltb}
-use lib.Dec.{eqb, ltb}
+use lib.Dec.{ltb}
 use lib.ListN.{length, getD, drop, length-append}
-use Rattle.annex.specs.Answers.{over-limits, cut-short}
 use Rattle.annex.specs.Units.{nameOf}
-use Rattle.annex.specs.Heads.{among, end-mark, user-class, signal-kind, commonHeaders, most-octets, pliRight}
-use Rattle.annex.specs.Items.{Item, Part}
+use Rattle.annex.specs.Heads.{among, end-mark, user-class, signal-kind, most-octets}
+use Rattle.annex.specs.Items.{Part}
 use Rattle.annex.specs.Layout.{layoutPart, layout}
-use Rattle.annex.specs.Allowed.{
-  every,
-  Each,
-  timesIn,
-  isOctet,
-  lengthRight,
-  formRight,
-  digitsRight,
-  HeldItem,
-  headersOf,
-  partNamesOf,
-  Allowed,
-}
-use Rattle.annex.specs.Walk.{Seen, unseen, timesSeen, counted, Par, walk, judging, listing}
+use Rattle.annex.specs.Allowed.{every, Each, timesIn, isOctet, partNamesOf, Allowed}
+use Rattle.annex.specs.Walk.{Seen, unseen, timesSeen, counted, Par, judging, listing}
 use Rattle.annex.specs.Reading.{
   wholeIn,
   commonStep,
@@ -40,8 +27,7 @@ use Rattle.annex.specs.Reading.{
 }
 use Rattle.annex.specs.declared.Answer.the-variants.{Accepted}
 use Rattle.laws.specs.Bools.{and-both}
-use Rattle.theorems.specs.Leaves.{Closed}
-use Rattle.theorems.specs.Lists.{every-append, each-so, stands, times-here, times-rest, total, pigeons}
+use Rattle.theorems.specs.Lists.{every-append, each-so, stands, times-rest, total, pigeons}
 use Rattle.theorems.specs.Trails.{laidOut, seenBy, Trail, built, made-list, made-answer}
 use Rattle.theorems.specs.Counts.{namesIn, Full, full-unseen, full-counted, none-seen, moved, seen-times, Sparing, sparing-first}
 use Rattle.theorems.specs.Steps.{not-end, CommonOwn, common-accepts, end-accepts}
@@ -180,11 +166,10 @@ record-built r t a b =
     ap (λ (l : List Par). map openCommon (withoutEnd l)) (rw (pars-laid r 0) at (built (listing commonStep) qs unseen 0 t ∙ made-list commonStep qs unseen 0))
     ∙ each-opens r 0 a b
 
-module _ (closed : (i : Item) → HeldItem i → pliRight (i .header) ≡ true → lengthRight i ≡ true → formRight i ≡ true → digitsRight i ≡ true → Closed i) where
-  pub laid-then-read : (r : List Part) → Allowed r → (verdictOf (layout r) ≡ Accepted (length (layout r))) × (recordOf (layout r) ≡ r) × (every isOctet (layout r) ≡ true) × (length (layout r) ≤ most-octets)
-  laid-then-read r a =
-      let p = allowed-parts r a in
-      let b = each-so AllowedPart Built (part-built closed) r p in
-      let t = each-trail r unseen 0 b full-unseen (standing r a) in
-      let most = layout-most r p (allowed-once r a) b in
-      (verdict-built r t most, record-built r t p b, each-octets r p b, most)
+pub laid-then-read : (r : List Part) → Allowed r → (verdictOf (layout r) ≡ Accepted (length (layout r))) × (recordOf (layout r) ≡ r) × (every isOctet (layout r) ≡ true) × (length (layout r) ≤ most-octets)
+laid-then-read r a =
+    let p = allowed-parts r a in
+    let b = each-so AllowedPart Built part-built r p in
+    let t = each-trail r unseen 0 b full-unseen (standing r a) in
+    let most = layout-most r p (allowed-once r a) b in
+    (verdict-built r t most, record-built r t p b, each-octets r p b, most)

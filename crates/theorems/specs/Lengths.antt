@@ -1,11 +1,10 @@
 -- The length rule over any extent: the octets after a header that are its own, and the contents among them, tell one another.
-use Prim.Native.Nat.{ℕ, suc, _+_, _≤_, _<_}
+use Prim.Native.Nat.{ℕ, _≤_, _<_}
 use native.Mathlib.Omega.{arith}
-use mathlib.Core.Path.{_≡_, refl, sym, ap, _∙_}
+use mathlib.Core.Path.{_≡_, refl, sym}
 use mathlib.Core.Bool.{true}
 use mathlib.Core.List.{List, [], _∷_, _++_}
 use borrow.Author.Tests.{eqb-true, eq-eqb, leb-true, le-leb, ltb-true, lt-ltb}
-use lib.Dec.{leb, ltb}
 use lib.ListN.{length, getD}
 use Rattle.annex.specs.Units.{afterOf, leadOf, contentsIn}
 use Rattle.annex.specs.Heads.{most-transfer-octets}

@@ -1,5 +1,4 @@
 -- Theorems about the definitions of document 01: reading and layout undo one another.
-pub mod Leaves
 pub mod Lists
 pub mod Trails
 pub mod Counts

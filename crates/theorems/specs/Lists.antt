@@ -2,8 +2,8 @@
 use Prim.Native.Nat.{ℕ, zero, suc, _+_, _*_, _≤_, _<_}
 use native.Mathlib.Nat.{mul-suc, mul-le-mul-left}
 use native.Mathlib.Omega.{arith}
-use mathlib.Core.Path.{_≡_, refl, sym, ap, _∙_}
-use mathlib.Core.Bool.{Bool, true, false, cond, _&&_, _||_}
+use mathlib.Core.Path.{_≡_, refl}
+use mathlib.Core.Bool.{Bool, true, false, cond, _||_}
 use mathlib.Core.List.{List, [], _∷_, _++_, map}
 use borrow.Author.Tests.{eqb-true, eq-eqb, leb-true, le-leb}
 use lib.Dec.{eqb, leb}
@@ -69,6 +69,14 @@ among-each P (k ∷ ks) p x e = go (eqb x k) refl e (among-each P ks (p .1) x)
     go : (b : Bool) → eqb x k ≡ b → b || among x ks ≡ true → (among x ks ≡ true → P x) → P x
     go true q r f = rw (eqb-true x k q) (p .0)
     go false q r f = f r
+
+-- a test that computes to true of each is true of one that is among them
+pub among-every : (f : ℕ → Bool) (ks : List ℕ) → every f ks ≡ true → (x : ℕ) → among x ks ≡ true → f x ≡ true
+among-every f ks e x m = among-each (λ k. f k ≡ true) ks (go ks e) x m
+  where
+    go : (ks : List ℕ) → every f ks ≡ true → Each (λ k. f k ≡ true) ks
+    go [] e = tt
+    go (k ∷ ks) e = (and-left (f k) _ e, go ks (and-right (f k) _ e))
 
 -- ---- how often one stands
 

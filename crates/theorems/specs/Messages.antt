@@ -1,49 +1,24 @@
 -- A message that is accepted is an allowed record laid out: its common parameters, each of which opens to an allowed part, and the end
 -- mark behind them.
-use Prim.Native.Nat.{ℕ, zero, suc, _+_, _≤_, _<_}
+use Prim.Native.Nat.{ℕ, _+_, _≤_}
 use native.Mathlib.Omega.{arith}
 use mathlib.Core.Path.{_≡_, refl, sym, ap, _∙_}
-use mathlib.Core.Bool.{Bool, true, false, cond, not, _&&_, _||_}
+use mathlib.Core.Bool.{Bool, true, false, cond, not, _||_}
 use mathlib.Core.List.{List, [], _∷_, _++_, map, append-assoc}
-use borrow.Author.Tests.{eqb-true, ltb-true, ltb-false, not-false}
+use borrow.Author.Tests.{eqb-true, ltb-true, ltb-false, not-true, not-false}
 use lib.Dec.{eqb, ltb}
-use lib.ListN.{length, getD, length-append}
+use lib.ListN.{length, length-append}
 use Rattle.annex.specs.Answers.{over-limits, cut-short}
-use Rattle.annex.specs.Units.{nameOf, extentOf}
-use Rattle.annex.specs.Heads.{
-  among,
-  end-mark,
-  user-class,
-  signal-kind,
-  commonHeaders,
-  most-octets,
-  most-commons,
-  most-transfers,
-  most-transfer-octets,
-  pliRight,
-}
-use Rattle.annex.specs.Contents.{faultOf}
-use Rattle.annex.specs.Items.{Part}
-use Rattle.annex.specs.Layout.{layoutPart, layout}
-use Rattle.annex.specs.Allowed.{every, Each, timesIn, isOctet, lengthFits, headersOf, partNamesOf, itemsIn, Allowed}
-use Rattle.annex.specs.Walk.{Seen, unseen, timesSeen, counted, Par, walk, judging, listing}
-use Rattle.annex.specs.Reading.{
-  commonOf,
-  wholeIn,
-  commonStep,
-  commonClose,
-  messageVerdict,
-  verdictOf,
-  commonsOf,
-  openCommon,
-  withoutEnd,
-  recordOf,
-}
+use Rattle.annex.specs.Units.{nameOf}
+use Rattle.annex.specs.Heads.{among, end-mark, user-class, signal-kind, commonHeaders, most-octets}
+use Rattle.annex.specs.Layout.{layout}
+use Rattle.annex.specs.Allowed.{every, Each, isOctet, headersOf, partNamesOf, Allowed}
+use Rattle.annex.specs.Walk.{Seen, unseen, timesSeen, counted, Par, walk, listing}
+use Rattle.annex.specs.Reading.{wholeIn, commonStep, commonClose, messageVerdict, verdictOf, commonsOf, openCommon, withoutEnd, recordOf}
 use Rattle.annex.specs.declared.Answer.the-variants.{Accepted}
-use Rattle.annex.specs.declared.Fault.the-variants.{Sound}
 use Rattle.laws.specs.Bools.{and-left, and-right, or-right}
-use Rattle.theorems.specs.Leaves.{Opened}
-use Rattle.theorems.specs.Lists.{among-each, every-left, every-right, each-map}
+use Rattle.laws.specs.Steps.{passed, common-within}
+use Rattle.theorems.specs.Lists.{among-every, every-left, every-right, each-map}
 use Rattle.theorems.specs.Trails.{laidOut, seenBy, Trail, walked}
 use Rattle.theorems.specs.Counts.{
   namesIn,
@@ -57,7 +32,7 @@ use Rattle.theorems.specs.Counts.{
   sparing-cons,
   sparing-more,
 }
-use Rattle.theorems.specs.Steps.{passed, Ending, Outcome, common-accepted, common-within, CommonOwn, common-own}
+use Rattle.theorems.specs.Steps.{Ending, common-accepted, CommonOwn, common-own}
 use Rattle.theorems.specs.Commons.{AllowedPart, PartRead, part-read}
 use Rattle.theorems.specs.Records.{Once, allowed, header-stands, Within, allowed-within}
 
@@ -84,7 +59,7 @@ none-laid (q ∷ qs) e = absurd (omega arith)
 -- a parameter that a record may hold does not have the end mark's name
 other-name : (h : ℕ) → among h commonHeaders ≡ true → eqb (nameOf end-mark) (nameOf h) ≡ false
 other-name h e =
-    among-each (λ k. eqb (nameOf end-mark) (nameOf k) ≡ false) commonHeaders (refl, (refl, (refl, (refl, (refl, (refl, tt)))))) h e
+    not-true (eqb (nameOf end-mark) (nameOf h)) (among-every (λ k. not (eqb (nameOf end-mark) (nameOf k))) commonHeaders refl h e)
 
 still-unseen : (seen : Seen) (h : ℕ) → Full seen → among h commonHeaders ≡ true → timesSeen seen end-mark ≡ 0 → timesSeen (counted seen h) end-mark ≡ 0
 still-unseen seen h f l z = omega (arith, rw (other-name h l) at (counted-once seen h (nameOf end-mark) f))
@@ -120,7 +95,7 @@ pub message-read : (m : List ℕ) (n : ℕ) → verdictOf m ≡ Accepted n → M
 unfolding verdictOf messageVerdict commonsOf
 message-read m n e =
     let v = passed (eqb (length m) 0 || ltb most-octets (length m)) over-limits 0 n (messageVerdict m) e in
-    let w = walked commonStep commonClose (λ seen h xs n. common-within (timesSeen seen h) (wholeIn seen) h n xs) m unseen 0 0 n (omega arith) (v .1) in
+    let w = walked commonStep commonClose (λ seen h. common-within (timesSeen seen h) (wholeIn seen) h) m unseen 0 0 n (omega arith) (v .1) in
     let qs = walk (listing commonStep) unseen 0 0 m in
     let d = ended qs unseen 0 (0 + length m) n full-unseen refl (w .trail) (w .closes) in
     let c : Accepted (0 + length m) ≡ Accepted n = passed (not (ltb 0 (timesSeen (seenBy unseen qs) end-mark))) cut-short (0 + length m) n (Accepted (0 + length m)) (w .closes) .1 in
@@ -181,23 +156,22 @@ parts-allowed ps w r = allowed (map openCommon ps) a once (has user-class refl (
     has k l e =
         header-stands k l (map openCommon ps) a (rw (parts-named ps r) (omega (arith, ltb-true 0 (timesSeen (seenBy unseen ps) k) e, seen-times ps unseen (nameOf k) full-unseen, none-seen (nameOf k))))
 
-module _ (opened : (h : ℕ) (s : List ℕ) → h < 256 → every isOctet s ≡ true → pliRight h ≡ true → lengthFits (extentOf h) s ≡ true → faultOf h s ≡ Sound → Opened h s) where
-  each-part : (ps : List Par) (seen : Seen) → Parts seen ps → every isOctet (laidOut ps) ≡ true → Each ReadBy ps
-  unfolding laidOut
-  each-part [] seen w o = tt
-  each-part (q ∷ ps) seen w o =
-      let h = q .head in
-      let after = and-right (isOctet h) _ o in
-      (part-read opened q (timesSeen seen h) (ltb-true h 256 (and-left (isOctet h) _ o)) (every-left isOctet (q .own) _ after) (w .0), each-part ps (counted seen h) (w .1) (every-right isOctet (q .own) _ after))
+each-part : (ps : List Par) (seen : Seen) → Parts seen ps → every isOctet (laidOut ps) ≡ true → Each ReadBy ps
+unfolding laidOut
+each-part [] seen w o = tt
+each-part (q ∷ ps) seen w o =
+    let h = q .head in
+    let after = and-right (isOctet h) _ o in
+    (part-read q (timesSeen seen h) (ltb-true h 256 (and-left (isOctet h) _ o)) (every-left isOctet (q .own) _ after) (w .0), each-part ps (counted seen h) (w .1) (every-right isOctet (q .own) _ after))
 
-  pub read-then-laid : (m : List ℕ) → every isOctet m ≡ true → (n : ℕ) → verdictOf m ≡ Accepted n → (n ≡ length m) × Allowed (recordOf m) × (layout (recordOf m) ≡ m)
-  unfolding recordOf
-  read-then-laid m o n e =
-      let w = message-read m n e in
-      let ps = withoutEnd (commonsOf m) in
-      let r = each-part ps unseen (w .parts) (every-left isOctet (laidOut ps) (end-mark ∷ []) (rw (w .laid) o)) in
-      (w .length-given, parts-allowed ps (w .parts) r, parts-laid ps r ∙ w .laid)
+pub read-then-laid : (m : List ℕ) → every isOctet m ≡ true → (n : ℕ) → verdictOf m ≡ Accepted n → (n ≡ length m) × Allowed (recordOf m) × (layout (recordOf m) ≡ m)
+unfolding recordOf
+read-then-laid m o n e =
+    let w = message-read m n e in
+    let ps = withoutEnd (commonsOf m) in
+    let r = each-part ps unseen (w .parts) (every-left isOctet (laidOut ps) (end-mark ∷ []) (rw (w .laid) o)) in
+    (w .length-given, parts-allowed ps (w .parts) r, parts-laid ps r ∙ w .laid)
 
-  -- the record of an accepted message has room in the struct
-  pub read-within : (m : List ℕ) → every isOctet m ≡ true → (n : ℕ) → verdictOf m ≡ Accepted n → Within (recordOf m)
-  read-within m o n e = allowed-within (recordOf m) (read-then-laid m o n e .1)
+-- the record of an accepted message has room in the struct
+pub read-within : (m : List ℕ) → every isOctet m ≡ true → (n : ℕ) → verdictOf m ≡ Accepted n → Within (recordOf m)
+read-within m o n e = allowed-within (recordOf m) (read-then-laid m o n e .1)

@@ -1,5 +1,5 @@
 -- A record is allowed exactly if each of its parts is, none stands twice, and 01 and 06 are there. The limits on how many follow.
-use Prim.Native.Nat.{ℕ, zero, suc, _+_, _*_, _/_, _≤_, _<_}
+use Prim.Native.Nat.{ℕ, suc, _+_, _*_, _≤_, _<_}
 use native.Mathlib.Omega.{arith}
 use mathlib.Core.Path.{_≡_, refl, sym, ap, _∙_}
 use mathlib.Core.Bool.{Bool, true, false, cond, _||_}
@@ -8,49 +8,12 @@ use borrow.Author.Tests.{eqb-true, eq-eqb}
 use lib.Dec.{eqb}
 use lib.ListN.{length, getD, drop, length-append, length-map, length-drop}
 use Rattle.annex.specs.Units.{nameOf, extentOf}
-use Rattle.annex.specs.Heads.{
-  among,
-  heads,
-  freeNames,
-  isFree,
-  end-mark,
-  user-class,
-  partners-call,
-  own-call,
-  sequence,
-  signal-kind,
-  transfer-data,
-  commonHeaders,
-  most-commons,
-  most-transfers,
-  most-transfer-octets,
-  nameUsed,
-  pliRight,
-  oftenOf,
-}
-use Rattle.annex.specs.Items.{Item, Part, Holding, contentsOf, contentsBy, heldAs, numberContents}
+use Rattle.annex.specs.Heads.{among, heads, freeNames, end-mark, user-class, partners-call, own-call, sequence, signal-kind, transfer-data, commonHeaders, most-commons, most-transfers, most-transfer-octets, nameUsed, pliRight, oftenOf}
+use Rattle.annex.specs.Items.{Item, Part, Holding, contentsOf, contentsBy, heldAs}
 use Rattle.annex.specs.Items.Holding.{AsContents, AsDigits, AsNumber, AsGeneric}
 use Rattle.annex.specs.Digits.{codeOf, joined, packed}
-use Rattle.annex.specs.Layout.{ledBy, layoutItem, layoutItems}
-use Rattle.annex.specs.Allowed.{
-  every,
-  Each,
-  timesIn,
-  atMost,
-  HeldItem,
-  HeldPart,
-  lengthRight,
-  formRight,
-  digitsRight,
-  valueRight,
-  valueFits,
-  itemsIn,
-  contentsSum,
-  headersOf,
-  namesOf,
-  partNamesOf,
-  Allowed,
-}
+use Rattle.annex.specs.Layout.{layoutItem, layoutItems}
+use Rattle.annex.specs.Allowed.{every, Each, timesIn, HeldItem, HeldPart, lengthRight, formRight, digitsRight, valueRight, valueFits, itemsIn, contentsSum, headersOf, namesOf, partNamesOf, Allowed}
 use Rattle.annex.specs.Records.{valuesOf}
 use Rattle.annex.specs.declared.Alphabet.{Alphabet}
 use Rattle.annex.specs.declared.Alphabet.the-variants.{Dialled, Numbered}
@@ -61,7 +24,7 @@ use Rattle.theorems.specs.Lists.{
   each-right,
   each-every,
   each-so,
-  among-each,
+  among-every,
   times-here,
   times-rest,
   times-append,
@@ -127,7 +90,7 @@ abbrev pub commonNames : List ℕ
 commonNames = map nameOf commonHeaders
 
 common-name : (h : ℕ) → among h commonHeaders ≡ true → among (nameOf h) commonNames ≡ true
-common-name h e = among-each (λ k. among (nameOf k) commonNames ≡ true) commonHeaders (refl, (refl, (refl, (refl, (refl, (refl, tt)))))) h e
+common-name h e = among-every (λ k. among (nameOf k) commonNames) commonHeaders refl h e
 
 pub common-names : (r : List Part) → Each AllowedPart r → every (λ x. among x commonNames) (partNamesOf r) ≡ true
 common-names [] a = refl
@@ -195,7 +158,7 @@ headersByName = end-mark ∷ user-class ∷ partners-call ∷ own-call ∷ seque
 
 header-by-name : (h : ℕ) → among h commonHeaders ≡ true → getD headersByName (nameOf h) 0 ≡ h
 header-by-name h e =
-    among-each (λ k. getD headersByName (nameOf k) 0 ≡ k) commonHeaders (refl, (refl, (refl, (refl, (refl, (refl, tt)))))) h e
+    eqb-true (getD headersByName (nameOf h) 0) h (among-every (λ k. eqb (getD headersByName (nameOf k) 0) k) commonHeaders refl h e)
 
 same-header : (k h : ℕ) → among k commonHeaders ≡ true → among h commonHeaders ≡ true → nameOf k ≡ nameOf h → k ≡ h
 same-header k h l m e = sym (header-by-name k l) ∙ ap (λ (x : ℕ). getD headersByName x 0) e ∙ header-by-name h m
@@ -333,8 +296,8 @@ allowed-once r a = at-most (λ x. 1) (partNamesOf r) (a .once)
 
 -- an allowed record has room in the struct
 pub record Within (r : List Part) : Type 0 where
-  pub commons : length r ≤ 6
-  pub transfers : length (itemsIn r) ≤ 52
+  pub commons : length r ≤ most-commons
+  pub transfers : length (itemsIn r) ≤ most-transfers
   pub values : length (valuesOf (itemsIn r)) ≤ 512
 
 pub allowed-within : (r : List Part) → Allowed r → Within r

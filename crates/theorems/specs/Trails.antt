@@ -5,7 +5,7 @@ use native.Mathlib.Omega.{arith}
 use native.Mathlib.Nat.{add-zero}
 use mathlib.Core.Path.{_≡_, refl, sym, ap, _∙_}
 use mathlib.Core.List.{List, [], _∷_, _++_}
-use lib.ListN.{length, take, drop, length-append}
+use lib.ListN.{length, take, length-append}
 use lib.Seq.{length-take-le, take-append-seam, drop-append-seam}
 use Rattle.annex.specs.Walk.{Seen, counted, Par, Step, Walker, byStep, walk, judging, listing}
 use Rattle.annex.specs.declared.Answer.{Answer}
