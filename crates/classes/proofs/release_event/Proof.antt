@@ -1,0 +1,26 @@
+-- `release_event` meets its contract: over the numbers of each arm the class is computed.
+use mathlib.Core.List.{[], _∷_}
+use native.Mathlib.Omega.{arith}
+use Rattle.annex.specs.Answers.{bad-form}
+use Rattle.annex.specs.Heads.{zeroesOf}
+use Rattle.annex.specs.Classes.{classOf}
+use Rattle.annex.specs.declared.Class.the-variants.{Named, Spare}
+use Rattle.annex.specs.declared.ClassAnswer.the-variants.{Is, Refused}
+use Rattle.classes.proofs.Arms.{at-keys, in-range}
+use Rattle.classes.proofs.release_event.Statement.{statement}
+use Rattle.classes.proofs.release_event.Tie as tie
+
+returns : tie.Need-returns
+unfolding classOf zeroesOf
+returns c = at-keys 0x42 (Is Spare) (7 ∷ []) tt _ (c .match .keys1)
+
+returns-2 : tie.Need-returns-2
+unfolding classOf zeroesOf
+returns-2 c = in-range 0x42 (Is Named) ((7 ∷ []) ∷ []) 0 16 tt _ (c .before .match .rest) (omega arith) (omega arith)
+
+returns-3 : tie.Need-returns-3
+unfolding classOf zeroesOf
+returns-3 c = in-range 0x42 (Refused bad-form 0) [] 16 240 tt (c .before .before .args .octet) tt (omega arith) (omega arith)
+
+pub release-event-spec : {M : Type 1} → statement M
+release-event-spec = tie.close (tie.spec returns returns-2 returns-3)
