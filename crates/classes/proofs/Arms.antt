@@ -17,6 +17,7 @@ use Rattle.annex.specs.declared.ClassAnswer.the-variants.{Is, Refused}
 use Rattle.laws.specs.Bools.{T-true, true-T, and-left, and-right}
 use Rattle.laws.specs.Octet.{all, allOf, amongAny, None, range, span-by, one-of-by}
 
+-- the two classes are one
 abbrev sameClass : Class → Class → Bool
 sameClass a b = eqb (classValueOf a) (classValueOf b)
 
@@ -31,6 +32,7 @@ same-class Spare Named t = absurd t
 same-class Spare HeldBack t = absurd t
 same-class Spare Spare t = refl
 
+-- and the two answers
 abbrev pub sameAnswer : ClassAnswer → ClassAnswer → Bool
 sameAnswer (Is a) (Is b) = sameClass a b
 sameAnswer (Is a) (Refused l q) = false
@@ -63,11 +65,12 @@ in-halves h v hi m lo n t x p q r s =
     (range (λ b. sameAnswer v (classOf h (x / 16 * 16 + b))) lo n
     (range (λ a. all (λ b. sameAnswer v (classOf h (a * 16 + b))) lo n) hi m t (x / 16) p q) (x % 16) r s))
 
--- 17 if unlisted
+-- the headers of the lists
 abbrev pub listed : List ClassList → List ℕ
 listed [] = []
 listed (l ∷ ls) = l .header ∷ listed ls
 
+-- "17 if unlisted"
 pub unlisted : (ls : List ClassList) (h x : ℕ) → T (not (among h (listed ls))) → Refused no-class-list 0 ≡ classIn ls h x
 unlisted [] h x t = refl
 unlisted (l ∷ ls) h x t = go (eqb h (l .header)) t (unlisted ls h x)

@@ -22,6 +22,7 @@ tested : (x : ℕ) → x < 256 → T (not (clear 0x30 x) || sameAnswer (classOf 
 unfolding classOf zeroesOf
 tested x l = range (λ k. not (clear 0x30 k) || sameAnswer (classOf 0x52 (k % 16)) (classOf 0x52 k)) 0 256 tt x (omega arith) (omega arith)
 
+-- bits 7-6 are not looked at
 low : (x : ℕ) → x < 256 → bitAnd x 0x30 ≡ 0 → classOf 0x52 (x % 16) ≡ classOf 0x52 x
 low x l e = same-answer _ _ (rw (eq-eqb (bitAnd x 0x30) 0 e) at (tested x l))
 

@@ -27,10 +27,12 @@ number-types : (x : ℕ) → classOf 0xD7 x ≡ classOf 0xDC x
 unfolding classOf zeroesOf
 number-types x = refl
 
+-- an arm of two headers
 one-of-two : (a b : ℕ) → ((x : ℕ) → classOf a x ≡ classOf b x) → {h : ℕ} → (h ≡ a) ⊎ (h ≡ b) → (x : ℕ) → classOf a x ≡ classOf h x
 one-of-two a b e (inl p) x = rw p
 one-of-two a b e (inr p) x = rw p (e x)
 
+-- two headers in a row are a range
 next-or-it : (a : ℕ) {h : ℕ} → a ≤ h → h < a + 2 → (h ≡ a) ⊎ (h ≡ a + 1)
 next-or-it a {h} p q = elim (eq-or-lt-of-le p) [ inl e ↦ inl (sym e) | inr l ↦ inr (omega arith) ]
 
@@ -40,6 +42,7 @@ arms =
     (0xD7 ∷ 0xDC ∷ []) ∷ (0x7E ∷ []) ∷ (0x7C ∷ []) ∷ (0x75 ∷ []) ∷ (0x6F ∷ []) ∷ (0x6E ∷ []) ∷ (0x68 ∷ []) ∷ (0x67 ∷ []) ∷ (0x52 ∷ []) ∷
     (0x46 ∷ []) ∷ (0x42 ∷ []) ∷ []
 
+-- a header of no arm
 none-of : (lo n h x : ℕ) → T (all (λ k. amongAny k arms || not (among k (listed classLists))) lo n) → None arms h → lo ≤ h → h < lo + n → Refused no-class-list 0 ≡ classOf h x
 unfolding classOf
 none-of lo n h x t r p q = unlisted classLists h x (rest (λ k. not (among k (listed classLists))) arms lo n t h r p q)

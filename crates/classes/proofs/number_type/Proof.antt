@@ -12,6 +12,7 @@ use Rattle.classes.proofs.Arms.{sameAnswer, same-answer, at-keys, in-ra
 use Rattle.classes.proofs.number_type.Statement.{statement}
 use Rattle.classes.proofs.number_type.Tie as tie
 
+-- bit 7 is not looked at
 low : (x : ℕ) → x < 256 → classOf 0xD7 (x % 128) ≡ classOf 0xD7 x
 unfolding classOf zeroesOf
 low x l = same-answer _ _ (range (λ k. sameAnswer (classOf 0xD7 (k % 128)) (classOf 0xD7 k)) 0 256 tt x (omega arith) (omega arith))
