@@ -17,3 +17,4 @@ pub mod Leaves
 pub mod Walks
 pub mod Steps
 pub mod Plain
+pub mod Filling

@@ -1,3 +1,4 @@
 // Reading: the verdict of a message, its record, finding contents, and the rows of a listing.
 pub mod common;
+pub mod reading;
 pub mod verdict;

@@ -1,0 +1,71 @@
+-- A record's struct with the parameters of transfer data put in.
+use mathlib.Core.Path.{_≡_, refl, sym, _∙_}
+use mathlib.Core.List.{List, [], _∷_, _++_, map}
+use Prim.Native.Nat.{ℕ, suc, _+_, _-_, _≤_, _<_}
+use native.Mathlib.Omega.{arith}
+use lib.ListN.{length, getD, set, take, drop, length-drop, length-append}
+use lib.Seq.{sets, getD-drop, drop-drop}
+use Rattle.annex.specs.Units.{afterOf, leadOf, extentOf, contentsIn}
+use Rattle.annex.specs.Items.{Item, itemOf}
+use Rattle.annex.specs.Records.{headOf, valuesOf}
+use Rattle.annex.specs.Reading.{openTransfer}
+use Rattle.annex.specs.declared.Record.{Record}
+use Rattle.laws.specs.Parts.{from-to}
+use Rattle.laws.specs.Plain.{pars, transferSize, pars-end, pars-cut, pars-turn}
+use Rattle.laws.specs.Filling.{withItems, items-turn}
+use Rattle.reader.specs.declared.reading.Filled.{Filled}
+
+-- the parameters of transfer data, by the length rule alone
+abbrev pub itemsFrom : List ℕ → List Item
+itemsFrom t = map openTransfer (pars transferSize 0 0 t)
+
+abbrev pub filledWith : Record → List Item → ℕ → ℕ → Filled
+filledWith q is k used = record { held = withItems q is k used; transfers = k + length is; used = used + length (valuesOf is) }
+
+-- those from the octet i on
+abbrev pub itemsAt : List ℕ → ℕ → List Item
+itemsAt t i = map openTransfer (pars transferSize 0 i (drop i t))
+
+-- ---- one turn of filling
+
+size-at : (t : List ℕ) (i x : ℕ) → x ≡ getD t (i + 1) 0 → afterOf (extentOf (getD t i 0)) x ≡ transferSize (getD t i 0) (drop (i + 1) t)
+size-at t i x e =
+    let z : i + 1 + 0 ≡ i + 1 = omega arith in
+    rw (e, getD-drop (i + 1) t 0 0, z)
+
+module _ (t : List ℕ) (i x : ℕ) (inside : i < length t) (next : x ≡ getD t (i + 1) 0) where
+  -- a parameter that is cut ends them
+  pub items-cut : length t - (i + 1) < afterOf (extentOf (getD t i 0)) x → itemsAt t i ≡ []
+  items-cut h =
+      rw (pars-cut transferSize i i t inside (rw (← size-at t i x next, length-drop) h))
+
+  -- a whole one comes first: its contents are the part from start to end
+  pub items-more : (n l : ℕ) → n ≡ afterOf (extentOf (getD t i 0)) x → n ≤ length t - (i + 1) → l ≡ leadOf (extentOf (getD t i 0)) → itemsAt t i ≡ itemOf (getD t i 0) (take (i + 1 + n - (i + 1 + l)) (drop (i + 1 + l) t)) ∷ itemsAt t (i + 1 + n)
+  items-more n l e h k =
+      let c : contentsIn (extentOf (getD t i 0)) (take n (drop (i + 1) t)) ≡ take (i + 1 + n - (i + 1 + l)) (drop (i + 1 + l) t) = part n l k in
+      rw (pars-turn transferSize i (i + 1 + n) i n t inside (e ∙ size-at t i x next) (rw length-drop h) refl, c)
+    where
+      part : (n l : ℕ) → l ≡ leadOf (extentOf (getD t i 0)) → contentsIn (extentOf (getD t i 0)) (take n (drop (i + 1) t)) ≡ take (i + 1 + n - (i + 1 + l)) (drop (i + 1 + l) t)
+      part n l k =
+          let a : i + 1 + n - (i + 1 + l) ≡ n - l = omega arith in
+          rw (← k, a, ← drop-drop l (i + 1) t) (sym (from-to l n (drop (i + 1) t)))
+
+-- the struct with one parameter put in
+pub filled-turn : (q : Record) (x : Item) (is : List Item) (k used : ℕ) → filledWith q (x ∷ is) k used ≡ filledWith (record { commons = q .commons; common = q .common; transfer = set (q .transfer) k (headOf x); values = sets (q .values) used (x .values) }) is (k + 1) (used + length (x .values))
+unfolding valuesOf
+filled-turn q x is k used =
+    let held = items-turn q x is k used in
+    let ek : k + suc (length is) ≡ k + 1 + length is = omega arith in
+    let eu : used + length (x .values ++ valuesOf is) ≡ used + length (x .values) + length (valuesOf is) = omega (arith, length-append (x .values) (valuesOf is)) in
+    λ j. record { held = held j; transfers = ek j; used = eu j }
+
+-- nothing more to put in
+pub items-end : (t : List ℕ) (i : ℕ) → length t ≤ i → itemsAt t i ≡ []
+items-end t i h = rw (pars-end transferSize i i t h)
+
+pub filled-end : (q : Record) (is : List Item) (k used : ℕ) → is ≡ [] → filledWith q is k used ≡ record { held = q; transfers = k; used = used }
+unfolding valuesOf
+filled-end q is k used e =
+    let ek : k + 0 ≡ k = omega arith in
+    let eu : used + 0 ≡ used = omega arith in
+    rw e (λ j. record { held = q; transfers = ek j; used = eu j })

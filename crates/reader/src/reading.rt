@@ -1,0 +1,108 @@
+// Reading a message to its record: the verdict, and where it is accepted the record, filled parameter by parameter.
+use super::verdict::verdict;
+use annex::Answer;
+use annex::Common;
+use annex::Reading;
+use annex::Record;
+use annex::Transfer;
+use parameter::contents::octet_at;
+use parameter::opening::open;
+use parameter::units::common_extent_of;
+use parameter::units::extent_of;
+use parameter::units::lead;
+use parameter::units::octets_after;
+ghost use mathlib.Core.Path.{_≡_};
+ghost use Prim.Native.Nat.{ℕ, _+_, _≤_};
+ghost use lib.ListN.{length};
+ghost use Rattle.annex.specs.Heads.{isCall};
+ghost use Rattle.annex.specs.Reading.{callNumber};
+ghost use Rattle.annex.specs.Records.{valuesOf, pack};
+ghost use Rattle.annex.specs.Promises.{ReadPromise};
+ghost use Rattle.laws.specs.Filling.{emptyRecord, partHead};
+ghost use Rattle.reader.specs.Filling.{itemsFrom, filledWith};
+
+// A record's struct, and how many of its transfer places and values are taken.
+struct Filled {
+    held: Record,
+    transfers: usize,
+    used: usize,
+}
+
+// The record of a refused message.
+pub fn empty() -> Record
+    ensures { λ r. ⌜ r ≡ emptyRecord ⌝ }
+{
+    let c = Common::none();
+    let t = Transfer::none();
+    Record {
+        commons: 0,
+        common: [c; Common::MOST],
+        transfer: [t; Transfer::MOST],
+        values: [0u8; Transfer::MOST_VALUES],
+    }
+}
+
+// Whether a common parameter is a call number.
+pub fn is_call(header: u8) -> bool
+    ensures { λ r. ⌜ r ≡ isCall header ⌝ }
+{
+    if header == Common::PARTNERS_CALL {
+        return true;
+    }
+    header == Common::OWN_CALL
+}
+
+// A call number of 24 bits, least octet first.
+pub fn call_value(own: &[u8]) -> u32
+    ensures { λ r. ⌜ r ≡ callNumber (now (own .entry)) ⌝ }
+{
+    let low = octet_at(own, 0) as u32;
+    let middle = octet_at(own, 1) as u32;
+    let high = octet_at(own, 2) as u32;
+    low + 256 * middle + 65536 * high
+}
+
+// The head of a common parameter with these octets of its own; a C5's has so many transfer parameters.
+pub fn part_head(header: u8, own: &[u8], transfers: u8) -> Common
+    ensures { λ r. ⌜ r ≡ partHead header (now (own .entry)) transfers ⌝ }
+{
+    if header == Common::TRANSFER_DATA {
+        return Common::transfer_data(transfers);
+    }
+    if is_call(header) {
+        return Common::call_number(header, call_value(own));
+    }
+    Common::octet(header, octet_at(own, 0))
+}
+
+// The parameters of the transfer data t, put into the struct behind those that it has.
+fn with_transfers(begun: Record, t: &[u8], transfers: usize, taken: usize) -> Filled
+    requires { ⌜ (transfers + length (itemsFrom (now t)) ≤ 52) × (taken + length (valuesOf (itemsFrom (now t))) ≤ 512) ⌝ }
+    ensures { λ r. ⌜ r ≡ filledWith begun (itemsFrom (now (t .entry))) transfers taken ⌝ }
+{
+    let mut q = begun;
+    let mut k = transfers;
+    let mut used = taken;
+    let mut i = 0;
+    while i < t.len() {
+        let h = t[i];
+        let from = i + 1;
+        let e = extent_of(h);
+        let n = octets_after(e, octet_at(t, from));
+        if t.len() - from < n {
+            break;
+        }
+        let to = from + n;
+        let start = from + lead(e);
+        let x = open(h, &t[start..to], &mut q.values, used);
+        q.transfer[k] = x;
+        k += 1;
+        used += x.len as usize;
+        i = to;
+    }
+    Filled {
+        held: q,
+        transfers: k,
+        used: used,
+    }
+}
