@@ -96,7 +96,7 @@ items-turn q i is k used =
     let ev : sets (q .values) used (i .values ++ valuesOf is) ≡ sets (sets (q .values) used (i .values)) (used + length (i .values)) (valuesOf is) = sets-append (i .values) (valuesOf is) (q .values) used in
     λ j. record { commons = q .commons; common = q .common; transfer = et j; values = ev j }
 
-values-append : (is js : List Item) → valuesOf (is ++ js) ≡ valuesOf is ++ valuesOf js
+pub values-append : (is js : List Item) → valuesOf (is ++ js) ≡ valuesOf is ++ valuesOf js
 unfolding valuesOf
 values-append [] js = refl
 values-append (i ∷ is) js = rw (values-append is js, append-assoc)
@@ -124,21 +124,7 @@ abbrev pub partHead : ℕ → List ℕ → ℕ → Common
 partHead h own n =
     cond (eqb h transfer-data) (dataHead n) (cond (isCall h) (callHead h (callNumber own)) (octetHead h (getD own 0 0)))
 
-kinds : (a b : Bool) (h v w : ℕ) (is : List Item) → commonHeadOf (cond a (record { header = h; value = 0; items = is }) (cond b (record { header = h; value = v; items = [] }) (record { header = h; value = w; items = [] }))) ≡ cond a (record { header = h; value = 0; transfers = length is }) (cond b (callHead h v) (octetHead h w))
-kinds true b h v w is = refl
-kinds false true h v w is = refl
-kinds false false h v w is = refl
-
--- a C5's has as many transfer parameters as it holds
-pub head-opened : (q : Par) → commonHeadOf (openCommon q) ≡ partHead (q .head) (q .own) (length (map openTransfer (transfersOf (dataIn q))))
-unfolding openCommon
-head-opened q =
-    kinds (eqb (q .head) transfer-data) (isCall (q .head)) (q .head) (callNumber (q .own)) (getD (q .own) 0 0) (map openTransfer (transfersOf (dataIn q)))
-    ∙ same (eqb (q .head) transfer-data) refl
-  where
-    same : (a : Bool) → eqb (q .head) transfer-data ≡ a → cond a (record { header = q .head; value = 0; transfers = length (map openTransfer (transfersOf (dataIn q))) }) (cond (isCall (q .head)) (callHead (q .head) (callNumber (q .own))) (octetHead (q .head) (getD (q .own) 0 0))) ≡ cond a (dataHead (length (map openTransfer (transfersOf (dataIn q))))) (cond (isCall (q .head)) (callHead (q .head) (callNumber (q .own))) (octetHead (q .head) (getD (q .own) 0 0)))
-    same true e = ap (λ (h : ℕ). record { header = h; value = 0; transfers = length (map openTransfer (transfersOf (dataIn q))) }) (eqb-true (q .head) transfer-data e)
-    same false e = refl
+-- ---- a common parameter opened
 
 items-of : (a b : Bool) (h v w : ℕ) (is : List Item) → cond {A = Part} a (record { header = h; value = 0; items = is }) (cond b (record { header = h; value = v; items = [] }) (record { header = h; value = w; items = [] })) .items ≡ cond a is []
 items-of true b h v w is = refl
@@ -149,3 +135,20 @@ pub items-opened : (q : Par) → openCommon q .items ≡ cond (eqb (q .head) tra
 unfolding openCommon
 items-opened q =
     items-of (eqb (q .head) transfer-data) (isCall (q .head)) (q .head) (callNumber (q .own)) (getD (q .own) 0 0) (map openTransfer (transfersOf (dataIn q)))
+
+-- the head of what it opens to: a C5's has as many transfer parameters as it holds
+pub head-opened : (q : Par) → commonHeadOf (openCommon q) ≡ partHead (q .head) (q .own) (length (openCommon q .items))
+unfolding openCommon
+head-opened q = by (eqb (q .head) transfer-data) refl (isCall (q .head))
+  where
+    is : List Item
+    is = map openTransfer (transfersOf (dataIn q))
+
+    by : (a : Bool) → eqb (q .head) transfer-data ≡ a → (b : Bool) → commonHeadOf (cond a (record { header = q .head; value = 0; items = is }) (cond b (record { header = q .head; value = callNumber (q .own); items = [] }) (record { header = q .head; value = getD (q .own) 0 0; items = [] }))) ≡ cond a (dataHead (length (cond {A = Part} a (record { header = q .head; value = 0; items = is }) (cond b (record { header = q .head; value = callNumber (q .own); items = [] }) (record { header = q .head; value = getD (q .own) 0 0; items = [] })) .items))) (cond b (callHead (q .head) (callNumber (q .own))) (octetHead (q .head) (getD (q .own) 0 0)))
+    by true e b = ap (λ (h : ℕ). record { header = h; value = 0; transfers = length is }) (eqb-true (q .head) transfer-data e)
+    by false e true = refl
+    by false e false = refl
+
+-- one common parameter put in, its own parameters of C5 before it
+pub part-put : (q q′ : Record) (k used : ℕ) (p : Part) (ps : List Part) (c : Common) → q′ ≡ withItems q (p .items) k used → c ≡ commonHeadOf p → withParts q (p ∷ ps) k used ≡ withParts (record { commons = q′ .commons + 1; common = set (q′ .common) (q′ .commons) c; transfer = q′ .transfer; values = q′ .values }) ps (k + length (p .items)) (used + length (valuesOf (p .items)))
+part-put q q′ k used p ps c e f = rw (e, f) (parts-turn q p ps k used)

@@ -184,7 +184,7 @@ commons-plain m q e =
     message-plain m q (passed (eqb (length m) 0 || ltb most-octets (length m)) over-limits 0 q (messageVerdict m) e .1)
 
 -- the transfer data of an accepted message is accepted
-pub InnerSound : Par → Type 0
+unfoldable pub InnerSound : Par → Type 0
 InnerSound q = q .head ≡ transfer-data → (k : ℕ) × (transfersVerdict (dataIn q) ≡ Accepted k)
 
 common-inner : (seen : Seen) (p h : ℕ) (xs : List ℕ) (n : ℕ) → commonStep seen h xs ≡ Accepted n → InnerSound (parOf p h n xs)

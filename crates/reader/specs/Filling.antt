@@ -1,18 +1,22 @@
 -- A record's struct with the parameters of transfer data put in.
-use mathlib.Core.Path.{_≡_, refl, sym, _∙_}
+use mathlib.Core.Path.{_≡_, refl, sym, ap, _∙_}
 use mathlib.Core.List.{List, [], _∷_, _++_, map}
 use Prim.Native.Nat.{ℕ, suc, _+_, _-_, _≤_, _<_}
 use native.Mathlib.Omega.{arith}
 use lib.ListN.{length, getD, set, take, drop, length-drop, length-append}
 use lib.Seq.{sets, getD-drop, drop-drop}
-use Rattle.annex.specs.Units.{afterOf, leadOf, extentOf, contentsIn}
-use Rattle.annex.specs.Items.{Item, itemOf}
+use borrow.Author.Tests.{eq-eqb, ne-eqb}
+use Rattle.annex.specs.Units.{afterOf, leadOf, extentOf, commonExtentOf, contentsIn}
+use Rattle.annex.specs.Heads.{end-mark, transfer-data}
+use Rattle.annex.specs.Walk.{Par}
+use Rattle.annex.specs.Items.{Item, Part, itemOf}
 use Rattle.annex.specs.Records.{headOf, valuesOf}
-use Rattle.annex.specs.Reading.{openTransfer}
+use Rattle.annex.specs.Reading.{openTransfer, openCommon, withoutEnd, dataIn}
 use Rattle.annex.specs.declared.Record.{Record}
 use Rattle.laws.specs.Parts.{from-to}
-use Rattle.laws.specs.Plain.{pars, transferSize, pars-end, pars-cut, pars-turn}
-use Rattle.laws.specs.Filling.{withItems, items-turn}
+use Rattle.laws.specs.Plain.{pars, transferSize, commonSize, pars-end, pars-cut, pars-turn, InnerSound, transfers-plain}
+use Rattle.laws.specs.Steps.{data-part}
+use Rattle.laws.specs.Filling.{withItems, items-turn, items-opened}
 use Rattle.reader.specs.declared.reading.Filled.{Filled}
 
 -- the parameters of transfer data, by the length rule alone
@@ -69,3 +73,62 @@ filled-end q is k used e =
     let ek : k + 0 ≡ k = omega arith in
     let eu : used + 0 ≡ used = omega arith in
     rw e (λ j. record { held = q; transfers = ek j; used = eu j })
+
+-- ---- the common parameters of a message, from the octet i on, without end mark
+
+abbrev pub parsAt : List ℕ → ℕ → List Par
+parsAt m i = pars commonSize 0 i (drop i m)
+
+abbrev pub partsAt : List ℕ → ℕ → List Part
+partsAt m i = map openCommon (withoutEnd (parsAt m i))
+
+abbrev pub parAt : List ℕ → ℕ → ℕ → Par
+parAt m i n = record { place = i; head = getD m i 0; own = take n (drop (i + 1) m) }
+
+common-size-at : (m : List ℕ) (i x : ℕ) → x ≡ getD m (i + 1) 0 → afterOf (commonExtentOf (getD m i 0)) x ≡ commonSize (getD m i 0) (drop (i + 1) m)
+common-size-at m i x e =
+    let z : i + 1 + 0 ≡ i + 1 = omega arith in
+    rw (e, getD-drop (i + 1) m 0 0, z)
+
+pub parts-end : (m : List ℕ) (i : ℕ) → length m ≤ i → partsAt m i ≡ []
+parts-end m i h = rw (pars-end commonSize i i m h)
+
+module _ (m : List ℕ) (i : ℕ) (inside : i < length m) where
+  -- the end mark has nothing of its own
+  pub pars-mark : getD m i 0 ≡ end-mark → parsAt m i ≡ parAt m i 0 ∷ parsAt m (i + 1)
+  unfolding commonExtentOf afterOf
+  pars-mark e =
+      let z : i + 1 + 0 ≡ i + 1 = omega arith in
+      rw z at (pars-turn commonSize i (i + 1) i 0 m inside (rw e) (omega arith) z)
+
+  pub parts-mark : getD m i 0 ≡ end-mark → partsAt m i ≡ partsAt m (i + 1)
+  parts-mark e = rw (pars-mark e, e)
+
+  module _ (x : ℕ) (next : x ≡ getD m (i + 1) 0) where
+    pub parts-cut : length m - (i + 1) < afterOf (commonExtentOf (getD m i 0)) x → partsAt m i ≡ []
+    parts-cut h = rw (pars-cut commonSize i i m inside (rw (← common-size-at m i x next, length-drop) h))
+
+    pub pars-more : (n : ℕ) → n ≡ afterOf (commonExtentOf (getD m i 0)) x → n ≤ length m - (i + 1) → parsAt m i ≡ parAt m i n ∷ parsAt m (i + 1 + n)
+    pars-more n e h =
+        pars-turn commonSize i (i + 1 + n) i n m inside (e ∙ common-size-at m i x next) (rw length-drop h) refl
+
+    pub parts-more : (n : ℕ) → n ≡ afterOf (commonExtentOf (getD m i 0)) x → n ≤ length m - (i + 1) → (getD m i 0 ≡ end-mark → ⊥) → partsAt m i ≡ openCommon (parAt m i n) ∷ partsAt m (i + 1 + n)
+    parts-more n e h u = rw (pars-more n e h, ne-eqb (getD m i 0) end-mark u)
+
+-- the parts that the code hands on: a parameter's own octets, and C5's behind its length octet
+pub own-part : (m : List ℕ) (i n : ℕ) → take (i + 1 + n - (i + 1)) (drop (i + 1) m) ≡ parAt m i n .own
+own-part m i n = let e : i + 1 + n - (i + 1) ≡ n = omega arith in rw e
+
+pub data-is : (m : List ℕ) (i n : ℕ) → take (i + 1 + n - (i + 1 + 1)) (drop (i + 1 + 1) m) ≡ dataIn (parAt m i n)
+data-is m i n =
+    let a : i + 1 + n - (i + 1 + 1) ≡ n - 1 = omega arith in
+    rw (data-part n (drop (i + 1) m), a, ← drop-drop 1 (i + 1) m)
+
+-- what a C5 opens to, where its transfer data is accepted, and what another parameter does
+pub data-items : (q : Par) → q .head ≡ transfer-data → InnerSound q → openCommon q .items ≡ itemsFrom (dataIn q)
+unfolding InnerSound
+data-items q e s =
+    items-opened q ∙ rw (eq-eqb (q .head) transfer-data e) (ap (λ (l : List Par). map openTransfer l) (transfers-plain (dataIn q) (s e .0) (s e .1)))
+
+pub other-items : (q : Par) → (q .head ≡ transfer-data → ⊥) → openCommon q .items ≡ []
+other-items q u = items-opened q ∙ rw (ne-eqb (q .head) transfer-data u)

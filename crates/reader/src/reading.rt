@@ -15,7 +15,8 @@ ghost use mathlib.Core.Path.{_≡_};
 ghost use Prim.Native.Nat.{ℕ, _+_, _≤_};
 ghost use lib.ListN.{length};
 ghost use Rattle.annex.specs.Heads.{isCall};
-ghost use Rattle.annex.specs.Reading.{callNumber};
+ghost use Rattle.annex.specs.Reading.{callNumber, verdictOf, recordOf};
+ghost use Rattle.annex.specs.declared.Answer.the-variants.{Accepted};
 ghost use Rattle.annex.specs.Records.{valuesOf, pack};
 ghost use Rattle.annex.specs.Promises.{ReadPromise};
 ghost use Rattle.laws.specs.Filling.{emptyRecord, partHead};
@@ -104,5 +105,62 @@ fn with_transfers(begun: Record, t: &[u8], transfers: usize, taken: usize) -> Fi
         held: q,
         transfers: k,
         used: used,
+    }
+}
+
+// The record of an accepted message.
+fn fill(m: &[u8]) -> Record
+    requires { ⌜ verdictOf (now m) ≡ Accepted (length (now m)) ⌝ }
+    ensures { λ r. ⌜ r ≡ pack (recordOf (now (m .entry))) ⌝ }
+{
+    let mut q = empty();
+    let mut transfers: usize = 0;
+    let mut used: usize = 0;
+    let mut i = 0;
+    while i < m.len() {
+        let h = m[i];
+        let from = i + 1;
+        if h == Common::END_MARK {
+            i = from;
+            continue;
+        }
+        let n = octets_after(common_extent_of(h), octet_at(m, from));
+        if m.len() - from < n {
+            break;
+        }
+        let to = from + n;
+        let before = transfers;
+        if h == Common::TRANSFER_DATA {
+            let start = from + 1;
+            let f = with_transfers(q, &m[start..to], transfers, used);
+            q = f.held;
+            transfers = f.transfers;
+            used = f.used;
+        }
+        let c = part_head(h, &m[from..to], (transfers - before) as u8);
+        let k = q.commons as usize;
+        q.common[k] = c;
+        q.commons = (k + 1) as u8;
+        i = to;
+    }
+    q
+}
+
+// The record of a message, with the verdict beside it; where refused, the empty record.
+pub fn read(m: &[u8]) -> Reading
+    ensures { λ r. ⌜ ReadPromise (now (m .entry)) r ⌝ }
+{
+    let a = verdict(m);
+    let Answer::Accepted(_) = a else {
+        let none = empty();
+        return Reading {
+            answer: a,
+            record: none,
+        };
+    };
+    let held = fill(m);
+    Reading {
+        answer: a,
+        record: held,
     }
 }

@@ -1,0 +1,3 @@
+-- Laws of this crate's loops, each turn without the code.
+pub mod Turns
+pub mod Octets
