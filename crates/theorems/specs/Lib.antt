@@ -1,4 +1,4 @@
--- Theorems about the definitions of document 01: reading and layout undo one another.
+-- Theorems about the definitions of document 01: reading and layout undo one another, and so do the record and the struct.
 pub mod Lists
 pub mod Trails
 pub mod Counts
@@ -10,3 +10,4 @@ pub mod Records
 pub mod Messages
 pub mod Layouts
 pub mod Rounds
+pub mod Views

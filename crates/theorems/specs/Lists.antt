@@ -7,7 +7,7 @@ use mathlib.Core.Bool.{Bool, true, false, cond, _||_}
 use mathlib.Core.List.{List, [], _∷_, _++_, map}
 use borrow.Author.Tests.{eqb-true, eq-eqb, leb-true, le-leb}
 use lib.Dec.{eqb, leb}
-use lib.ListN.{length, drop}
+use lib.ListN.{length, take, drop}
 use Rattle.annex.specs.Heads.{among}
 use Rattle.annex.specs.Allowed.{every, Each, timesIn, atMost}
 use Rattle.laws.specs.Bools.{and-left, and-right, and-both}
@@ -31,6 +31,11 @@ module _ {A : Type 0} (f : A → Bool) where
   every-drop (suc n) [] p = p
   every-drop (suc n) (x ∷ xs) p = every-drop n xs (and-right (f x) _ p)
 
+  pub every-take : (n : ℕ) (xs : List A) → every f xs ≡ true → every f (take n xs) ≡ true
+  every-take zero xs p = refl
+  every-take (suc n) [] p = p
+  every-take (suc n) (x ∷ xs) p = and-both (f x) _ (and-left (f x) _ p) (every-take n xs (and-right (f x) _ p))
+
   pub every-all : (xs : List A) → ((x : A) → f x ≡ true) → every f xs ≡ true
   every-all [] h = refl
   every-all (x ∷ xs) h = and-both (f x) _ (h x) (every-all xs h)
@@ -47,6 +52,16 @@ module _ {A : Type 0} (P : A → Type 0) where
   pub each-right : (xs ys : List A) → Each P (xs ++ ys) → Each P ys
   each-right [] ys p = p
   each-right (x ∷ xs) ys p = each-right xs ys (p .1)
+
+  pub each-drop : (n : ℕ) (xs : List A) → Each P xs → Each P (drop n xs)
+  each-drop zero xs p = p
+  each-drop (suc n) [] p = p
+  each-drop (suc n) (x ∷ xs) p = each-drop n xs (p .1)
+
+  pub each-take : (n : ℕ) (xs : List A) → Each P xs → Each P (take n xs)
+  each-take zero xs p = tt
+  each-take (suc n) [] p = p
+  each-take (suc n) (x ∷ xs) p = (p .0, each-take n xs (p .1))
 
   -- what holds of each, as a test of each
   pub each-every : (f : A → Bool) → ((x : A) → P x → f x ≡ true) → (xs : List A) → Each P xs → every f xs ≡ true
