@@ -50,6 +50,10 @@ pub passed : (b : Bool) (k p n : ℕ) (a : Answer) → refuse b k p a ≡ Accept
 passed true k p n a e = absurd (let z : _≡_ {A = ℕ} 0 1 = cc in omega arith)
 passed false k p n a e = (refl, e)
 
+pub then-passed : (a : Answer) (f : ℕ → Answer) (n : ℕ) → andThen a f ≡ Accepted n → (q : ℕ) × (a ≡ Accepted q) × (f q ≡ Accepted n)
+then-passed (Accepted q) f n e = (q, refl, e)
+then-passed (Refused k p) f n e = absurd (let z : _≡_ {A = ℕ} 0 1 = cc in omega arith)
+
 pub sounded : (f : Fault) (n : ℕ) (a : Answer) → soundThen f a ≡ Accepted n → (f ≡ Sound) × (a ≡ Accepted n)
 sounded Sound n a e = (refl, e)
 sounded (Bad k i) n a e = absurd (let z : _≡_ {A = ℕ} 0 1 = cc in omega arith)

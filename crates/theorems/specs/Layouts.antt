@@ -6,7 +6,6 @@ use mathlib.Core.Path.{_≡_, refl, ap, _∙_}
 use mathlib.Core.Bool.{true, false}
 use mathlib.Core.List.{List, [], _∷_, map}
 use borrow.Author.Tests.{ne-eqb, lt-ltb, le-ltb}
-use lib.Dec.{ltb}
 use lib.ListN.{length, getD, drop, length-append}
 use Rattle.annex.specs.Units.{nameOf}
 use Rattle.annex.specs.Heads.{among, end-mark, user-class, signal-kind, most-octets}
@@ -14,17 +13,7 @@ use Rattle.annex.specs.Items.{Part}
 use Rattle.annex.specs.Layout.{layoutPart, layout}
 use Rattle.annex.specs.Allowed.{every, Each, timesIn, isOctet, partNamesOf, Allowed}
 use Rattle.annex.specs.Walk.{Seen, unseen, timesSeen, counted, Par, judging, listing}
-use Rattle.annex.specs.Reading.{
-  wholeIn,
-  commonStep,
-  commonClose,
-  messageVerdict,
-  verdictOf,
-  commonsOf,
-  openCommon,
-  withoutEnd,
-  recordOf,
-}
+use Rattle.annex.specs.Reading.{wholeIn, commonStep, commonClose, messageVerdict, verdictOf, commonsOf, openCommon, withoutEnd, recordOf}
 use Rattle.annex.specs.declared.Answer.the-variants.{Accepted}
 use Rattle.laws.specs.Bools.{and-both}
 use Rattle.theorems.specs.Lists.{every-append, each-so, stands, times-rest, total, pigeons}
@@ -73,16 +62,16 @@ each-opens (p ∷ r) at a b =
     rw (not-end (p .header) (a .0 .listed)) (cc)
 
 -- how often a name was seen, or is to stand
-abbrev stood : Seen → List ℕ → ℕ → ℕ
+abbrev pub stood : Seen → List ℕ → ℕ → ℕ
 stood seen xs u = getD seen u 0 + timesIn u xs
 
-record Standing (seen : Seen) (xs : List ℕ) : Type 0 where
-  once : Sparing (λ x. 1) seen xs
-  no-end : stood seen xs (nameOf end-mark) ≡ 0
-  class : 0 < stood seen xs (nameOf user-class)
-  kind : 0 < stood seen xs (nameOf signal-kind)
+pub record Standing (seen : Seen) (xs : List ℕ) : Type 0 where
+  pub once : Sparing (λ x. 1) seen xs
+  pub no-end : stood seen xs (nameOf end-mark) ≡ 0
+  pub class : 0 < stood seen xs (nameOf user-class)
+  pub kind : 0 < stood seen xs (nameOf signal-kind)
 
-standing-rest : (seen : Seen) (h : ℕ) (xs : List ℕ) → Full seen → Standing seen (nameOf h ∷ xs) → Standing (counted seen h) xs
+pub standing-rest : (seen : Seen) (h : ℕ) (xs : List ℕ) → Full seen → Standing seen (nameOf h ∷ xs) → Standing (counted seen h) xs
 standing-rest seen h xs f s =
     let same : (u : ℕ) → stood (counted seen h) xs u ≡ stood seen (nameOf h ∷ xs) u = λ u. moved seen h u xs f in
     record {
@@ -92,12 +81,14 @@ standing-rest seen h xs f s =
       kind = rw (same (nameOf signal-kind)) (s .kind);
     }
 
+pub standing-whole : (seen : Seen) → Standing seen [] → wholeIn seen ≡ true
+standing-whole seen s =
+    rw (lt-ltb 0 (timesSeen seen user-class) (omega (arith, s .class)), lt-ltb 0 (timesSeen seen signal-kind) (omega (arith, s .kind)))
+
 end-stands : (seen : Seen) → Standing seen [] → commonStep seen end-mark [] ≡ Accepted 0
 end-stands seen s =
-    let class : ltb 0 (timesSeen seen user-class) ≡ true = lt-ltb 0 (timesSeen seen user-class) (omega (arith, s .class)) in
-    let kind : ltb 0 (timesSeen seen signal-kind) ≡ true = lt-ltb 0 (timesSeen seen signal-kind) (omega (arith, s .kind)) in
     let none : timesSeen seen end-mark ≡ 0 = omega (arith, s .no-end) in
-    rw (class, kind, none) end-accepts
+    rw (standing-whole seen s, none) end-accepts
 
 each-trail : (r : List Part) (seen : Seen) (at : ℕ) → Each Built r → Full seen → Standing seen (partNamesOf r) → Trail commonStep seen at (partPars at r)
 unfolding partPars laidOut
@@ -125,7 +116,7 @@ no-end-name r a = go (timesIn (nameOf end-mark) (partNamesOf r)) refl
         let f : false ≡ true = stands (λ x. among x commonNames) (partNamesOf r) (nameOf end-mark) (common-names r a) (omega arith) in
         absurd (let z : _≡_ {A = ℕ} 0 1 = cc in omega arith)
 
-standing : (r : List Part) → Allowed r → Standing unseen (partNamesOf r)
+pub standing : (r : List Part) → Allowed r → Standing unseen (partNamesOf r)
 standing r a =
     record {
       once = λ u. omega (arith, none-seen u, allowed-once r a u);

@@ -1,4 +1,4 @@
--- Theorems about the definitions of document 01: reading and layout undo one another, and so do the record and the struct.
+-- Theorems about the definitions of document 01: reading and layout undo one another, and so do reading and writing.
 pub mod Lists
 pub mod Trails
 pub mod Counts
@@ -11,3 +11,4 @@ pub mod Messages
 pub mod Layouts
 pub mod Rounds
 pub mod Views
+pub mod Writings
