@@ -18,3 +18,5 @@ pub mod Walks
 pub mod Steps
 pub mod Plain
 pub mod Filling
+-- of places in what is written:
+pub mod Places

@@ -13,7 +13,17 @@ use Rattle.annex.specs.Items.{Part}
 use Rattle.annex.specs.Layout.{layoutPart, layout}
 use Rattle.annex.specs.Allowed.{every, Each, timesIn, isOctet, partNamesOf, Allowed}
 use Rattle.annex.specs.Walk.{Seen, unseen, timesSeen, counted, Par, judging, listing}
-use Rattle.annex.specs.Reading.{wholeIn, commonStep, commonClose, messageVerdict, verdictOf, commonsOf, openCommon, withoutEnd, recordOf}
+use Rattle.annex.specs.Reading.{
+  wholeIn,
+  commonStep,
+  commonClose,
+  messageVerdict,
+  verdictOf,
+  commonsOf,
+  openCommon,
+  withoutEnd,
+  recordOf,
+}
 use Rattle.annex.specs.declared.Answer.the-variants.{Accepted}
 use Rattle.laws.specs.Bools.{and-both}
 use Rattle.theorems.specs.Lists.{every-append, each-so, stands, times-rest, total, pigeons}
