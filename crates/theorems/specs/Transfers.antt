@@ -62,7 +62,7 @@ fewer seen h xs n e = transfer-taken (timesSeen seen h) h xs n e .often
 within : (seen : Seen) (h : ℕ) (xs : List ℕ) (n : ℕ) → transferStep seen h xs ≡ Accepted n → n ≤ length xs
 within seen h xs n e = transfer-taken (timesSeen seen h) h xs n e .within
 
-none-often : Sparing oftenOf unseen []
+pub none-often : Sparing oftenOf unseen []
 none-often u = omega (arith, none-seen u)
 
 pub record TransfersRead (t : List ℕ) (j : ℕ) : Type 0 where

@@ -25,7 +25,7 @@ use Rattle.annex.specs.declared.Answer.the-variants.{Accepted}
 use Rattle.laws.specs.Bools.{and-left, and-right}
 use Rattle.laws.specs.Steps.{passed, then-passed}
 use Rattle.theorems.specs.Counts.{Full, full-unseen, full-counted, none-seen, moved, Sparing, sparing-first, sparing-rest, sparing-cons, sparing-more}
-use Rattle.theorems.specs.Transfers.{AllowedItem, AllowedItems}
+use Rattle.theorems.specs.Transfers.{AllowedItem, AllowedItems, none-often}
 use Rattle.theorems.specs.Commons.{AllowedPart, no-items}
 use Rattle.theorems.specs.Records.{plain-items, allowed, header-stands, allowed-parts, allowed-within}
 use Rattle.theorems.specs.Layouts.{stood, Standing, standing-rest, standing-whole, standing, laid-then-read}
@@ -34,6 +34,7 @@ use Rattle.theorems.specs.Views.{FitsStruct, view-held, view-pack, whole
 
 -- ---- a transfer parameter
 
+-- what an accepted one says; n is the place behind it
 pub record ItemWritten (times p : ℕ) (i : Item) (n : ℕ) : Type 0 where
   pub allowed : AllowedItem i
   pub fewer : times < oftenOf (nameOf (i .header))
@@ -63,6 +64,7 @@ item-written times p i n h e =
       behind = sym same;
     }
 
+-- and that is enough
 pub item-writes : (times p : ℕ) (i : Item) → AllowedItem i → times < oftenOf (nameOf (i .header)) → itemWriting times p i ≡ Accepted (p + length (layoutItem i))
 unfolding itemWriting
 item-writes times p i a f =
@@ -70,6 +72,7 @@ item-writes times p i a f =
 
 -- ---- transfer parameters
 
+-- no name stands oftener than it may, among those seen and these
 pub record ItemsWritten (seen : Seen) (p : ℕ) (is : List Item) (n : ℕ) : Type 0 where
   pub each : Each AllowedItem is
   pub often : Sparing oftenOf seen (namesOf is)
@@ -98,11 +101,7 @@ items-write (i ∷ is) seen p f s a =
     rw (item-writes (timesSeen seen k) p i (a .0) (sparing-first oftenOf seen k f (namesOf is) s))
     (items-write is (counted seen k) (p + length (layoutItem i)) (full-counted seen k f) (sparing-rest oftenOf seen k f (namesOf is) s) (a .1) ∙ ap Accepted e)
 
--- ---- C5
-
-none-often : Sparing oftenOf unseen []
-unfolding oftenOf
-none-often u = omega (arith, none-seen u)
+-- ---- C5: none is seen at its start, and 14 comes at its end
 
 pub data-written : (p : ℕ) (is : List Item) (n : ℕ) → Each HeldItem is → dataWriting p is ≡ Accepted n → AllowedItems is × (n ≡ p + 2 + length (layoutItems is))
 unfolding dataWriting
@@ -131,6 +130,7 @@ data-writes p is a =
 
 -- ---- a common parameter
 
+-- the like of a transfer parameter; its name was not seen
 pub record PartWritten (times p : ℕ) (q : Part) (n : ℕ) : Type 0 where
   pub allowed : AllowedPart q
   pub new : times ≡ 0
@@ -171,6 +171,7 @@ part-writes times p q a z = rw (a .listed, z, a .right, a .fits) (go (eqb (q .he
 
 -- ---- the common parameters
 
+-- each once, and 01 and 06 among those seen and these; n is the place behind the end mark
 pub record PartsWritten (seen : Seen) (p : ℕ) (r : List Part) (n : ℕ) : Type 0 where
   pub each : Each AllowedPart r
   pub once : Sparing (λ x. 1) seen (partNamesOf r)
@@ -240,6 +241,7 @@ written-exactly r h = (λ e. writing-allowed r h (length (layout r)) e .0, allow
 
 -- ---- structs
 
+-- what an accepted one says
 pub record StructWritten (s : Record) (n : ℕ) : Type 0 where
   pub whole : isWhole s ≡ true
   pub allowed : Allowed (view s)
@@ -255,6 +257,7 @@ struct-written s f n e =
     let l = laid-then-read (view s) (w .0) in
     record { whole = not-false _ (t .0); allowed = w .0; length-given = w .1; few = omega (arith, w .1, l .3); octets = l .2 }
 
+-- and that is enough
 pub struct-writes : (s : Record) → isWhole s ≡ true → Allowed (view s) → structWriting s ≡ Accepted (length (layout (view s)))
 unfolding structWriting
 struct-writes s w a = rw w (allowed-writing (view s) a)
