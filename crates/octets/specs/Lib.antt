@@ -1,0 +1,2 @@
+-- What is written over octets, with its laws.
+pub mod Put

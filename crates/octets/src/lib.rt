@@ -1,0 +1,120 @@
+// The only loops that write into lent octets. Where a request does not fit, nothing is written and the answer is false.
+ghost use mathlib.Core.Path.{_≡_};
+ghost use mathlib.Core.Bool.{cond, _&&_};
+ghost use Prim.Native.Nat.{_+_, _-_, _≤_};
+ghost use lib.Dec.{leb};
+ghost use lib.ListN.{length, replicate};
+ghost use Rattle.octets.specs.Put.{put, part};
+
+// Whether k octets from index at on lie within len octets; at + k may be over 64 bits.
+fn lies_within(len: usize, at: usize, k: usize) -> bool
+    ensures { λ r. ⌜ r ≡ leb (at + k) len ⌝ }
+{
+    if at <= len { k <= len - at } else { false }
+}
+
+// a - b, or 0 where that is below 0.
+fn minus(a: usize, b: usize) -> usize
+    ensures { λ r. ⌜ r ≡ a - b ⌝ }
+{
+    if b < a { a - b } else { 0 }
+}
+
+// Writes s over d from index at on.
+fn copy_fitting(d: &mut [u8], at: usize, s: &[u8])
+    requires { ⌜ at + length (now s) ≤ length (now d) ⌝ }
+    ensures { λ _. ⌜ now (d .exit) ≡ put (now (d .entry)) at (now (s .entry)) ⌝ }
+{
+    let mut i = 0;
+    while i < s.len() {
+        d[at + i] = s[i];
+        i += 1;
+    }
+}
+
+// Sets k octets of d from index from on to 0.
+fn clear_fitting(d: &mut [u8], from: usize, k: usize)
+    requires { ⌜ from + k ≤ length (now d) ⌝ }
+    ensures { λ _. ⌜ now (d .exit) ≡ put (now (d .entry)) from (replicate k 0) ⌝ }
+{
+    let mut i = 0;
+    while i < k {
+        d[from + i] = 0;
+        i += 1;
+    }
+}
+
+// Moves k octets down, the first of them first.
+fn move_down(d: &mut [u8], from: usize, to: usize, k: usize)
+    requires { ⌜ (to ≤ from) × (from + k ≤ length (now d)) ⌝ }
+    ensures { λ _. ⌜ now (d .exit) ≡ put (now (d .entry)) to (part (now (d .entry)) from k) ⌝ }
+{
+    let mut i = 0;
+    while i < k {
+        d[to + i] = d[from + i];
+        i += 1;
+    }
+}
+
+// Moves k octets up, the last of them first.
+fn move_up(d: &mut [u8], from: usize, to: usize, k: usize)
+    requires { ⌜ (from ≤ to) × (to + k ≤ length (now d)) ⌝ }
+    ensures { λ _. ⌜ now (d .exit) ≡ put (now (d .entry)) to (part (now (d .entry)) from k) ⌝ }
+{
+    let mut i = k;
+    while 0 < i {
+        i -= 1;
+        d[to + i] = d[from + i];
+    }
+}
+
+// Moves k octets in the direction that loses nothing.
+fn move_fitting(d: &mut [u8], from: usize, to: usize, k: usize)
+    requires { ⌜ (from + k ≤ length (now d)) × (to + k ≤ length (now d)) ⌝ }
+    ensures { λ _. ⌜ now (d .exit) ≡ put (now (d .entry)) to (part (now (d .entry)) from k) ⌝ }
+{
+    if to <= from {
+        move_down(d, from, to, k);
+    } else {
+        move_up(d, from, to, k);
+    }
+}
+
+// Writes s over d from index at on.
+pub fn copy_in(d: &mut [u8], at: usize, s: &[u8]) -> bool
+    ensures { λ r. ⌜ (r ≡ leb (at + length (now (s .entry))) (length (now (d .entry))))
+        × (now (d .exit) ≡ cond r (put (now (d .entry)) at (now (s .entry))) (now (d .entry))) ⌝ }
+{
+    if lies_within(d.len(), at, s.len()) {
+        copy_fitting(d, at, s);
+        true
+    } else {
+        false
+    }
+}
+
+// Sets k octets of d from index from on to 0.
+pub fn clear(d: &mut [u8], from: usize, k: usize) -> bool
+    ensures { λ r. ⌜ (r ≡ leb (from + k) (length (now (d .entry))))
+        × (now (d .exit) ≡ cond r (put (now (d .entry)) from (replicate k 0)) (now (d .entry))) ⌝ }
+{
+    if lies_within(d.len(), from, k) {
+        clear_fitting(d, from, k);
+        true
+    } else {
+        false
+    }
+}
+
+// Moves k octets of d from index from to index to.
+pub fn move_within(d: &mut [u8], from: usize, to: usize, k: usize) -> bool
+    ensures { λ r. ⌜ (r ≡ leb (from + k) (length (now (d .entry))) && leb (to + k) (length (now (d .entry))))
+        × (now (d .exit) ≡ cond r (put (now (d .entry)) to (part (now (d .entry)) from k)) (now (d .entry))) ⌝ }
+{
+    if lies_within(d.len(), from, k) && lies_within(d.len(), to, k) {
+        move_fitting(d, from, to, k);
+        true
+    } else {
+        false
+    }
+}
