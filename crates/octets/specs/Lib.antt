@@ -1,2 +1,3 @@
--- What is written over octets, with its laws.
+-- What is written over octets, and a stretch of a message replaced in its buffer, each with its laws.
 pub mod Put
+pub mod Splice

@@ -5,6 +5,7 @@ ghost use Prim.Native.Nat.{_+_, _-_, _≤_};
 ghost use lib.Dec.{leb};
 ghost use lib.ListN.{length, replicate};
 ghost use Rattle.octets.specs.Put.{put, part};
+ghost use Rattle.octets.specs.Splice.{spliced, spliceFits, Fitting};
 
 // Whether k octets from index at on lie within len octets; at + k may be over 64 bits.
 fn lies_within(len: usize, at: usize, k: usize) -> bool
@@ -113,6 +114,33 @@ pub fn move_within(d: &mut [u8], from: usize, to: usize, k: usize) -> bool
 {
     if lies_within(d.len(), from, k) && lies_within(d.len(), to, k) {
         move_fitting(d, from, to, k);
+        true
+    } else {
+        false
+    }
+}
+
+// Replaces octets of the message in the first n octets of d: the tail is moved, the new octets are written, and what the message left is cleared.
+fn splice_fitting(d: &mut [u8], n: usize, from: usize, old: usize, new: &[u8])
+    requires { ⌜ Fitting (now d) n from old (now new) ⌝ }
+    ensures { λ _. ⌜ now (d .exit) ≡ spliced (now (d .entry)) n from old (now (new .entry)) ⌝ }
+{
+    let tail = from + old;
+    let to = from + new.len();
+    let k = n - tail;
+    let end = to + k;
+    move_fitting(d, tail, to, k);
+    copy_fitting(d, from, new);
+    clear_fitting(d, end, minus(n, end));
+}
+
+// Replaces the old octets from index from on of the message in the first n octets of d by new. Octets from the new end to the old are set to 0.
+pub fn splice(d: &mut [u8], n: usize, from: usize, old: usize, new: &[u8]) -> bool
+    ensures { λ r. ⌜ (r ≡ spliceFits (now (d .entry)) n from old (now (new .entry)))
+        × (now (d .exit) ≡ cond r (spliced (now (d .entry)) n from old (now (new .entry))) (now (d .entry))) ⌝ }
+{
+    if lies_within(n, from, old) && n <= d.len() && lies_within(d.len(), n - old, new.len()) {
+        splice_fitting(d, n, from, old, new);
         true
     } else {
         false
