@@ -20,3 +20,4 @@ pub mod Plain
 pub mod Filling
 -- of places in what is written:
 pub mod Places
+pub mod Finding
