@@ -1,5 +1,7 @@
 // Finding contents: reading's refusals first, then 16; what is found is a part of the caller's own message.
 use super::common::first;
+use super::verdict::verdict;
+use annex::Answer;
 use annex::Common;
 use annex::Extent;
 use annex::Found;
@@ -8,6 +10,12 @@ use parameter::units::extent_of;
 use parameter::units::lead;
 use parameter::units::octets_after;
 ghost use mathlib.Core.Path.{_≡_};
+ghost use Rattle.annex.specs.Promises.{
+  FindCommonPromise,
+  FindCommonAnswerPromise,
+  FindTransferPromise,
+  FindTransferAnswerPromise,
+};
 ghost use Rattle.laws.specs.Finding.{contentsAfter, commonSearch, transferSearch, commonPlain, transferPlain};
 
 // The contents among the octets xs after a header, counted from behind it; nowhere if they are cut.
@@ -86,4 +94,60 @@ fn transfer_plain(m: &[u8], name: u8) -> Found
     let start = s + a;
     let end = s + b;
     Found::At(start, end)
+}
+
+// The contents of the common parameter with this header, the empty part if refused.
+pub fn find_common(m: &[u8], header: u8) -> &[u8]
+    ensures { λ r. ⌜ FindCommonPromise (now (m .entry)) header (now r) ⌝ }
+{
+    let a = verdict(m);
+    let Answer::Accepted(_) = a else {
+        return &m[0..0];
+    };
+    let Found::At(s, e) = common_plain(m, header) else {
+        return &m[0..0];
+    };
+    &m[s..e]
+}
+
+// The second question: accepted, with where those contents start, or number and place.
+pub fn find_common_answer(m: &[u8], header: u8) -> Answer
+    ensures { λ r. ⌜ FindCommonAnswerPromise (now (m .entry)) header r ⌝ }
+{
+    let a = verdict(m);
+    let Answer::Accepted(_) = a else {
+        return a;
+    };
+    let Found::At(s, _) = common_plain(m, header) else {
+        return Answer::Refused(Answer::ABSENT, 0);
+    };
+    Answer::Accepted(s)
+}
+
+// The contents of the transfer parameter with this name, the empty part if refused.
+pub fn find_transfer(m: &[u8], name: u8) -> &[u8]
+    ensures { λ r. ⌜ FindTransferPromise (now (m .entry)) name (now r) ⌝ }
+{
+    let a = verdict(m);
+    let Answer::Accepted(_) = a else {
+        return &m[0..0];
+    };
+    let Found::At(s, e) = transfer_plain(m, name) else {
+        return &m[0..0];
+    };
+    &m[s..e]
+}
+
+// The second question: accepted, with where those contents start, or number and place.
+pub fn find_transfer_answer(m: &[u8], name: u8) -> Answer
+    ensures { λ r. ⌜ FindTransferAnswerPromise (now (m .entry)) name r ⌝ }
+{
+    let a = verdict(m);
+    let Answer::Accepted(_) = a else {
+        return a;
+    };
+    let Found::At(s, _) = transfer_plain(m, name) else {
+        return Answer::Refused(Answer::ABSENT, 0);
+    };
+    Answer::Accepted(s)
 }

@@ -1,0 +1,41 @@
+-- `find_transfer_answer` meets its contract: reading's refusal first, and in an accepted message the length rule alone finds what is asked for.
+use mathlib.Core.Path.{_≡_, sym, _∙_}
+use denote.Ref.{now}
+use borrow.Author.Needs.{needs}
+use Rattle.annex.specs.Finding.{transferFound, foundAnswer, findAnswer}
+use Rattle.laws.specs.Finding.{transfer-plain}
+use Rattle.reader.proofs.finding.find_transfer_answer.Statement.{statement}
+use Rattle.reader.proofs.finding.find_transfer_answer.Tie as tie
+
+returns : tie.Need-returns
+returns c = rw (← c .before .before .verdict .ensures, c .enum-told2 .given .1)
+
+-- the answer in an accepted message
+answer : (c : tie.After-transfer-plain) →
+    let a = c .before .before .before .before .before .args in
+    findAnswer (now (a .m)) (transferFound (a .name) (now (a .m))) ≡ foundAnswer (c .transfer-plain .result)
+answer c =
+    let e = sym (c .before .before .before .verdict .ensures) ∙ c .before .enum-told .given .1 in
+    rw (e, transfer-plain _ _ _ e, c .transfer-plain .ensures)
+
+returns-2 : tie.Need-returns-2
+returns-2 c = rw (answer (c .before .before), c .enum-told3 .given .1)
+
+returns-3 : tie.Need-returns-3
+returns-3 c =
+    let s = c .before in
+    rw (answer (s .before .before), s .s .given .1)
+
+pub find-transfer-answer-spec : {M : Type 1} → statement M
+find-transfer-answer-spec =
+    tie.close
+    (tie.spec
+    (λ c κs. search needs)
+    (λ c. search needs)
+    (λ c. search needs)
+    returns
+    (λ c κs. search needs)
+    (λ c. search needs)
+    (λ c. search needs)
+    returns-2
+    returns-3)
