@@ -1,5 +1,5 @@
 // Reading: the verdict of a message, its record, finding contents, and the rows of a listing.
 pub mod common;
-pub mod reading;
 pub mod finding;
+pub mod reading;
 pub mod verdict;
