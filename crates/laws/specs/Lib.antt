@@ -21,3 +21,4 @@ pub mod Filling
 -- of places in what is written:
 pub mod Places
 pub mod Finding
+pub mod Rows
