@@ -2,4 +2,5 @@
 pub mod common;
 pub mod finding;
 pub mod reading;
+pub mod rows;
 pub mod verdict;
