@@ -22,3 +22,4 @@ pub mod Filling
 pub mod Places
 pub mod Finding
 pub mod Rows
+pub mod Few

@@ -167,7 +167,7 @@ pub rows-outside : (m : List ℕ) (k : ℕ) → verdictOf m ≡ Accepted k → s
 rows-outside m k e =
     rows-sum commonExtentOf 0 (commonsOf m) (rw (commons-plain m k e) (leads-in commonExtentOf m)) ∙ commons-sum m k e
 
-transfer-rows : (s : ℕ) (qs : List Par) → transferRows s qs ≡ map (λ q. rowBy (extentOf (q .head)) s q) qs
+pub transfer-rows : (s : ℕ) (qs : List Par) → transferRows s qs ≡ map (λ q. rowBy (extentOf (q .head)) s q) qs
 unfolding transferRows
 transfer-rows s [] = refl
 transfer-rows s (q ∷ qs) = rw (transfer-rows s qs)

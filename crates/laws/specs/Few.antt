@@ -1,0 +1,131 @@
+-- Laws of how many there are: a name that may stand only so often bounds what is listed. Hence at most 52 parameters in transfer data,
+-- and at most 59 rows of a message.
+use mathlib.Core.Path.{_≡_, refl, _∙_}
+use mathlib.Core.Bool.{Bool, true, false, cond, _||_}
+use mathlib.Core.List.{List, [], _∷_}
+use Prim.Native.Nat.{ℕ, zero, suc, _+_, _-_, _%_, _≤_, _<_}
+use native.Mathlib.Omega.{arith}
+use borrow.Author.Tests.{eqb-true, leb-true}
+use lib.Dec.{eqb, leb}
+use lib.ListN.{length, getD, set, take, length-set, length-append, length-map}
+use Rattle.annex.specs.Units.{nameOf}
+use Rattle.annex.specs.Heads.{among, listedHeaders, transfer-data, nameUsed, oftenOf, most-transfers}
+use Rattle.annex.specs.Allowed.{every}
+use Rattle.annex.specs.Walk.{Seen, unseen, timesSeen, counted, Par, Step, byStep, walk, listing}
+use Rattle.annex.specs.Reading.{transferStep, transfersOf, commonStep, commonsOf, dataIn}
+use Rattle.annex.specs.Spans.{transferRows, innerRows, commonRows, rowsOf}
+use Rattle.annex.specs.declared.Answer.{Answer}
+use Rattle.annex.specs.declared.Answer.the-variants.{Accepted, Refused}
+use Rattle.laws.specs.Bools.{and-left, and-right}
+use Rattle.laws.specs.Steps.{transfer-taken, common-taken}
+use Rattle.laws.specs.Rows.{sumOf, parAt, transfer-rows}
+
+-- ---- a listing spends what its names allow
+
+-- what name n still allows, seen so many times; added up over the names from i on
+unfoldable pub allowance : (ℕ → ℕ → ℕ) → ℕ → Seen → ℕ
+allowance allows i [] = 0
+allowance allows i (x ∷ xs) = allows i x + allowance allows (i + 1) xs
+
+module _ (allows : ℕ → ℕ → ℕ) where
+  allowance-set : (i n x : ℕ) (seen : Seen) → n < length seen → allowance allows i (set seen n x) + allows (i + n) (getD seen n 0) ≡ allowance allows i seen + allows (i + n) x
+  unfolding allowance
+  allowance-set i n x [] h = absurd (omega arith)
+  allowance-set i zero x (y ∷ seen) h = let e : i + 0 ≡ i = omega arith in rw e (omega arith)
+  allowance-set i (suc n) x (y ∷ seen) h =
+      let e : i + suc n ≡ i + 1 + n = omega arith in
+      rw e (omega (arith, allowance-set (i + 1) n x seen (omega arith)))
+
+  module _ (step : Step) (weight : Par → ℕ)
+      (spends : (seen : Seen) (p h : ℕ) (xs : List ℕ) (n : ℕ) → step seen h xs ≡ Accepted n → weight (parAt p h (take n xs)) + allows (nameOf h) (timesSeen seen h + 1) ≤ allows (nameOf h) (timesSeen seen h)) where
+    -- if each parameter takes its weight from what its name allows, all weights together are within what all names allow
+    pub spent : (xs : List ℕ) (seen : Seen) (k p : ℕ) → length seen ≡ 64 → sumOf weight (walk (listing step) seen k p xs) ≤ allowance allows 0 seen
+    unfolding walk
+    spent [] seen k p l = omega arith
+    spent (x ∷ xs) seen (suc k) p l = spent xs seen k (p + 1) l
+    spent (x ∷ xs) seen zero p l = go (step seen x xs) refl (spent xs (counted seen x))
+      where
+        go : (a : Answer) → step seen x xs ≡ a → ((k p : ℕ) → length (counted seen x) ≡ 64 → sumOf weight (walk (listing step) (counted seen x) k p xs) ≤ allowance allows 0 (counted seen x))
+            → sumOf weight (byStep a (λ k r. []) (λ n. parAt p x (take n xs) ∷ walk (listing step) (counted seen x) n (p + 1) xs)) ≤ allowance allows 0 seen
+        go (Accepted n) f ih =
+            let e : 0 + nameOf x ≡ nameOf x = omega arith in
+            omega (
+              arith,
+              spends seen p x xs n f,
+              ih n (p + 1) (length-set seen (nameOf x) (timesSeen seen x + 1) ∙ l),
+              rw e at (allowance-set 0 (nameOf x) (timesSeen seen x + 1) seen (omega arith)),
+            )
+        go (Refused k r) f ih = omega arith
+
+-- ---- transfer data
+
+-- each name in use as often as it may stand
+transferAllows : ℕ → ℕ → ℕ
+transferAllows n x = cond (nameUsed n) (oftenOf n - x) 0
+
+name-used : (h : ℕ) → nameUsed (nameOf h) ≡ nameUsed h
+unfolding nameUsed
+name-used h = let e : h % 64 % 64 ≡ h % 64 = omega arith in rw e
+
+transfer-spends : (seen : Seen) (p h : ℕ) (xs : List ℕ) (n : ℕ) → transferStep seen h xs ≡ Accepted n → 1 + transferAllows (nameOf h) (timesSeen seen h + 1) ≤ transferAllows (nameOf h) (timesSeen seen h)
+unfolding transferAllows
+transfer-spends seen p h xs n e =
+    let t = transfer-taken _ h xs n e in
+    rw (name-used h, t .used) (omega (arith, t .often))
+
+count : {A : Type 0} (xs : List A) → sumOf (λ x. 1) xs ≡ length xs
+count [] = refl
+count (x ∷ xs) = omega (arith, count xs)
+
+pub transfers-few : (t : List ℕ) → length (transfersOf t) ≤ most-transfers
+unfolding transfersOf transferAllows allowance nameUsed oftenOf
+transfers-few t =
+    omega (arith, count (transfersOf t), spent transferAllows transferStep (λ q. 1) transfer-spends t unseen 0 0 refl)
+
+-- ---- the rows of a message
+
+-- each name once: C5 with the rows inside it, and the other six headers
+commonAllows : ℕ → ℕ → ℕ
+commonAllows n x = cond (eqb x 0) (cond (eqb n (nameOf transfer-data)) (1 + most-transfers) (cond (leb n 6) 1 0)) 0
+
+-- what a test computes over a list holds at each of its numbers
+among-all : (f : ℕ → Bool) (ks : List ℕ) → every f ks ≡ true → (x : ℕ) → among x ks ≡ true → f x ≡ true
+among-all f [] t x e = absurd (let z : _≡_ {A = ℕ} 0 1 = cc in omega arith)
+among-all f (k ∷ ks) t x e = go (eqb x k) refl e (among-all f ks (and-right (f k) (every f ks) t) x)
+  where
+    go : (b : Bool) → eqb x k ≡ b → b || among x ks ≡ true → (among x ks ≡ true → f x ≡ true) → f x ≡ true
+    go true g u r = rw (eqb-true x k g) (and-left (f k) (every f ks) t)
+    go false g u r = r u
+
+listed-allowed : (h : ℕ) → among h listedHeaders ≡ true → 1 ≤ commonAllows (nameOf h) 0
+unfolding commonAllows
+listed-allowed h e = leb-true 1 _ (among-all (λ x. leb 1 (commonAllows (nameOf x) 0)) listedHeaders refl h e)
+
+inner-few : (p h : ℕ) (own : List ℕ) → among h listedHeaders ≡ true → 1 + length (innerRows (parAt p h own)) ≤ commonAllows (nameOf h) 0
+unfolding commonAllows
+inner-few p h own l = go (eqb h transfer-data) refl
+  where
+    go : (b : Bool) → eqb h transfer-data ≡ b → 1 + length (cond b (transferRows (p + 2) (transfersOf (dataIn (parAt p h own)))) []) ≤ commonAllows (nameOf h) 0
+    go true e =
+        let t = transfersOf (dataIn (parAt p h own)) in
+        rw (eqb-true h transfer-data e, transfer-rows (p + 2) t, length-map t) (omega (arith, transfers-few (dataIn (parAt p h own))))
+    go false e = listed-allowed h l
+
+abbrev rowsIn : Par → ℕ
+rowsIn q = 1 + length (innerRows q)
+
+common-spends : (seen : Seen) (p h : ℕ) (xs : List ℕ) (n : ℕ) → commonStep seen h xs ≡ Accepted n → rowsIn (parAt p h (take n xs)) + commonAllows (nameOf h) (timesSeen seen h + 1) ≤ commonAllows (nameOf h) (timesSeen seen h)
+unfolding commonAllows
+common-spends seen p h xs n e =
+    let t = common-taken _ _ h xs n e .1 in
+    rw (t .once) (omega (arith, inner-few p h (take n xs) (t .listed)))
+
+length-rows : (qs : List Par) → length (commonRows qs) ≡ sumOf rowsIn qs
+unfolding commonRows
+length-rows [] = refl
+length-rows (q ∷ qs) = rw (length-append (innerRows q) (commonRows qs)) (omega (arith, length-rows qs))
+
+-- "at most 59"
+pub rows-few : (m : List ℕ) → length (rowsOf m) ≤ 59
+unfolding rowsOf commonsOf commonAllows allowance
+rows-few m = omega (arith, length-rows (commonsOf m), spent commonAllows commonStep rowsIn common-spends m unseen 0 0 refl)
