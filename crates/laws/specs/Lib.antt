@@ -13,13 +13,13 @@ pub mod Headers
 pub mod Counted
 pub mod Numbers
 pub mod Leaves
--- of the walk over a message:
+-- of the walk over a message, and what is made of it:
 pub mod Walks
 pub mod Steps
 pub mod Plain
 pub mod Filling
--- of places in what is written:
-pub mod Places
 pub mod Finding
 pub mod Rows
 pub mod Few
+-- of places in what is written:
+pub mod Places

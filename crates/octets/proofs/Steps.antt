@@ -6,7 +6,7 @@ use native.Mathlib.Omega.{arith}
 use lib.ListN.{length, take, drop, replicate, length-take, length-drop, length-replicate}
 use lib.Seq.{take-at, drop-at, take-add, drop-append-add, length-take-le}
 use Rattle.annex.specs.Editing.{cleared}
-use Rattle.laws.specs.Lists.{drop-take}
+use Rattle.laws.specs.Parts.{from-to}
 use Rattle.octets.specs.Put.{put, part, length-part}
 use Rattle.octets.specs.Splice.{splicedMessage, spliced, Fitting, length-message}
 
@@ -37,7 +37,7 @@ three-steps d n from old new tail to k end fit e-tail e-to e-k e-end =
     let la : length a ≡ from = length-take-le from d (omega arith) in
     let lb : length b ≡ length new = simp (length-take, length-drop) (omega arith) in
     let lm : length m ≡ end = omega (arith, length-message d n from old new fit) in
-    let message : m ≡ a ++ (new ++ t) = rw (drop-take (from + old) n d, e-k, e-tail) in
+    let message : m ≡ a ++ (new ++ t) = rw (← from-to (from + old) n d, e-k, e-tail) in
     let one : put d to t ≡ a ++ (b ++ (t ++ r)) = put-cut d from to t end (omega arith) (omega arith) in
     let two : put (a ++ (b ++ (t ++ r))) from new ≡ m ++ r =
     put-seam a (b ++ (t ++ r)) new from la ∙ rw (message, drop-at b (t ++ r) (length new) lb, append-assoc a, append-assoc new) in

@@ -10,7 +10,7 @@ use lib.ListN.{length, take, drop, set, length-set, length-append, length-take, 
 use lib.Seq.{set-append-left, take-take, take-at, drop-at, length-take-le}
 use Rattle.annex.specs.Editing.{cleared, holding}
 use Rattle.laws.specs.Bools.{and-left, and-right}
-use Rattle.laws.specs.Lists.{drop-take}
+use Rattle.laws.specs.Parts.{from-to}
 use Rattle.octets.specs.Put.{part}
 
 -- the message in the first n octets of d, with its old octets from index from on replaced by new
@@ -110,7 +110,7 @@ module _ (d : List ℕ) (n from old : ℕ) (new : List ℕ) (fit : Fitting d n f
       let r = cleared (n - length (splicedMessage d n from old new)) (drop (length (splicedMessage d n from old new)) d) in
       let e : length p ≡ from + length new = simp length-append (omega (arith, length-front)) in
       rw (append-assoc (take from d), append-assoc new t r, ← append-assoc (take from d) new (t ++ r), drop-at p (t ++ r) (from + length new) e, take-at t r (n - (from + old)) length-tail)
-      (drop-take (from + old) n d)
+      (sym (from-to (from + old) n d))
 
   -- an octet stored before them
   pub set-spliced : (i v : ℕ) → i < from → set (spliced d n from old new) i v ≡ holding d n (set (take from d) i v ++ (new ++ drop (from + old) (take n d)))
