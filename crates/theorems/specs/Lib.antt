@@ -12,3 +12,4 @@ pub mod Layouts
 pub mod Rounds
 pub mod Views
 pub mod Writings
+pub mod Reasons

@@ -51,10 +51,14 @@ plain-items p h e =
     let own : record { header = p .header; value = p .value; items = [] } ≡ p = rw e at (h .own) in
     sym (ap (λ (q : Part). q .items) own)
 
--- and with none there are none
-no-data : (r : List Part) → Each AllowedPart r → timesIn (nameOf transfer-data) (partNamesOf r) ≡ 0 → itemsIn r ≡ []
-no-data [] a t = refl
-no-data (p ∷ r) a t = go (eqb (p .header) transfer-data) refl (no-data r (a .1))
+-- this one is no C5
+abbrev pub Plain : Part → Type 0
+Plain p = eqb (p .header) transfer-data ≡ false
+
+-- with none of its name there is no C5
+pub unnamed-plain : (r : List Part) → timesIn (nameOf transfer-data) (partNamesOf r) ≡ 0 → Each Plain r
+unnamed-plain [] t = tt
+unnamed-plain (p ∷ r) t = (go (eqb (p .header) transfer-data) refl, unnamed-plain r (omega (arith, times-rest x (nameOf (p .header)) names)))
   where
     x : ℕ
     x = nameOf transfer-data
@@ -62,9 +66,17 @@ no-data (p ∷ r) a t = go (eqb (p .header) transfer-data) refl (no-data r (a .1
     names : List ℕ
     names = partNamesOf r
 
-    go : (b : Bool) → eqb (p .header) transfer-data ≡ b → (timesIn x names ≡ 0 → itemsIn r ≡ []) → p .items ++ itemsIn r ≡ []
-    go true e f = absurd (omega (arith, times-here x names, rw (eqb-true (p .header) transfer-data e) at t))
-    go false e f = rw (plain-items p (a .0 .held) e) (f (omega (arith, times-rest x (nameOf (p .header)) names)))
+    go : (b : Bool) → eqb (p .header) transfer-data ≡ b → b ≡ false
+    go true e = absurd (omega (arith, times-here x names, rw (eqb-true (p .header) transfer-data e) at t))
+    go false e = refl
+
+-- and with no C5 there are no transfer parameters
+pub plain-none : (r : List Part) → Each HeldPart r → Each Plain r → itemsIn r ≡ []
+plain-none [] h p = refl
+plain-none (q ∷ r) h p = rw (plain-items q (h .0) (p .0)) (plain-none r (h .1) (p .1))
+
+no-data : (r : List Part) → Each AllowedPart r → timesIn (nameOf transfer-data) (partNamesOf r) ≡ 0 → itemsIn r ≡ []
+no-data r a t = plain-none r (each-so AllowedPart HeldPart (λ p b. b .held) r a) (unnamed-plain r t)
 
 pub parts-items : (r : List Part) → Each AllowedPart r → Once r → AllowedItems (itemsIn r)
 parts-items [] a o = no-items
@@ -243,12 +255,12 @@ allowed-items r a =
       few-octets = a .few-octets;
     }
 
-layout-append : (is js : List Item) → layoutItems (is ++ js) ≡ layoutItems is ++ layoutItems js
+pub layout-append : (is js : List Item) → layoutItems (is ++ js) ≡ layoutItems is ++ layoutItems js
 unfolding layoutItems
 layout-append [] js = refl
 layout-append (i ∷ is) js = rw (append-assoc, layout-append is js)
 
-names-append : (is js : List Item) → namesOf (is ++ js) ≡ namesOf is ++ namesOf js
+pub names-append : (is js : List Item) → namesOf (is ++ js) ≡ namesOf is ++ namesOf js
 names-append [] js = refl
 names-append (i ∷ is) js = ap (λ (l : List ℕ). nameOf (i .header) ∷ l) (names-append is js)
 
