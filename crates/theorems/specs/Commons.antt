@@ -10,7 +10,7 @@ use lib.Dec.{eqb}
 use lib.ListN.{length, getD, drop}
 use Rattle.annex.specs.Units.{nameOf, afterOf, leadOf, commonExtentOf, contentsIn}
 use Rattle.annex.specs.Heads.{among, user-class, partners-call, own-call, sequence, signal-kind, transfer-data, isCall, commonHeaders, signalKinds, call-numbers, most-transfer-octets}
-use Rattle.annex.specs.Items.{Part}
+use Rattle.annex.specs.Items.{Item, Part}
 use Rattle.annex.specs.Layout.{layoutItems, layoutPart, callOctets, dataOctets}
 use Rattle.annex.specs.Allowed.{every, isOctet, HeldItem, HeldPart, valueRight, valueFits}
 use Rattle.annex.specs.Walk.{Par}
@@ -106,6 +106,21 @@ pub no-items : AllowedItems []
 unfolding layoutItems
 no-items = record { each = tt; often = λ u. omega arith; few-octets = omega arith }
 
+-- a C5 with these parameters
+abbrev pub dataPart : List Item → Part
+dataPart is = record { header = transfer-data; value = 0; items = is }
+
+pub data-allowed : (is : List Item) → AllowedItems is → AllowedPart (dataPart is)
+unfolding valueRight valueFits
+data-allowed is a =
+    record {
+      held = record { octet = omega arith; own = refl; each = each-so AllowedItem HeldItem (λ i b. b .held) is (a .each) };
+      listed = refl;
+      right = refl;
+      fits = refl;
+      items = a;
+    }
+
 -- ---- from octets
 
 -- the part that these octets open to
@@ -175,8 +190,8 @@ call-read times h (x ∷ y ∷ z ∷ []) s o k c l =
           };
     }
 
-data-read : (times : ℕ) (own : List ℕ) → every isOctet own ≡ true → CommonOwn times transfer-data own → PartRead transfer-data own (record { header = transfer-data; value = 0; items = map openTransfer (transfersOf (contentsIn (commonExtentOf transfer-data) own)) })
-unfolding layoutPart valueRight valueFits commonExtentOf afterOf leadOf
+data-read : (times : ℕ) (own : List ℕ) → every isOctet own ≡ true → CommonOwn times transfer-data own → PartRead transfer-data own (dataPart (map openTransfer (transfersOf (contentsIn (commonExtentOf transfer-data) own))))
+unfolding layoutPart commonExtentOf afterOf leadOf
 data-read times own o c =
     let s = contentsIn LengthOctet own in
     let k = cut LengthOctet own (c .long) o in
@@ -186,14 +201,7 @@ data-read times own o c =
     record {
       header = refl;
       laid = rw (r .laid) (ap (λ (l : List ℕ). transfer-data ∷ l) (k .led));
-      allowed =
-          record {
-            held = record { octet = omega arith; own = refl; each = each-so AllowedItem HeldItem (λ i a. a .held) is (r .items .each) };
-            listed = refl;
-            right = refl;
-            fits = refl;
-            items = r .items;
-          };
+      allowed = data-allowed is (r .items);
     }
 
 pub part-read : (q : Par) (times : ℕ) → q .head < 256 → every isOctet (q .own) ≡ true → CommonOwn times (q .head) (q .own) → PartRead (q .head) (q .own) (openCommon q)

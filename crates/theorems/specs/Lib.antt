@@ -13,3 +13,5 @@ pub mod Rounds
 pub mod Views
 pub mod Writings
 pub mod Reasons
+pub mod Edits
+pub mod Buffers

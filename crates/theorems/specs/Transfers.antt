@@ -70,7 +70,8 @@ pub record TransfersRead (t : List ℕ) (j : ℕ) : Type 0 where
   pub laid : layoutItems (map openTransfer (transfersOf t)) ≡ t
   pub items : AllowedItems (map openTransfer (transfersOf t))
 
-item-read : (q : Par) (times : ℕ) → q .head < 256 → every isOctet (q .own) ≡ true → TransferOwn times (q .head) (q .own) → ItemRead q
+-- octets that stand as a parameter open to an allowed one that lays out to them
+pub item-read : (q : Par) (times : ℕ) → q .head < 256 → every isOctet (q .own) ≡ true → TransferOwn times (q .head) (q .own) → ItemRead q
 unfolding layoutItem
 item-read q times small o t =
     let h = q .head in

@@ -1,0 +1,336 @@
+-- Demand 3: an accepted edit leaves an allowed record. It changes one parameter of the one C5, the new parameter is allowed by the law of a
+-- parameter that is read, and all else stays.
+use Prim.Native.Nat.{ℕ, _+_, _≤_, _<_}
+use native.Mathlib.Omega.{arith}
+use mathlib.Core.Path.{_≡_, refl, sym, ap, _∙_}
+use mathlib.Core.Bool.{Bool, true, false, cond}
+use mathlib.Core.List.{List, [], _∷_, _++_, map, append-nil, append-assoc}
+use borrow.Author.Tests.{eqb-true, eqb-false, eq-eqb, ne-eqb, ltb-true}
+use lib.Dec.{eqb}
+use lib.ListN.{length, take, drop, take-append-drop}
+use Rattle.annex.specs.Units.{nameOf}
+use Rattle.annex.specs.Heads.{among, transfer-data, most-transfer-octets, oftenOf}
+use Rattle.annex.specs.Items.{Item, Part}
+use Rattle.annex.specs.Layout.{layoutItem, layoutItems, layout}
+use Rattle.annex.specs.Allowed.{every, Each, timesIn, isOctet, HeldPart, itemsIn, headersOf, namesOf, partNamesOf, Allowed}
+use Rattle.annex.specs.Walk.{Par}
+use Rattle.annex.specs.Reading.{verdictOf, recordOf}
+use Rattle.annex.specs.Editing.{Edit, newHeader, newItem, present, replaced, removed, editedItems, edited, editingOf}
+use Rattle.annex.specs.Editing.Edit.{Replacing, Appending, Removing}
+use Rattle.annex.specs.declared.Answer.the-variants.{Accepted}
+use Rattle.laws.specs.Bools.{and-left, and-right}
+use Rattle.theorems.specs.Lists.{each-append, each-left, each-right, every-left, times-here, times-rest, times-append}
+use Rattle.theorems.specs.Steps.{TransferOwn}
+use Rattle.theorems.specs.Transfers.{AllowedItem, AllowedItems, item-read}
+use Rattle.theorems.specs.Commons.{AllowedPart, dataPart, data-allowed}
+use Rattle.theorems.specs.Records.{Once, Plain, plain-items, unnamed-plain, plain-none, allowed, allowed-items, allowed-parts, allowed-once, names-append}
+use Rattle.theorems.specs.Messages.{read-then-laid}
+use Rattle.theorems.specs.Reasons.{NewRight, EditRight, editedIn, NoReason, edit-taken}
+
+-- the new octets of an edit are octets
+abbrev pub OfOctets : Edit → Type 0
+OfOctets (Replacing new) = every isOctet new ≡ true
+OfOctets (Appending new) = every isOctet new ≡ true
+OfOctets (Removing x) = Unit {0}
+
+-- ---- a new parameter
+
+-- every name may stand
+some-often : (x : ℕ) → 0 < oftenOf x
+unfolding oftenOf
+some-often x = omega arith
+
+pub record NewRead (new : List ℕ) : Type 0 where
+  pub header : newItem new .header ≡ newHeader new
+  pub laid : layoutItem (newItem new) ≡ new
+  pub allowed : AllowedItem (newItem new)
+
+pub new-read : (new : List ℕ) → NewRight new → every isOctet new ≡ true → NewRead new
+new-read [] r o = absurd (omega (arith, r .some))
+new-read (h ∷ xs) r o =
+    let q : Par = record { place = 0; head = h; own = xs } in
+    let own : TransferOwn 0 h xs = record { used = r .used; pli = r .pli; fewer = some-often (nameOf h); long = r .long; sound = r .sound } in
+    let i = item-read q 0 (ltb-true h 256 (and-left (isOctet h) _ o)) (and-right (isOctet h) _ o) own in
+    record { header = i .header; laid = i .laid; allowed = i .allowed }
+
+-- ---- the parameters of C5: those in front of the edited one, it, and those behind it
+
+-- this parameter has another name
+abbrev pub Other : ℕ → Item → Type 0
+Other x i = eqb (nameOf (i .header)) x ≡ false
+
+-- the first of the name x
+pub record First (x : ℕ) (front old : List Item) : Type 0 where
+  pub one : Item
+  pub alone : old ≡ one ∷ []
+  pub named : nameOf (one .header) ≡ x
+  pub others : Each (Other x) front
+
+-- the name that an edit is about
+abbrev pub nameIn : Edit → ℕ
+nameIn (Replacing new) = nameOf (newHeader new)
+nameIn (Appending new) = nameOf (newHeader new)
+nameIn (Removing x) = x
+
+-- what an edit puts in, and what it takes out
+abbrev pub newItems : Edit → List Item
+newItems (Replacing new) = newItem new ∷ []
+newItems (Appending new) = newItem new ∷ []
+newItems (Removing x) = []
+
+abbrev pub Taken : Edit → List Item → List Item → List Item → Type 0
+Taken (Replacing new) front old back = First (nameOf (newHeader new)) front old
+Taken (Appending new) front old back = (old ≡ []) × (back ≡ [])
+Taken (Removing x) front old back = First x front old
+
+pub record Changed (e : Edit) (is : List Item) : Type 0 where
+  pub front : List Item
+  pub old : List Item
+  pub back : List Item
+  pub was : is ≡ front ++ (old ++ back)
+  pub becomes : editedItems e is ≡ front ++ (newItems e ++ back)
+  pub taken : Taken e front old back
+
+record Chosen (x : ℕ) (is : List Item) : Type 0 where
+  front : List Item
+  one : Item
+  back : List Item
+  whole : is ≡ front ++ (one ∷ back)
+  named : nameOf (one .header) ≡ x
+  others : Each (Other x) front
+
+choose : (x : ℕ) (is : List Item) → present x is ≡ true → Chosen x is
+choose x [] p = absurd (let z : _≡_ {A = ℕ} 0 1 = cc in omega arith)
+choose x (i ∷ is) p = go (eqb (nameOf (i .header)) x) refl (choose x is)
+  where
+    y : ℕ
+    y = nameOf (i .header)
+
+    go : (b : Bool) → eqb y x ≡ b → (present x is ≡ true → Chosen x is) → Chosen x (i ∷ is)
+    go true e f = record { front = []; one = i; back = is; whole = refl; named = eqb-true y x e; others = tt }
+    go false e f =
+        let c = f (rw (ne-eqb x y (λ q. eqb-false y x e (sym q))) at p) in
+        record {
+          front = i ∷ c .front;
+          one = c .one;
+          back = c .back;
+          whole = ap (λ (l : List Item). i ∷ l) (c .whole);
+          named = c .named;
+          others = (e, c .others);
+        }
+
+pub replaced-first : (new one : Item) (x : ℕ) (front back : List Item) → nameOf (new .header) ≡ x → nameOf (one .header) ≡ x → Each (Other x) front → replaced new (front ++ (one ∷ back)) ≡ front ++ (new ∷ back)
+unfolding replaced
+replaced-first new one x [] back n o a = rw (n, eq-eqb _ x o)
+replaced-first new one x (i ∷ front) back n o a =
+    let rest = replaced-first new one x front back n o (a .1) in
+    rw (n, a .0) (ap (λ (l : List Item). i ∷ l) rest)
+
+pub removed-first : (one : Item) (x : ℕ) (front back : List Item) → nameOf (one .header) ≡ x → Each (Other x) front → removed x (front ++ (one ∷ back)) ≡ front ++ back
+unfolding removed
+removed-first one x [] back o a = rw (eq-eqb _ x o)
+removed-first one x (i ∷ front) back o a = rw (a .0) (ap (λ (l : List Item). i ∷ l) (removed-first one x front back o (a .1)))
+
+pub changed : (e : Edit) (is : List Item) → EditRight e is → OfOctets e → Changed e is
+unfolding editedItems
+changed (Replacing new) is r o =
+    let x = nameOf (newHeader new) in
+    let c = choose x is (r .1) in
+    let n : nameOf (newItem new .header) ≡ x = ap nameOf (new-read new (r .0) o .header) in
+    record {
+      front = c .front;
+      old = c .one ∷ [];
+      back = c .back;
+      was = c .whole;
+      becomes = ap (replaced (newItem new)) (c .whole) ∙ replaced-first (newItem new) (c .one) x (c .front) (c .back) n (c .named) (c .others);
+      taken = record { one = c .one; alone = refl; named = c .named; others = c .others };
+    }
+changed (Appending new) is r o =
+    record { front = is; old = []; back = []; was = sym (append-nil is); becomes = refl; taken = (refl, refl) }
+changed (Removing x) is r o =
+    let c = choose x is r in
+    record {
+      front = c .front;
+      old = c .one ∷ [];
+      back = c .back;
+      was = c .whole;
+      becomes = ap (removed x) (c .whole) ∙ removed-first (c .one) x (c .front) (c .back) (c .named) (c .others);
+      taken = record { one = c .one; alone = refl; named = c .named; others = c .others };
+    }
+
+-- ---- so edited, they are allowed
+
+new-each : (e : Edit) (is : List Item) → EditRight e is → OfOctets e → Each AllowedItem (newItems e)
+new-each (Replacing new) is r o = (new-read new (r .0) o .allowed, tt)
+new-each (Appending new) is r o = (new-read new (r .0) o .allowed, tt)
+new-each (Removing x) is r o = tt
+
+module _ (u : ℕ) where
+  names-three : (f o b : List Item) → timesIn u (namesOf (f ++ (o ++ b))) ≡ timesIn u (namesOf f) + (timesIn u (namesOf o) + timesIn u (namesOf b))
+  names-three f o b = rw (names-append f (o ++ b), names-append o b, times-append, times-append)
+
+  -- one of the same name in the place of one
+  same-times : (i j : Item) → nameOf (i .header) ≡ nameOf (j .header) → timesIn u (namesOf (i ∷ [])) ≡ timesIn u (namesOf (j ∷ []))
+  same-times i j e = rw e
+
+  -- one more
+  one-more : (x : ℕ) (is : List Item) → timesIn x (namesOf is) < oftenOf x → timesIn u (namesOf is) ≤ oftenOf u → timesIn u (namesOf is) + timesIn u (x ∷ []) ≤ oftenOf u
+  one-more x is l a = go (eqb u x) refl
+    where
+      go : (b : Bool) → eqb u x ≡ b → timesIn u (namesOf is) + cond b 1 0 ≤ oftenOf u
+      go true e = let q = eqb-true u x e in rw q (omega arith)
+      go false e = omega arith
+
+  items-often : (e : Edit) (is : List Item) → EditRight e is → OfOctets e → timesIn u (namesOf is) ≤ oftenOf u → Changed e is → timesIn u (namesOf (editedItems e is)) ≤ oftenOf u
+  unfolding editedItems
+  items-often (Replacing new) is r o a c =
+      let t = c .taken in
+      let n : nameOf (newItem new .header) ≡ nameOf (t .one .header) = ap nameOf (new-read new (r .0) o .header) ∙ sym (t .named) in
+      let old : timesIn u (namesOf (c .old)) ≡ timesIn u (namesOf (t .one ∷ [])) = ap (λ (l : List Item). timesIn u (namesOf l)) (t .alone) in
+      rw (c .becomes)
+      (omega (arith, names-three (c .front) (newItem new ∷ []) (c .back), names-three (c .front) (c .old) (c .back), ap (λ (l : List Item). timesIn u (namesOf l)) (c .was), same-times (newItem new) (t .one) n))
+  items-often (Appending new) is r o a c =
+      rw (names-append is (newItem new ∷ []), times-append, new-read new (r .0) o .header) (one-more (nameOf (newHeader new)) is (r .1) a)
+  items-often (Removing x) is r o a c =
+      rw (c .becomes)
+      (omega (arith, names-three (c .front) [] (c .back), names-three (c .front) (c .old) (c .back), ap (λ (l : List Item). timesIn u (namesOf l)) (c .was)))
+
+pub items-allowed : (e : Edit) (is : List Item) → AllowedItems is → EditRight e is → OfOctets e → length (layoutItems (editedItems e is)) ≤ most-transfer-octets → AllowedItems (editedItems e is)
+items-allowed e is a r o l =
+    let c = changed e is r o in
+    let all = rw (c .was) at (a .each) in
+    let behind = each-right AllowedItem (c .old) (c .back) (each-right AllowedItem (c .front) (c .old ++ c .back) all) in
+    record {
+      each =
+          rw (c .becomes)
+          (each-append AllowedItem (c .front) (newItems e ++ c .back) (each-left AllowedItem (c .front) (c .old ++ c .back) all) (each-append AllowedItem (newItems e) (c .back) (new-each e is r o) behind));
+      often = λ u. items-often u e is r o (a .often u) c;
+      few-octets = l;
+    }
+
+-- ---- the record: the parts ahead of its one C5, it, and those behind it
+
+pub record Parted (r : List Part) : Type 0 where
+  pub ahead : List Part
+  pub items : List Item
+  pub behind : List Part
+  pub whole : r ≡ ahead ++ (dataPart items ∷ behind)
+  pub items-in : itemsIn r ≡ items
+  pub plain-ahead : Each Plain ahead
+  pub plain-behind : Each Plain behind
+
+-- one more part ahead
+part-ahead : (p : Part) (r : List Part) → HeldPart p → Plain p → Parted r → Parted (p ∷ r)
+part-ahead p r h e d =
+    record {
+      ahead = p ∷ d .ahead;
+      items = d .items;
+      behind = d .behind;
+      whole = ap (λ (l : List Part). p ∷ l) (d .whole);
+      items-in = rw (plain-items p h e) (d .items-in);
+      plain-ahead = (e, d .plain-ahead);
+      plain-behind = d .plain-behind;
+    }
+
+pub parted : (r : List Part) → Each HeldPart r → Once r → among transfer-data (headersOf r) ≡ true → Parted r
+parted [] h o m = absurd (let z : _≡_ {A = ℕ} 0 1 = cc in omega arith)
+parted (p ∷ r) h o m = go (eqb (p .header) transfer-data) refl (parted r (h .1))
+  where
+    go : (b : Bool) → eqb (p .header) transfer-data ≡ b → (Once r → among transfer-data (headersOf r) ≡ true → Parted r) → Parted (p ∷ r)
+    go true e f =
+        let x = nameOf transfer-data in
+        let names = partNamesOf r in
+        let five = eqb-true (p .header) transfer-data e in
+        let own : record { header = p .header; value = 0; items = p .items } ≡ p = rw e at (h .0 .own) in
+        let same : dataPart (p .items) ≡ p = cc in
+        let plain = unnamed-plain r (omega (arith, times-here x names, rw five at (o x))) in
+        record {
+          ahead = [];
+          items = p .items;
+          behind = r;
+          whole = rw same;
+          items-in = rw (plain-none r (h .1) plain) (append-nil (p .items));
+          plain-ahead = tt;
+          plain-behind = plain;
+        }
+    go false e f =
+        let rest : Once r = λ u. omega (arith, o u, times-rest u (nameOf (p .header)) (partNamesOf r)) in
+        let other : eqb transfer-data (p .header) ≡ false = ne-eqb _ _ (λ q. eqb-false (p .header) transfer-data e (sym q)) in
+        part-ahead p r (h .0) e (f rest (rw other at m))
+
+-- with no C5 nothing is edited
+plain-edited : (e : Edit) (r : List Part) → Each Plain r → edited e r ≡ r
+unfolding edited
+plain-edited e [] p = refl
+plain-edited e (q ∷ r) p = rw (p .0) (ap (λ (l : List Part). q ∷ l) (plain-edited e r (p .1)))
+
+pub parted-edited : (e : Edit) (ahead : List Part) (is : List Item) (behind : List Part) → Each Plain ahead → Each Plain behind → edited e (ahead ++ (dataPart is ∷ behind)) ≡ ahead ++ (dataPart (editedItems e is) ∷ behind)
+unfolding edited
+parted-edited e [] is behind a b = ap (λ (l : List Part). dataPart (editedItems e is) ∷ l) (plain-edited e behind b)
+parted-edited e (p ∷ ahead) is behind a b =
+    rw (a .0) (ap (λ (l : List Part). p ∷ l) (parted-edited e ahead is behind (a .1) b))
+
+-- the headers stay
+pub headers-kept : (f : ℕ → ℕ) (e : Edit) (r : List Part) → map (λ p. f (p .header)) (edited e r) ≡ map (λ p. f (p .header)) r
+unfolding edited
+headers-kept f e [] = refl
+headers-kept f e (p ∷ r) = go (eqb (p .header) transfer-data) (headers-kept f e r)
+  where
+    go : (b : Bool) → map (λ p. f (p .header)) (edited e r) ≡ map (λ p. f (p .header)) r → f (cond b (record { header = p .header; value = p .value; items = editedItems e (p .items) }) p .header) ∷ map (λ p. f (p .header)) (edited e r) ≡ f (p .header) ∷ map (λ p. f (p .header)) r
+    go true ih = ap (λ (l : List ℕ). f (p .header) ∷ l) ih
+    go false ih = ap (λ (l : List ℕ). f (p .header) ∷ l) ih
+
+items-append : (r s : List Part) → itemsIn (r ++ s) ≡ itemsIn r ++ itemsIn s
+items-append [] s = refl
+items-append (p ∷ r) s = rw (items-append r s, append-assoc)
+
+parted-items : (ahead : List Part) (is : List Item) (behind : List Part) → itemsIn ahead ≡ [] → itemsIn behind ≡ [] → itemsIn (ahead ++ (dataPart is ∷ behind)) ≡ is
+parted-items ahead is behind a b = rw (items-append ahead (dataPart is ∷ behind), a, b) (append-nil is)
+
+-- ---- an allowed record, edited
+
+module _ (e : Edit) (r : List Part) (a : Allowed r) (m : among transfer-data (headersOf r) ≡ true) where
+  pub one-data : Parted r
+  one-data = parted r (a .held) (allowed-once r a) m
+
+  pub record-edited : edited e r ≡ one-data .ahead ++ (dataPart (editedItems e (itemsIn r)) ∷ one-data .behind)
+  record-edited =
+      let d = one-data in
+      let t = parted-edited e (d .ahead) (d .items) (d .behind) (d .plain-ahead) (d .plain-behind) in
+      rw (d .items-in) (ap (edited e) (d .whole) ∙ t)
+
+  pub items-edited : itemsIn (edited e r) ≡ editedItems e (itemsIn r)
+  items-edited =
+      let d = one-data in
+      let held = rw (d .whole) at (a .held) in
+      let ahead = each-left HeldPart (d .ahead) (dataPart (d .items) ∷ d .behind) held in
+      let behind = each-right HeldPart (d .ahead) (dataPart (d .items) ∷ d .behind) held .1 in
+      ap itemsIn record-edited ∙ parted-items (d .ahead) (editedItems e (itemsIn r)) (d .behind) (plain-none (d .ahead) ahead (d .plain-ahead)) (plain-none (d .behind) behind (d .plain-behind))
+
+  pub record-allowed : EditRight e (itemsIn r) → OfOctets e → length (layoutItems (itemsIn (edited e r))) ≤ most-transfer-octets → Allowed (edited e r)
+  record-allowed w o l =
+      let d = one-data in
+      let is = editedItems e (itemsIn r) in
+      let parts = allowed-parts r a in
+      let all = rw (d .whole) at parts in
+      let items = items-allowed e (itemsIn r) (allowed-items r a) w o (rw items-edited at l) in
+      let ahead = each-left AllowedPart (d .ahead) (dataPart (d .items) ∷ d .behind) all in
+      let behind = each-right AllowedPart (d .ahead) (dataPart (d .items) ∷ d .behind) all .1 in
+      let each : Each AllowedPart (edited e r) = rw record-edited (each-append AllowedPart (d .ahead) (dataPart is ∷ d .behind) ahead (data-allowed is items, behind)) in
+      let once : Once (edited e r) = λ u. rw (headers-kept nameOf e r) (allowed-once r a u) in
+      allowed (edited e r) each once (rw (headers-kept (λ h. h) e r) (a .has-class)) (rw (headers-kept (λ h. h) e r) (a .has-kind))
+
+-- ---- the message in a buffer
+
+take-octets : (d : List ℕ) (n : ℕ) → every isOctet d ≡ true → every isOctet (take n d) ≡ true
+take-octets d n o = every-left isOctet (take n d) (drop n d) (rw (take-append-drop n d) o)
+
+pub message-allowed : (d : List ℕ) (n k : ℕ) → every isOctet d ≡ true → verdictOf (take n d) ≡ Accepted k → Allowed (recordOf (take n d)) × (layout (recordOf (take n d)) ≡ take n d)
+message-allowed d n k o v = let w = read-then-laid (take n d) (take-octets d n o) k v in (w .1, w .2)
+
+pub edit-allowed : (e : Edit) (d : List ℕ) (n : ℕ) → every isOctet d ≡ true → OfOctets e → NoReason e d n → Allowed (editedIn e d n)
+edit-allowed e d n o w f =
+    record-allowed e (recordOf (take n d)) (message-allowed d n n o (f .message) .0) (f .has-data) (f .right) w (f .few-octets)
+
+pub edited-allowed : (e : Edit) (d : List ℕ) (n k : ℕ) → every isOctet d ≡ true → OfOctets e → editingOf e d n ≡ Accepted k → Allowed (editedIn e d n) × (k ≡ length (layout (editedIn e d n)))
+edited-allowed e d n k o w a = let t = edit-taken e d n k a in (edit-allowed e d n o w (t .0), t .1)
