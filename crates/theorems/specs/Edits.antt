@@ -4,27 +4,29 @@ use Prim.Native.Nat.{ℕ, _+_, _≤_, _<_}
 use native.Mathlib.Omega.{arith}
 use mathlib.Core.Path.{_≡_, refl, sym, ap, _∙_}
 use mathlib.Core.Bool.{Bool, true, false, cond}
-use mathlib.Core.List.{List, [], _∷_, _++_, map, append-nil, append-assoc}
-use borrow.Author.Tests.{eqb-true, eqb-false, eq-eqb, ne-eqb, ltb-true}
+use mathlib.Core.List.{List, [], _∷_, _++_, map, append-nil}
+use borrow.Author.Tests.{eqb-true, eq-eqb, ltb-true}
 use lib.Dec.{eqb}
 use lib.ListN.{length, take, drop, take-append-drop}
 use Rattle.annex.specs.Units.{nameOf}
 use Rattle.annex.specs.Heads.{among, transfer-data, most-transfer-octets, oftenOf}
 use Rattle.annex.specs.Items.{Item, Part}
 use Rattle.annex.specs.Layout.{layoutItem, layoutItems, layout}
-use Rattle.annex.specs.Allowed.{every, Each, timesIn, isOctet, HeldPart, itemsIn, headersOf, namesOf, partNamesOf, Allowed}
+use Rattle.annex.specs.Allowed.{every, Each, timesIn, isOctet, itemsIn, headersOf, namesOf, Allowed}
 use Rattle.annex.specs.Walk.{Par}
 use Rattle.annex.specs.Reading.{verdictOf, recordOf}
-use Rattle.annex.specs.Editing.{Edit, newHeader, newItem, present, replaced, removed, editedItems, edited, editingOf}
+use Rattle.annex.specs.Editing.{Edit, newHeader, newItem, replaced, removed, editedItems, edited, editingOf}
 use Rattle.annex.specs.Editing.Edit.{Replacing, Appending, Removing}
 use Rattle.annex.specs.declared.Answer.the-variants.{Accepted}
 use Rattle.laws.specs.Bools.{and-left, and-right}
-use Rattle.theorems.specs.Lists.{each-append, each-left, each-right, every-left, times-here, times-rest, times-append}
+use Rattle.theorems.specs.Lists.{each-append, each-left, each-right, every-left, times-append}
 use Rattle.theorems.specs.Steps.{TransferOwn}
 use Rattle.theorems.specs.Transfers.{AllowedItem, AllowedItems, item-read}
 use Rattle.theorems.specs.Commons.{AllowedPart, dataPart, data-allowed}
-use Rattle.theorems.specs.Records.{Once, Plain, plain-items, unnamed-plain, plain-none, allowed, allowed-items, allowed-parts, allowed-once, names-append}
+use Rattle.theorems.specs.Records.{Once, Plain, allowed, allowed-items, allowed-parts, allowed-once, names-append}
 use Rattle.theorems.specs.Messages.{read-then-laid}
+use Rattle.theorems.specs.Named.{Other, choose}
+use Rattle.theorems.specs.Parted.{Parted, one-data, items-instead}
 use Rattle.theorems.specs.Reasons.{NewRight, EditRight, editedIn, NoReason, edit-taken}
 
 -- the new octets of an edit are octets
@@ -54,10 +56,6 @@ new-read (h ∷ xs) r o =
     record { header = i .header; laid = i .laid; allowed = i .allowed }
 
 -- ---- the parameters of C5: those in front of the edited one, it, and those behind it
-
--- this parameter has another name
-abbrev pub Other : ℕ → Item → Type 0
-Other x i = eqb (nameOf (i .header)) x ≡ false
 
 -- the first of the name x
 pub record First (x : ℕ) (front old : List Item) : Type 0 where
@@ -90,34 +88,6 @@ pub record Changed (e : Edit) (is : List Item) : Type 0 where
   pub was : is ≡ front ++ (old ++ back)
   pub becomes : editedItems e is ≡ front ++ (newItems e ++ back)
   pub taken : Taken e front old back
-
-record Chosen (x : ℕ) (is : List Item) : Type 0 where
-  front : List Item
-  one : Item
-  back : List Item
-  whole : is ≡ front ++ (one ∷ back)
-  named : nameOf (one .header) ≡ x
-  others : Each (Other x) front
-
-choose : (x : ℕ) (is : List Item) → present x is ≡ true → Chosen x is
-choose x [] p = absurd (let z : _≡_ {A = ℕ} 0 1 = cc in omega arith)
-choose x (i ∷ is) p = go (eqb (nameOf (i .header)) x) refl (choose x is)
-  where
-    y : ℕ
-    y = nameOf (i .header)
-
-    go : (b : Bool) → eqb y x ≡ b → (present x is ≡ true → Chosen x is) → Chosen x (i ∷ is)
-    go true e f = record { front = []; one = i; back = is; whole = refl; named = eqb-true y x e; others = tt }
-    go false e f =
-        let c = f (rw (ne-eqb x y (λ q. eqb-false y x e (sym q))) at p) in
-        record {
-          front = i ∷ c .front;
-          one = c .one;
-          back = c .back;
-          whole = ap (λ (l : List Item). i ∷ l) (c .whole);
-          named = c .named;
-          others = (e, c .others);
-        }
 
 pub replaced-first : (new one : Item) (x : ℕ) (front back : List Item) → nameOf (new .header) ≡ x → nameOf (one .header) ≡ x → Each (Other x) front → replaced new (front ++ (one ∷ back)) ≡ front ++ (new ∷ back)
 unfolding replaced
@@ -208,55 +178,7 @@ items-allowed e is a r o l =
       few-octets = l;
     }
 
--- ---- the record: the parts ahead of its one C5, it, and those behind it
-
-pub record Parted (r : List Part) : Type 0 where
-  pub ahead : List Part
-  pub items : List Item
-  pub behind : List Part
-  pub whole : r ≡ ahead ++ (dataPart items ∷ behind)
-  pub items-in : itemsIn r ≡ items
-  pub plain-ahead : Each Plain ahead
-  pub plain-behind : Each Plain behind
-
--- one more part ahead
-part-ahead : (p : Part) (r : List Part) → HeldPart p → Plain p → Parted r → Parted (p ∷ r)
-part-ahead p r h e d =
-    record {
-      ahead = p ∷ d .ahead;
-      items = d .items;
-      behind = d .behind;
-      whole = ap (λ (l : List Part). p ∷ l) (d .whole);
-      items-in = rw (plain-items p h e) (d .items-in);
-      plain-ahead = (e, d .plain-ahead);
-      plain-behind = d .plain-behind;
-    }
-
-pub parted : (r : List Part) → Each HeldPart r → Once r → among transfer-data (headersOf r) ≡ true → Parted r
-parted [] h o m = absurd (let z : _≡_ {A = ℕ} 0 1 = cc in omega arith)
-parted (p ∷ r) h o m = go (eqb (p .header) transfer-data) refl (parted r (h .1))
-  where
-    go : (b : Bool) → eqb (p .header) transfer-data ≡ b → (Once r → among transfer-data (headersOf r) ≡ true → Parted r) → Parted (p ∷ r)
-    go true e f =
-        let x = nameOf transfer-data in
-        let names = partNamesOf r in
-        let five = eqb-true (p .header) transfer-data e in
-        let own : record { header = p .header; value = 0; items = p .items } ≡ p = rw e at (h .0 .own) in
-        let same : dataPart (p .items) ≡ p = cc in
-        let plain = unnamed-plain r (omega (arith, times-here x names, rw five at (o x))) in
-        record {
-          ahead = [];
-          items = p .items;
-          behind = r;
-          whole = rw same;
-          items-in = rw (plain-none r (h .1) plain) (append-nil (p .items));
-          plain-ahead = tt;
-          plain-behind = plain;
-        }
-    go false e f =
-        let rest : Once r = λ u. omega (arith, o u, times-rest u (nameOf (p .header)) (partNamesOf r)) in
-        let other : eqb transfer-data (p .header) ≡ false = ne-eqb _ _ (λ q. eqb-false (p .header) transfer-data e (sym q)) in
-        part-ahead p r (h .0) e (f rest (rw other at m))
+-- ---- the record
 
 -- with no C5 nothing is edited
 plain-edited : (e : Edit) (r : List Part) → Each Plain r → edited e r ≡ r
@@ -264,7 +186,7 @@ unfolding edited
 plain-edited e [] p = refl
 plain-edited e (q ∷ r) p = rw (p .0) (ap (λ (l : List Part). q ∷ l) (plain-edited e r (p .1)))
 
-pub parted-edited : (e : Edit) (ahead : List Part) (is : List Item) (behind : List Part) → Each Plain ahead → Each Plain behind → edited e (ahead ++ (dataPart is ∷ behind)) ≡ ahead ++ (dataPart (editedItems e is) ∷ behind)
+parted-edited : (e : Edit) (ahead : List Part) (is : List Item) (behind : List Part) → Each Plain ahead → Each Plain behind → edited e (ahead ++ (dataPart is ∷ behind)) ≡ ahead ++ (dataPart (editedItems e is) ∷ behind)
 unfolding edited
 parted-edited e [] is behind a b = ap (λ (l : List Part). dataPart (editedItems e is) ∷ l) (plain-edited e behind b)
 parted-edited e (p ∷ ahead) is behind a b =
@@ -280,42 +202,35 @@ headers-kept f e (p ∷ r) = go (eqb (p .header) transfer-data) (headers-kept f 
     go true ih = ap (λ (l : List ℕ). f (p .header) ∷ l) ih
     go false ih = ap (λ (l : List ℕ). f (p .header) ∷ l) ih
 
-items-append : (r s : List Part) → itemsIn (r ++ s) ≡ itemsIn r ++ itemsIn s
-items-append [] s = refl
-items-append (p ∷ r) s = rw (items-append r s, append-assoc)
-
-parted-items : (ahead : List Part) (is : List Item) (behind : List Part) → itemsIn ahead ≡ [] → itemsIn behind ≡ [] → itemsIn (ahead ++ (dataPart is ∷ behind)) ≡ is
-parted-items ahead is behind a b = rw (items-append ahead (dataPart is ∷ behind), a, b) (append-nil is)
-
--- ---- an allowed record, edited
-
 module _ (e : Edit) (r : List Part) (a : Allowed r) (m : among transfer-data (headersOf r) ≡ true) where
-  pub one-data : Parted r
-  one-data = parted r (a .held) (allowed-once r a) m
-
-  pub record-edited : edited e r ≡ one-data .ahead ++ (dataPart (editedItems e (itemsIn r)) ∷ one-data .behind)
+  record-edited : edited e r ≡ one-data r a m .ahead ++ (dataPart (editedItems e (itemsIn r)) ∷ one-data r a m .behind)
   record-edited =
-      let d = one-data in
-      let t = parted-edited e (d .ahead) (d .items) (d .behind) (d .plain-ahead) (d .plain-behind) in
-      rw (d .items-in) (ap (edited e) (d .whole) ∙ t)
+      let d = one-data r a m in
+      ap (edited e) (d .whole) ∙ parted-edited e (d .ahead) (itemsIn r) (d .behind) (d .plain-ahead) (d .plain-behind)
 
   pub items-edited : itemsIn (edited e r) ≡ editedItems e (itemsIn r)
-  items-edited =
-      let d = one-data in
-      let held = rw (d .whole) at (a .held) in
-      let ahead = each-left HeldPart (d .ahead) (dataPart (d .items) ∷ d .behind) held in
-      let behind = each-right HeldPart (d .ahead) (dataPart (d .items) ∷ d .behind) held .1 in
-      ap itemsIn record-edited ∙ parted-items (d .ahead) (editedItems e (itemsIn r)) (d .behind) (plain-none (d .ahead) ahead (d .plain-ahead)) (plain-none (d .behind) behind (d .plain-behind))
+  items-edited = ap itemsIn record-edited ∙ items-instead r (a .held) (one-data r a m) (editedItems e (itemsIn r))
+
+  -- its C5 stands where it stood
+  pub data-edited : Parted (edited e r)
+  data-edited =
+      let d = one-data r a m in
+      record {
+        ahead = d .ahead;
+        behind = d .behind;
+        whole = rw items-edited record-edited;
+        plain-ahead = d .plain-ahead;
+        plain-behind = d .plain-behind;
+      }
 
   pub record-allowed : EditRight e (itemsIn r) → OfOctets e → length (layoutItems (itemsIn (edited e r))) ≤ most-transfer-octets → Allowed (edited e r)
   record-allowed w o l =
-      let d = one-data in
+      let d = one-data r a m in
       let is = editedItems e (itemsIn r) in
-      let parts = allowed-parts r a in
-      let all = rw (d .whole) at parts in
       let items = items-allowed e (itemsIn r) (allowed-items r a) w o (rw items-edited at l) in
-      let ahead = each-left AllowedPart (d .ahead) (dataPart (d .items) ∷ d .behind) all in
-      let behind = each-right AllowedPart (d .ahead) (dataPart (d .items) ∷ d .behind) all .1 in
+      let all = rw (d .whole) at (allowed-parts r a) in
+      let ahead = each-left AllowedPart (d .ahead) (dataPart (itemsIn r) ∷ d .behind) all in
+      let behind = each-right AllowedPart (d .ahead) (dataPart (itemsIn r) ∷ d .behind) all .1 in
       let each : Each AllowedPart (edited e r) = rw record-edited (each-append AllowedPart (d .ahead) (dataPart is ∷ d .behind) ahead (data-allowed is items, behind)) in
       let once : Once (edited e r) = λ u. rw (headers-kept nameOf e r) (allowed-once r a u) in
       allowed (edited e r) each once (rw (headers-kept (λ h. h) e r) (a .has-class)) (rw (headers-kept (λ h. h) e r) (a .has-kind))

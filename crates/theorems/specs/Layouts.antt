@@ -160,17 +160,30 @@ verdict-built r t l =
     let some = layout-some r in
     rw (ne-eqb (length (layout r)) 0 (λ e. omega arith), le-ltb most-octets (length (layout r)) l) (message-built r t)
 
-record-built : (r : List Part) → Trail commonStep unseen 0 (partPars 0 r) → Each AllowedPart r → Each Built r → recordOf (layout r) ≡ r
-unfolding recordOf commonsOf
-record-built r t a b =
+-- what is listed of it: its parts and the end mark
+commons-built : (r : List Part) → Trail commonStep unseen 0 (partPars 0 r) → commonsOf (layout r) ≡ partPars 0 r
+unfolding commonsOf
+commons-built r t =
     let qs = partPars 0 r in
-    ap (λ (l : List Par). map openCommon (withoutEnd l)) (rw (pars-laid r 0) at (built (listing commonStep) qs unseen 0 t ∙ made-list commonStep qs unseen 0))
-    ∙ each-opens r 0 a b
+    rw (pars-laid r 0) at (built (listing commonStep) qs unseen 0 t ∙ made-list commonStep qs unseen 0)
+
+record-built : (r : List Part) → Trail commonStep unseen 0 (partPars 0 r) → Each AllowedPart r → Each Built r → recordOf (layout r) ≡ r
+unfolding recordOf
+record-built r t a b = ap (λ (l : List Par). map openCommon (withoutEnd l)) (commons-built r t) ∙ each-opens r 0 a b
+
+all-built : (r : List Part) → Allowed r → Each Built r
+all-built r a = each-so AllowedPart Built part-built r (allowed-parts r a)
+
+trail-built : (r : List Part) → Allowed r → Trail commonStep unseen 0 (partPars 0 r)
+trail-built r a = each-trail r unseen 0 (all-built r a) full-unseen (standing r a)
+
+pub laid-then-listed : (r : List Part) → Allowed r → commonsOf (layout r) ≡ partPars 0 r
+laid-then-listed r a = commons-built r (trail-built r a)
 
 pub laid-then-read : (r : List Part) → Allowed r → (verdictOf (layout r) ≡ Accepted (length (layout r))) × (recordOf (layout r) ≡ r) × (every isOctet (layout r) ≡ true) × (length (layout r) ≤ most-octets)
 laid-then-read r a =
     let p = allowed-parts r a in
-    let b = each-so AllowedPart Built part-built r p in
-    let t = each-trail r unseen 0 b full-unseen (standing r a) in
+    let b = all-built r a in
+    let t = trail-built r a in
     let most = layout-most r p (allowed-once r a) b in
     (verdict-built r t most, record-built r t p b, each-octets r p b, most)

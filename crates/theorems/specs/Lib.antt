@@ -12,6 +12,9 @@ pub mod Layouts
 pub mod Rounds
 pub mod Views
 pub mod Writings
+pub mod Named
+pub mod Parted
+pub mod Places
 pub mod Reasons
 pub mod Edits
 pub mod Buffers

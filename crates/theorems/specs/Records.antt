@@ -75,9 +75,6 @@ pub plain-none : (r : List Part) → Each HeldPart r → Each Plain r → itemsI
 plain-none [] h p = refl
 plain-none (q ∷ r) h p = rw (plain-items q (h .0) (p .0)) (plain-none r (h .1) (p .1))
 
-no-data : (r : List Part) → Each AllowedPart r → timesIn (nameOf transfer-data) (partNamesOf r) ≡ 0 → itemsIn r ≡ []
-no-data r a t = plain-none r (each-so AllowedPart HeldPart (λ p b. b .held) r a) (unnamed-plain r t)
-
 pub parts-items : (r : List Part) → Each AllowedPart r → Once r → AllowedItems (itemsIn r)
 parts-items [] a o = no-items
 parts-items (p ∷ r) a o = go (eqb (p .header) transfer-data) refl (parts-items r (a .1) (λ u. once-rest u))
@@ -92,7 +89,9 @@ parts-items (p ∷ r) a o = go (eqb (p .header) transfer-data) refl (parts-items
     once-rest u = omega (arith, o u, times-rest u (nameOf (p .header)) names)
 
     go : (b : Bool) → eqb (p .header) transfer-data ≡ b → AllowedItems (itemsIn r) → AllowedItems (p .items ++ itemsIn r)
-    go true e f = rw (no-data r (a .1) (omega (arith, times-here x names, rw (eqb-true (p .header) transfer-data e) at (o x))), append-nil) (a .0 .items)
+    go true e f =
+        let plain = unnamed-plain r (omega (arith, times-here x names, rw (eqb-true (p .header) transfer-data e) at (o x))) in
+        rw (plain-none r (each-so AllowedPart HeldPart (λ p b. b .held) r (a .1)) plain, append-nil) (a .0 .items)
     go false e f = rw (plain-items p (a .0 .held) e) f
 
 -- ---- the limits

@@ -165,6 +165,7 @@ each-trail (i ∷ is) seen p b f s =
 
 pub record TransfersBuilt (is : List Item) : Type 0 where
   pub verdict : transfersVerdict (layoutItems is) ≡ Accepted (length (layoutItems is))
+  pub listed : transfersOf (layoutItems is) ≡ itemPars 0 is
   pub opens : map openTransfer (transfersOf (layoutItems is)) ≡ is
   pub octets : every isOctet (layoutItems is) ≡ true
 
@@ -188,12 +189,12 @@ transfers-built is a =
     let s : Sparing oftenOf unseen (namesOf is) = λ u. omega (arith, none-seen u, a .often u) in
     let t = each-trail is unseen 0 b full-unseen s in
     let end : 0 + length (layoutItems is) ≡ length (layoutItems is) = omega arith in
+    let listed = rw (pars-laid is 0) at (built (listing transferStep) qs unseen 0 t ∙ made-list transferStep qs unseen 0) in
     record {
       verdict =
           rw (← end, ← pars-laid is 0)
           (built (judging transferStep (λ seen p. Accepted p)) qs unseen 0 t ∙ made-answer transferStep (λ seen p. Accepted p) qs unseen 0);
-      opens =
-          ap (map openTransfer) (rw (pars-laid is 0) at (built (listing transferStep) qs unseen 0 t ∙ made-list transferStep qs unseen 0))
-          ∙ each-opens is 0 b;
+      listed = listed;
+      opens = ap (map openTransfer) listed ∙ each-opens is 0 b;
       octets = each-octets is b;
     }
