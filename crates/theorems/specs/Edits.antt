@@ -9,10 +9,10 @@ use borrow.Author.Tests.{eqb-true, eq-eqb, ltb-true}
 use lib.Dec.{eqb}
 use lib.ListN.{length, take, drop, take-append-drop}
 use Rattle.annex.specs.Units.{nameOf}
-use Rattle.annex.specs.Heads.{among, transfer-data, most-transfer-octets, oftenOf}
+use Rattle.annex.specs.Heads.{transfer-data, most-transfer-octets, oftenOf}
 use Rattle.annex.specs.Items.{Item, Part}
 use Rattle.annex.specs.Layout.{layoutItem, layoutItems, layout}
-use Rattle.annex.specs.Allowed.{every, Each, timesIn, isOctet, itemsIn, headersOf, namesOf, Allowed}
+use Rattle.annex.specs.Allowed.{every, Each, timesIn, isOctet, itemsIn, namesOf, Allowed}
 use Rattle.annex.specs.Walk.{Par}
 use Rattle.annex.specs.Reading.{verdictOf, recordOf}
 use Rattle.annex.specs.Editing.{Edit, newHeader, newItem, replaced, removed, editedItems, edited, editingOf}
@@ -202,19 +202,17 @@ headers-kept f e (p ∷ r) = go (eqb (p .header) transfer-data) (headers-kept f 
     go true ih = ap (λ (l : List ℕ). f (p .header) ∷ l) ih
     go false ih = ap (λ (l : List ℕ). f (p .header) ∷ l) ih
 
-module _ (e : Edit) (r : List Part) (a : Allowed r) (m : among transfer-data (headersOf r) ≡ true) where
-  record-edited : edited e r ≡ one-data r a m .ahead ++ (dataPart (editedItems e (itemsIn r)) ∷ one-data r a m .behind)
+module _ (e : Edit) (r : List Part) (a : Allowed r) (d : Parted r) where
+  pub record-edited : edited e r ≡ d .ahead ++ (dataPart (editedItems e (itemsIn r)) ∷ d .behind)
   record-edited =
-      let d = one-data r a m in
       ap (edited e) (d .whole) ∙ parted-edited e (d .ahead) (itemsIn r) (d .behind) (d .plain-ahead) (d .plain-behind)
 
   pub items-edited : itemsIn (edited e r) ≡ editedItems e (itemsIn r)
-  items-edited = ap itemsIn record-edited ∙ items-instead r (a .held) (one-data r a m) (editedItems e (itemsIn r))
+  items-edited = ap itemsIn record-edited ∙ items-instead r (a .held) d (editedItems e (itemsIn r))
 
   -- its C5 stands where it stood
-  pub data-edited : Parted (edited e r)
+  unfoldable pub data-edited : Parted (edited e r)
   data-edited =
-      let d = one-data r a m in
       record {
         ahead = d .ahead;
         behind = d .behind;
@@ -225,7 +223,6 @@ module _ (e : Edit) (r : List Part) (a : Allowed r) (m : among transfer-data (he
 
   pub record-allowed : EditRight e (itemsIn r) → OfOctets e → length (layoutItems (itemsIn (edited e r))) ≤ most-transfer-octets → Allowed (edited e r)
   record-allowed w o l =
-      let d = one-data r a m in
       let is = editedItems e (itemsIn r) in
       let items = items-allowed e (itemsIn r) (allowed-items r a) w o (rw items-edited at l) in
       let all = rw (d .whole) at (allowed-parts r a) in
@@ -245,7 +242,9 @@ message-allowed d n k o v = let w = read-then-laid (take n d) (take-octets d n o
 
 pub edit-allowed : (e : Edit) (d : List ℕ) (n : ℕ) → every isOctet d ≡ true → OfOctets e → NoReason e d n → Allowed (editedIn e d n)
 edit-allowed e d n o w f =
-    record-allowed e (recordOf (take n d)) (message-allowed d n n o (f .message) .0) (f .has-data) (f .right) w (f .few-octets)
+    let r = recordOf (take n d) in
+    let a = message-allowed d n n o (f .message) .0 in
+    record-allowed e r a (one-data r a (f .has-data)) (f .right) w (f .few-octets)
 
 pub edited-allowed : (e : Edit) (d : List ℕ) (n k : ℕ) → every isOctet d ≡ true → OfOctets e → editingOf e d n ≡ Accepted k → Allowed (editedIn e d n) × (k ≡ length (layout (editedIn e d n)))
 edited-allowed e d n k o w a = let t = edit-taken e d n k a in (edit-allowed e d n o w (t .0), t .1)

@@ -18,3 +18,4 @@ pub mod Places
 pub mod Reasons
 pub mod Edits
 pub mod Buffers
+pub mod Splices
