@@ -19,3 +19,4 @@ pub mod Reasons
 pub mod Edits
 pub mod Buffers
 pub mod Splices
+pub mod Undone

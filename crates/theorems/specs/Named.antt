@@ -8,10 +8,11 @@ use borrow.Author.Tests.{eqb-true, eqb-false, ne-eqb}
 use lib.Dec.{eqb}
 use Rattle.annex.specs.Units.{nameOf}
 use Rattle.annex.specs.Items.{Item}
-use Rattle.annex.specs.Allowed.{Each, namesOf}
+use Rattle.annex.specs.Allowed.{Each, timesIn, namesOf}
 use Rattle.annex.specs.Heads.{among}
 use Rattle.annex.specs.Editing.{present}
 use Rattle.laws.specs.Bools.{or-left, or-right}
+use Rattle.theorems.specs.Lists.{times-here, times-rest}
 
 -- this parameter has another name
 abbrev pub Other : ℕ → Item → Type 0
@@ -53,3 +54,11 @@ absent-others x (i ∷ is) p =
     let b = eqb x y in
     let c = among x (namesOf is) in
     (ne-eqb y x (λ q. eqb-false x y (or-left b c p) (sym q)), absent-others x is (or-right b c p))
+
+pub none-others : (x : ℕ) (is : List Item) → timesIn x (namesOf is) ≡ 0 → Each (Other x) is
+none-others x [] t = tt
+none-others x (i ∷ is) t = (go (eqb (nameOf (i .header)) x) refl, none-others x is (omega (arith, times-rest x (nameOf (i .header)) (namesOf is))))
+  where
+    go : (b : Bool) → eqb (nameOf (i .header)) x ≡ b → b ≡ false
+    go true e = absurd (omega (arith, times-here x (namesOf is), rw (eqb-true (nameOf (i .header)) x e) at t))
+    go false e = refl
