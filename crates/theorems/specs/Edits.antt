@@ -64,12 +64,6 @@ pub record First (x : ℕ) (front old : List Item) : Type 0 where
   pub named : nameOf (one .header) ≡ x
   pub others : Each (Other x) front
 
--- the name that an edit is about
-abbrev pub nameIn : Edit → ℕ
-nameIn (Replacing new) = nameOf (newHeader new)
-nameIn (Appending new) = nameOf (newHeader new)
-nameIn (Removing x) = x
-
 -- what an edit puts in, and what it takes out
 abbrev pub newItems : Edit → List Item
 newItems (Replacing new) = newItem new ∷ []
@@ -89,7 +83,7 @@ pub record Changed (e : Edit) (is : List Item) : Type 0 where
   pub becomes : editedItems e is ≡ front ++ (newItems e ++ back)
   pub taken : Taken e front old back
 
-pub replaced-first : (new one : Item) (x : ℕ) (front back : List Item) → nameOf (new .header) ≡ x → nameOf (one .header) ≡ x → Each (Other x) front → replaced new (front ++ (one ∷ back)) ≡ front ++ (new ∷ back)
+replaced-first : (new one : Item) (x : ℕ) (front back : List Item) → nameOf (new .header) ≡ x → nameOf (one .header) ≡ x → Each (Other x) front → replaced new (front ++ (one ∷ back)) ≡ front ++ (new ∷ back)
 unfolding replaced
 replaced-first new one x [] back n o a = rw (n, eq-eqb _ x o)
 replaced-first new one x (i ∷ front) back n o a =

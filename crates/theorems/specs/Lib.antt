@@ -20,3 +20,4 @@ pub mod Edits
 pub mod Buffers
 pub mod Splices
 pub mod Undone
+pub mod Finds

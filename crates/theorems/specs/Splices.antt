@@ -58,12 +58,12 @@ pub record Spliced (e : Edit) (m m′ : List ℕ) : Type 0 where
 layout-three : (f o b : List Item) → layoutItems (f ++ (o ++ b)) ≡ layoutItems f ++ (layoutItems o ++ layoutItems b)
 layout-three f o b = rw (layout-append f (o ++ b), layout-append o b)
 
-layout-one : (i : Item) → layoutItems (i ∷ []) ≡ layoutItem i
+pub layout-one : (i : Item) → layoutItems (i ∷ []) ≡ layoutItem i
 unfolding layoutItems
 layout-one i = append-nil (layoutItem i)
 
 -- a record with these transfer parameters in its C5, laid out
-layout-spliced : (r : List Part) (d : Parted r) (f o b : List Item) → itemsIn r ≡ f ++ (o ++ b) → layout r ≡ spliced (layoutParts (d .ahead)) (layoutItems f) (layoutItems o) (layoutItems b) (layout (d .behind))
+pub layout-spliced : (r : List Part) (d : Parted r) (f o b : List Item) → itemsIn r ≡ f ++ (o ++ b) → layout r ≡ spliced (layoutParts (d .ahead)) (layoutItems f) (layoutItems o) (layoutItems b) (layout (d .behind))
 layout-spliced r d f o b e =
     let t = layoutItems f ++ (layoutItems o ++ layoutItems b) in
     let l : layoutItems (itemsIn r) ≡ t = ap layoutItems e ∙ layout-three f o b in
