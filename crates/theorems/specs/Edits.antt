@@ -7,7 +7,7 @@ use mathlib.Core.Bool.{Bool, true, false, cond}
 use mathlib.Core.List.{List, [], _∷_, _++_, map, append-nil}
 use borrow.Author.Tests.{eqb-true, eq-eqb, ltb-true}
 use lib.Dec.{eqb}
-use lib.ListN.{length, take, drop, take-append-drop}
+use lib.ListN.{length, take}
 use Rattle.annex.specs.Units.{nameOf}
 use Rattle.annex.specs.Heads.{transfer-data, most-transfer-octets, oftenOf}
 use Rattle.annex.specs.Items.{Item, Part}
@@ -19,7 +19,7 @@ use Rattle.annex.specs.Editing.{Edit, newHeader, newItem, replaced, removed, ed
 use Rattle.annex.specs.Editing.Edit.{Replacing, Appending, Removing}
 use Rattle.annex.specs.declared.Answer.the-variants.{Accepted}
 use Rattle.laws.specs.Bools.{and-left, and-right}
-use Rattle.theorems.specs.Lists.{each-append, each-left, each-right, every-left, times-append}
+use Rattle.theorems.specs.Lists.{each-append, each-left, each-right, every-take, times-append}
 use Rattle.theorems.specs.Steps.{TransferOwn}
 use Rattle.theorems.specs.Transfers.{AllowedItem, AllowedItems, item-read}
 use Rattle.theorems.specs.Commons.{AllowedPart, dataPart, data-allowed}
@@ -228,11 +228,8 @@ module _ (e : Edit) (r : List Part) (a : Allowed r) (d : Parted r) where
 
 -- ---- the message in a buffer
 
-take-octets : (d : List ℕ) (n : ℕ) → every isOctet d ≡ true → every isOctet (take n d) ≡ true
-take-octets d n o = every-left isOctet (take n d) (drop n d) (rw (take-append-drop n d) o)
-
 pub message-allowed : (d : List ℕ) (n k : ℕ) → every isOctet d ≡ true → verdictOf (take n d) ≡ Accepted k → Allowed (recordOf (take n d)) × (layout (recordOf (take n d)) ≡ take n d)
-message-allowed d n k o v = let w = read-then-laid (take n d) (take-octets d n o) k v in (w .1, w .2)
+message-allowed d n k o v = let w = read-then-laid (take n d) (every-take isOctet n d o) k v in (w .1, w .2)
 
 pub edit-allowed : (e : Edit) (d : List ℕ) (n : ℕ) → every isOctet d ≡ true → OfOctets e → NoReason e d n → Allowed (editedIn e d n)
 edit-allowed e d n o w f =

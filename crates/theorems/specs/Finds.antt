@@ -26,7 +26,7 @@ use Rattle.theorems.specs.Places.{transfer-found}
 use Rattle.theorems.specs.Reasons.{NewRight, edit-taken}
 use Rattle.theorems.specs.Edits.{OfOctets, new-read, changed, items-edited, data-edited, message-allowed, edited-allowed}
 use Rattle.theorems.specs.Buffers.{buffer-edited}
-use Rattle.theorems.specs.Splices.{layout-one, layout-spliced}
+use Rattle.theorems.specs.Splices.{layout-one, layout-with}
 use Rattle.theorems.specs.Undone.{new-others}
 
 -- ---- in any allowed record
@@ -47,7 +47,7 @@ contents-found r a d x front one back w n o =
     let s = length (layoutParts (d .ahead)) + 2 + length (layoutItems front) in
     let long : length p ≡ s = simp length-append (omega arith) in
     let start : s + 1 + lead ≡ length p + (1 + lead) = omega arith in
-    let whole : layout r ≡ p ++ (xs ++ rest) = rw (append-assoc, ← layout-one one) (layout-spliced r d front (one ∷ []) back w) in
+    let whole : layout r ≡ p ++ (xs ++ rest) = rw (append-assoc, ← layout-one one) (layout-with r d front (one ∷ []) back w) in
     let found : findPart (layout r) (transferFound x (layout r)) ≡ foundPart (layout r) (At (s + 1 + lead) (s + length xs)) = rw (laid-then-read r a .0, transfer-found r a d x front one back w n o) in
     found ∙ rw (whole, start, ← long) (stretch p xs rest (1 + lead)) ∙ sym (drop-drop lead 1 xs)
 

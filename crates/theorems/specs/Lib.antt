@@ -1,4 +1,4 @@
--- Theorems about the definitions of document 01: reading and layout undo one another, and so do reading and writing.
+-- Theorems about the definitions of document 01: reading and layout undo one another, and so do reading and writing; and what an edit leaves.
 pub mod Lists
 pub mod Trails
 pub mod Counts

@@ -113,6 +113,15 @@ times-rest u x xs = go (eqb u x)
     go true = omega arith
     go false = omega arith
 
+-- one is among the list if it stands there at all
+pub among-times : (x : ℕ) (ys : List ℕ) → leb 1 (timesIn x ys) ≡ among x ys
+among-times x [] = refl
+among-times x (y ∷ ys) = go (eqb x y) (among-times x ys)
+  where
+    go : (b : Bool) → leb 1 (timesIn x ys) ≡ among x ys → leb 1 (cond b (suc (timesIn x ys)) (timesIn x ys)) ≡ b || among x ys
+    go true e = le-leb 1 (suc (timesIn x ys)) (omega arith)
+    go false e = e
+
 -- what is tested of each is so of one that stands there
 pub stands : (f : ℕ → Bool) (xs : List ℕ) (u : ℕ) → every f xs ≡ true → 0 < timesIn u xs → f u ≡ true
 stands f [] u p h = absurd (omega arith)

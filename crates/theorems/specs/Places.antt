@@ -3,22 +3,25 @@
 use Prim.Native.Nat.{ℕ, _+_}
 use native.Mathlib.Omega.{arith}
 use native.Mathlib.Nat.{add-zero, zero-add}
-use mathlib.Core.Path.{_≡_, refl, ap, _∙_}
+use mathlib.Core.Path.{_≡_, refl, sym, ap, _∙_}
 use mathlib.Core.Bool.{Bool, true, false}
 use mathlib.Core.List.{List, [], _∷_, _++_, append-nil}
 use borrow.Author.Tests.{eq-eqb}
+use lib.Dec.{eqb, leb}
 use lib.ListN.{length, drop, length-append}
 use Rattle.annex.specs.Units.{nameOf, leadOf, extentOf, commonExtentOf}
-use Rattle.annex.specs.Heads.{among, transfer-data}
+use Rattle.annex.specs.Heads.{among, transfer-data, oftenOf}
 use Rattle.annex.specs.Items.{Item, Part, contentsOf}
 use Rattle.annex.specs.Layout.{ledBy, layoutItem, layoutItems, layoutPart, layout}
-use Rattle.annex.specs.Allowed.{every, Each, isOctet, itemsIn, headersOf, Allowed}
+use Rattle.annex.specs.Allowed.{every, Each, timesIn, isOctet, itemsIn, headersOf, namesOf, Allowed}
+use Rattle.annex.specs.Walk.{Par}
 use Rattle.annex.specs.Reading.{verdictOf, transfersOf, recordOf}
 use Rattle.annex.specs.Finding.{commonIn, commonFound, transferIn, transferAmong, transferFound}
 use Rattle.annex.specs.Editing.{present}
 use Rattle.annex.specs.declared.Answer.the-variants.{Accepted}
 use Rattle.annex.specs.declared.Found.{Found}
 use Rattle.annex.specs.declared.Found.the-variants.{At, Nowhere}
+use Rattle.theorems.specs.Lists.{among-times}
 use Rattle.theorems.specs.Transfers.{itemPar, itemPars, transfers-built}
 use Rattle.theorems.specs.Commons.{dataPart, partPar}
 use Rattle.theorems.specs.Records.{Plain, plain-none, allowed-items}
@@ -86,6 +89,23 @@ transfer-here x s one (i ∷ front) back p n o =
     let l : length (layoutItem i ++ layoutItems front) ≡ 1 + length (itemPar p i .own) + length (layoutItems front) = simp length-append (omega (arith, item-length i)) in
     rw (o .0) (transfer-here x s one front back p′ n (o .1) ∙ same-at _ _ _ _ (omega arith) (omega arith))
 
+-- the same, of the list
+abbrev pub OtherPar : ℕ → Par → Type 0
+OtherPar x q = eqb (nameOf (q .head)) x ≡ false
+
+items-behind : (front rest : List Item) (p : ℕ) → itemPars p (front ++ rest) ≡ itemPars p front ++ itemPars (p + length (layoutItems front)) rest
+unfolding itemPars layoutItems
+items-behind [] rest p = rw add-zero
+items-behind (i ∷ front) rest p =
+    let p′ = p + 1 + length (itemPar p i .own) in
+    let l : p′ + length (layoutItems front) ≡ p + length (layoutItem i ++ layoutItems front) = simp length-append (omega (arith, item-length i)) in
+    ap (λ (qs : List Par). itemPar p i ∷ qs) (items-behind front rest p′ ∙ ap (λ (k : ℕ). itemPars p′ front ++ itemPars k rest) l)
+
+pub other-pars : (x : ℕ) (is : List Item) (p : ℕ) → Each (Other x) is → Each (OtherPar x) (itemPars p is)
+unfolding itemPars
+other-pars x [] p o = tt
+other-pars x (i ∷ is) p o = (o .0, other-pars x is (p + 1 + length (itemPar p i .own)) (o .1))
+
 transfer-nowhere : (x s : ℕ) (is : List Item) (p : ℕ) → Each (Other x) is → transferIn x s (itemPars p is) ≡ Nowhere
 unfolding itemPars transferIn
 transfer-nowhere x s [] p o = refl
@@ -109,6 +129,12 @@ module _ (r : List Part) (a : Allowed r) (d : Parted r) where
   transfer-found x front one back w n o =
       let s = length (layoutParts (d .ahead)) + 2 in
       transfers-found x ∙ ap (λ (is : List Item). transferIn x s (itemPars 0 is)) w ∙ rw add-zero at (transfer-here x s one front back 0 n o)
+
+  -- and what is listed of the transfer data
+  pub transfer-listed : (front : List Item) (one : Item) (back : List Item) → itemsIn r ≡ front ++ (one ∷ back) → transfersOf (layoutItems (itemsIn r)) ≡ itemPars 0 front ++ (itemPar (length (layoutItems front)) one ∷ itemPars (length (layoutItems front) + 1 + length (itemPar 0 one .own)) back)
+  unfolding itemPars
+  transfer-listed front one back w =
+      transfers-built (itemsIn r) (allowed-items r a) .listed ∙ ap (itemPars 0) w ∙ rw zero-add at (items-behind front (one ∷ back) 0)
 
   transfer-absent : (x : ℕ) → Each (Other x) (itemsIn r) → transferFound x (layout r) ≡ Nowhere
   transfer-absent x o = transfers-found x ∙ transfer-nowhere x (length (layoutParts (d .ahead)) + 2) (itemsIn r) 0 o
@@ -156,3 +182,8 @@ data-there m o n e = let w = read-then-laid m o n e in rw (w .2) at (data-is (re
 
 pub name-there : (x : ℕ) (m : List ℕ) → every isOctet m ≡ true → (n : ℕ) → verdictOf m ≡ Accepted n → isFound (transferFound x m) ≡ present x (itemsIn (recordOf m))
 name-there x m o n e = let w = read-then-laid m o n e in rw (w .2) at (name-is x (recordOf m) (w .1))
+
+-- and that a name may not stand once more, as it may stand once
+pub often-there : (x : ℕ) (m : List ℕ) → every isOctet m ≡ true → (n : ℕ) → verdictOf m ≡ Accepted n → isFound (transferFound x m) ≡ leb (oftenOf x) (timesIn x (namesOf (itemsIn (recordOf m))))
+unfolding oftenOf
+often-there x m o n e = name-there x m o n e ∙ sym (among-times x (namesOf (itemsIn (recordOf m))))

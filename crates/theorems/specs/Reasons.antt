@@ -10,7 +10,7 @@ use borrow.Author.Tests.{eqb-true, eqb-false, eq-eqb, ne-eqb, leb-false, lt-leb,
 use lib.Dec.{eqb, leb, ltb}
 use lib.ListN.{length, getD, take}
 use lib.Seq.{length-take-le}
-use Rattle.annex.specs.Answers.{absent, repeated-name, refuse, andThen}
+use Rattle.annex.specs.Answers.{repeated-name, transfer-over, no-room, absent, refuse, andThen}
 use Rattle.annex.specs.Units.{nameOf, afterOf, extentOf, contentsIn}
 use Rattle.annex.specs.Heads.{among, transfer-data, most-transfer-octets, nameUsed, pliRight, oftenOf}
 use Rattle.annex.specs.Contents.{faultOf}
@@ -148,11 +148,14 @@ edit-right (Appending new) is r =
     rw (lt-leb (oftenOf x) (timesIn x (namesOf is)) (r .1)) (new-accepts new repeated-name (r .0))
 edit-right (Removing x) is r = rw r
 
-pub edit-accepts : (e : Edit) (d : List ℕ) (n : ℕ) → NoReason e d n → editingOf e d n ≡ Accepted (length (layout (editedIn e d n)))
+-- what is left with all but room right: 14, 15, or the new length
+pub edit-answer : (e : Edit) (d : List ℕ) (n j : ℕ) → n ≤ length d → verdictOf (take n d) ≡ Accepted j → among transfer-data (headersOf (recordOf (take n d))) ≡ true → EditRight e (itemsIn (recordOf (take n d))) → editingOf e d n ≡ refuse (ltb most-transfer-octets (length (layoutItems (itemsIn (editedIn e d n))))) transfer-over 0 (refuse (ltb (length d) (length (layout (editedIn e d n)))) no-room 0 (Accepted (length (layout (editedIn e d n)))))
 unfolding editingOf recordEditing
+edit-answer e d n j l v t w = rw (le-ltb (length d) n l, v, t, edit-right e (itemsIn (recordOf (take n d))) w)
+
+pub edit-accepts : (e : Edit) (d : List ℕ) (n : ℕ) → NoReason e d n → editingOf e d n ≡ Accepted (length (layout (editedIn e d n)))
 edit-accepts e d n w =
-    let r = recordOf (take n d) in
-    rw (le-ltb (length d) n (w .within), w .message, w .has-data, edit-right e (itemsIn r) (w .right), le-ltb most-transfer-octets _ (w .few-octets), le-ltb (length d) _ (w .room))
+    rw (edit-answer e d n n (w .within) (w .message) (w .has-data) (w .right), le-ltb most-transfer-octets _ (w .few-octets), le-ltb (length d) _ (w .room))
 
 pub edits-exactly : (e : Edit) (d : List ℕ) (n : ℕ) → (editingOf e d n ≡ Accepted (length (layout (editedIn e d n)))) ↔ NoReason e d n
 edits-exactly e d n = (λ a. edit-taken e d n _ a .0, edit-accepts e d n)
