@@ -25,7 +25,7 @@ use Rattle.theorems.specs.Transfers.{AllowedItem, AllowedItems, item-rea
 use Rattle.theorems.specs.Commons.{AllowedPart, dataPart, data-allowed}
 use Rattle.theorems.specs.Records.{Once, Plain, allowed, allowed-items, allowed-parts, allowed-once, names-append}
 use Rattle.theorems.specs.Messages.{read-then-laid}
-use Rattle.theorems.specs.Named.{Other, choose}
+use Rattle.theorems.specs.Named.{Other, Chosen, choose}
 use Rattle.theorems.specs.Parted.{Parted, one-data, items-instead}
 use Rattle.theorems.specs.Reasons.{NewRight, EditRight, editedIn, NoReason, edit-taken}
 
@@ -42,6 +42,7 @@ some-often : (x : ℕ) → 0 < oftenOf x
 unfolding oftenOf
 some-often x = omega arith
 
+-- what new octets that are right open to: an allowed parameter that lays out to them
 pub record NewRead (new : List ℕ) : Type 0 where
   pub header : newItem new .header ≡ newHeader new
   pub laid : layoutItem (newItem new) ≡ new
@@ -75,6 +76,7 @@ Taken (Replacing new) front old back = First (nameOf (newHeader new)) front old
 Taken (Appending new) front old back = (old ≡ []) × (back ≡ [])
 Taken (Removing x) front old back = First x front old
 
+-- how an edit changes the parameters
 pub record Changed (e : Edit) (is : List Item) : Type 0 where
   pub front : List Item
   pub old : List Item
@@ -83,6 +85,7 @@ pub record Changed (e : Edit) (is : List Item) : Type 0 where
   pub becomes : editedItems e is ≡ front ++ (newItems e ++ back)
   pub taken : Taken e front old back
 
+-- the first of the name replaced, and taken out
 replaced-first : (new one : Item) (x : ℕ) (front back : List Item) → nameOf (new .header) ≡ x → nameOf (one .header) ≡ x → Each (Other x) front → replaced new (front ++ (one ∷ back)) ≡ front ++ (new ∷ back)
 unfolding replaced
 replaced-first new one x [] back n o a = rw (n, eq-eqb _ x o)
@@ -94,6 +97,9 @@ pub removed-first : (one : Item) (x : ℕ) (front back : List Item) → nameOf (
 unfolding removed
 removed-first one x [] back o a = rw (eq-eqb _ x o)
 removed-first one x (i ∷ front) back o a = rw (a .0) (ap (λ (l : List Item). i ∷ l) (removed-first one x front back o (a .1)))
+
+first-of : (x : ℕ) (is : List Item) (c : Chosen x is) → First x (c .front) (c .one ∷ [])
+first-of x is c = record { one = c .one; alone = refl; named = c .named; others = c .others }
 
 pub changed : (e : Edit) (is : List Item) → EditRight e is → OfOctets e → Changed e is
 unfolding editedItems
@@ -107,7 +113,7 @@ changed (Replacing new) is r o =
       back = c .back;
       was = c .whole;
       becomes = ap (replaced (newItem new)) (c .whole) ∙ replaced-first (newItem new) (c .one) x (c .front) (c .back) n (c .named) (c .others);
-      taken = record { one = c .one; alone = refl; named = c .named; others = c .others };
+      taken = first-of x is c;
     }
 changed (Appending new) is r o =
     record { front = is; old = []; back = []; was = sym (append-nil is); becomes = refl; taken = (refl, refl) }
@@ -119,16 +125,18 @@ changed (Removing x) is r o =
       back = c .back;
       was = c .whole;
       becomes = ap (removed x) (c .whole) ∙ removed-first (c .one) x (c .front) (c .back) (c .named) (c .others);
-      taken = record { one = c .one; alone = refl; named = c .named; others = c .others };
+      taken = first-of x is c;
     }
 
 -- ---- so edited, they are allowed
 
+-- each that an edit puts in
 new-each : (e : Edit) (is : List Item) → EditRight e is → OfOctets e → Each AllowedItem (newItems e)
 new-each (Replacing new) is r o = (new-read new (r .0) o .allowed, tt)
 new-each (Appending new) is r o = (new-read new (r .0) o .allowed, tt)
 new-each (Removing x) is r o = tt
 
+-- how often the name u then stands
 module _ (u : ℕ) where
   names-three : (f o b : List Item) → timesIn u (namesOf (f ++ (o ++ b))) ≡ timesIn u (namesOf f) + (timesIn u (namesOf o) + timesIn u (namesOf b))
   names-three f o b = rw (names-append f (o ++ b), names-append o b, times-append, times-append)
@@ -180,6 +188,7 @@ unfolding edited
 plain-edited e [] p = refl
 plain-edited e (q ∷ r) p = rw (p .0) (ap (λ (l : List Part). q ∷ l) (plain-edited e r (p .1)))
 
+-- in a C5 its parameters are
 parted-edited : (e : Edit) (ahead : List Part) (is : List Item) (behind : List Part) → Each Plain ahead → Each Plain behind → edited e (ahead ++ (dataPart is ∷ behind)) ≡ ahead ++ (dataPart (editedItems e is) ∷ behind)
 unfolding edited
 parted-edited e [] is behind a b = ap (λ (l : List Part). dataPart (editedItems e is) ∷ l) (plain-edited e behind b)

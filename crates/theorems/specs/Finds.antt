@@ -37,6 +37,7 @@ stretch before xs rest j =
     from-to (length before + j) (length before + length xs) (before ++ (xs ++ rest))
     ∙ rw (take-append-add before (xs ++ rest) (length xs), take-append-seam xs rest) (drop-append-add before xs j)
 
+-- what is found of the first of a name are its contents
 pub contents-found : (r : List Part) → Allowed r → (d : Parted r) (x : ℕ) (front : List Item) (one : Item) (back : List Item) → itemsIn r ≡ front ++ (one ∷ back) → nameOf (one .header) ≡ x → Each (Other x) front → findPart (layout r) (transferFound x (layout r)) ≡ contentsIn (extentOf (one .header)) (drop 1 (layoutItem one))
 contents-found r a d x front one back w n o =
     let lead = leadOf (extentOf (one .header)) in

@@ -18,6 +18,7 @@ use Rattle.theorems.specs.Lists.{times-here, times-rest}
 abbrev pub Other : ℕ → Item → Type 0
 Other x i = eqb (nameOf (i .header)) x ≡ false
 
+-- the first of the name x
 pub record Chosen (x : ℕ) (is : List Item) : Type 0 where
   pub front : List Item
   pub one : Item
@@ -55,6 +56,7 @@ absent-others x (i ∷ is) p =
     let c = among x (namesOf is) in
     (ne-eqb y x (λ q. eqb-false x y (or-left b c p) (sym q)), absent-others x is (or-right b c p))
 
+-- the same of how often it stands
 pub none-others : (x : ℕ) (is : List Item) → timesIn x (namesOf is) ≡ 0 → Each (Other x) is
 none-others x [] t = tt
 none-others x (i ∷ is) t = (go (eqb (nameOf (i .header)) x) refl, none-others x is (omega (arith, times-rest x (nameOf (i .header)) (namesOf is))))

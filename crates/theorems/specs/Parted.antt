@@ -101,6 +101,7 @@ unfoldable pub layoutParts : List Part → List ℕ
 layoutParts [] = []
 layoutParts (p ∷ r) = layoutPart p ++ layoutParts r
 
+-- a record with one C5, laid out: C5's header, its length octet and its parameters between the others
 pub layout-parted : (ahead : List Part) (is : List Item) (behind : List Part) → layout (ahead ++ (dataPart is ∷ behind)) ≡ layoutParts ahead ++ (transfer-data ∷ length (layoutItems is) ∷ (layoutItems is ++ layout behind))
 unfolding layout layoutParts layoutPart
 layout-parted [] is behind = refl

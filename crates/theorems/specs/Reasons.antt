@@ -92,6 +92,7 @@ new-passed new b k j a =
       a₄ .0,
     )
 
+-- the edit's own tests
 edit-passed : (e : Edit) (is : List Item) (j : ℕ) → editRefusal e is ≡ Accepted j → EditRight e is
 unfolding editRefusal
 edit-passed (Replacing new) is j a =
@@ -157,5 +158,6 @@ pub edit-accepts : (e : Edit) (d : List ℕ) (n : ℕ) → NoReason e d n → ed
 edit-accepts e d n w =
     rw (edit-answer e d n n (w .within) (w .message) (w .has-data) (w .right), le-ltb most-transfer-octets _ (w .few-octets), le-ltb (length d) _ (w .room))
 
+-- so an edit is accepted exactly if there is no reason
 pub edits-exactly : (e : Edit) (d : List ℕ) (n : ℕ) → (editingOf e d n ≡ Accepted (length (layout (editedIn e d n)))) ↔ NoReason e d n
 edits-exactly e d n = (λ a. edit-taken e d n _ a .0, edit-accepts e d n)

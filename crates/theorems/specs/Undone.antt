@@ -31,6 +31,7 @@ pub new-others : (x : ℕ) (is : List Item) → timesIn x (namesOf is) < oftenOf
 unfolding oftenOf
 new-others x is l = none-others x is (omega arith)
 
+-- a test, or true
 last : (b : Bool) → b || true ≡ true
 last true = refl
 last false = refl
@@ -42,6 +43,7 @@ module _ (new : List ℕ) where
   abbrev back : Edit
   back = Removing (nameOf (newHeader new))
 
+  -- the parameters, and the record, as they were
   items-back : (is : List Item) → EditRight (Appending new) is → every isOctet new ≡ true → editedItems back (editedItems appended is) ≡ is
   unfolding editedItems
   items-back is w o =
