@@ -1,16 +1,16 @@
 // Opening a transfer parameter: its contents become a head, and values stored in a record's array of values.
-use super::digits::digit_of;
-use super::digits::half_at;
+use crate::contents::octet_at;
+use crate::digits::digit_of;
+use crate::digits::half_at;
+use crate::heads::holds_digits;
 use annex::Alphabet;
 use annex::Transfer;
 ghost use mathlib.Core.Path.{_≡_};
-ghost use mathlib.Core.Bool.{not};
 ghost use mathlib.Core.List.{List};
 ghost use Prim.Native.Nat.{ℕ, _+_, _*_, _≤_, min};
 ghost use lib.Dec.{leb};
-ghost use lib.ListN.{length, getD, drop};
+ghost use lib.ListN.{length, drop};
 ghost use lib.Seq.{sets};
-ghost use Rattle.annex.specs.Heads.{isFree};
 ghost use Rattle.annex.specs.Digits.{digitsOf};
 ghost use Rattle.annex.specs.Contents.{countOf};
 ghost use Rattle.annex.specs.Items.{holdingOf, openBy, openMarks, Holding.AsContents, Holding.AsDigits, Holding.AsNumber, Holding.AsGeneric};
@@ -18,25 +18,15 @@ ghost use Rattle.annex.specs.Records.{headOf};
 ghost use Rattle.parameter.specs.Opening.{headFor, valuesWith, openedHead, openedValues, heldBy, marksOf};
 
 // How a parameter's values are held: as its contents, as digits with marks, as a number, as a number after 06.
-enum Held {
+pub enum Held {
     Contents,
     Digits,
     Number,
     Generic,
 }
 
-// The octet at i, and 0 past the end.
-fn octet_at(s: &[u8], i: usize) -> u8
-    ensures { λ r. ⌜ r ≡ getD (now (s .entry)) i 0 ⌝ }
-{
-    if s.len() <= i {
-        return 0;
-    }
-    s[i]
-}
-
 // The octets from i on, none past the end.
-fn octets_from(s: &[u8], i: usize) -> &[u8]
+pub fn octets_from(s: &[u8], i: usize) -> &[u8]
     ensures { λ r. ⌜ now r ≡ drop i (now (s .entry)) ⌝ }
 {
     if s.len() <= i {
@@ -96,30 +86,12 @@ fn unpack_digits(
     }
 }
 
-// Whether the header's name, its lower six bits, has a layout.
-fn has_layout(header: u8) -> bool
-    ensures { λ r. ⌜ r ≡ not (isFree header) ⌝ }
-{
-    match header % 64 {
-        Transfer::RESULT_REQUEST_NAME
-        | Transfer::CALL_IDENTITY_NAME
-        | Transfer::CALL_START_NAME
-        | Transfer::CALL_END_NAME
-        | Transfer::WAITING_START_NAME => false,
-        _ => true,
-    }
-}
-
 // How the values under this header are held; `first` is the first octet of the contents, or 0.
-fn held_as(header: u8, first: u8) -> Held
+pub fn held_as(header: u8, first: u8) -> Held
     ensures { λ r. ⌜ r ≡ heldBy (holdingOf header first) ⌝ }
 {
-    let pli = header / 64;
-    if pli == 2 {
-        if has_layout(header) {
-            return Held::Digits;
-        }
-        return Held::Contents;
+    if holds_digits(header) {
+        return Held::Digits;
     }
     match header {
         Transfer::CALLING_USER_NUMBER | Transfer::CALLING_NUMBER => Held::Number,

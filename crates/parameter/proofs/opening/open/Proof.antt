@@ -1,50 +1,24 @@
 -- `open` meets its contract: the header and the first octet decide how the values are held, and each arm opens them so.
-use mathlib.Core.Path.{_≡_, refl, sym, _∙_}
+use mathlib.Core.Path.{_≡_}
 use Prim.Native.Nat.{ℕ}
-use mathlib.Core.Bool.{Bool, true, false, cond}
 use mathlib.Core.List.{List}
-use lib.Dec.{eqb}
 use lib.ListN.{getD}
-use Rattle.annex.specs.Heads.{Form, Marks, formOf}
-use Rattle.annex.specs.Heads.Form.{Carried, Digits, Number, Calling, Generic, Long, Two}
-use Rattle.annex.specs.Heads.Marks.{Unmarked}
-use Rattle.annex.specs.Items.{Holding, holdingBy, holdingOf, openBy, itemOf}
-use Rattle.annex.specs.Items.Holding.{AsContents, AsDigits, AsNumber, AsGeneric}
+use Rattle.annex.specs.Items.{holdingOf, openBy, itemOf}
 use Rattle.parameter.specs.declared.opening.Held.{Held}
 use Rattle.parameter.specs.declared.opening.Held.the-variants as held
-use Rattle.parameter.specs.Opening.{heldBy, marksIn, marksOf}
+use Rattle.parameter.specs.Opening.{heldBy, marksOf, asHeld, held-again}
 use borrow.Author.Needs.{needs}
 use Rattle.parameter.proofs.opening.open.Statement.{statement}
 use Rattle.parameter.proofs.opening.open.Tie as tie
 
--- a holding again, from its case and its marks
-abbrev asHeld : Held → Marks → Holding
-asHeld held.Contents m = AsContents
-asHeld held.Digits m = AsDigits m
-asHeld held.Number m = AsNumber
-asHeld held.Generic m = AsGeneric
-
-generic : (b : Bool) → asHeld (heldBy (cond b AsGeneric AsContents)) Unmarked ≡ cond b AsGeneric AsContents
-generic true = refl
-generic false = refl
-
-again : (f : Form) (x : ℕ) → asHeld (heldBy (holdingBy f x)) (marksIn f) ≡ holdingBy f x
-again Carried x = refl
-again (Digits m) x = refl
-again Number x = refl
-again Calling x = refl
-again Generic x = generic (eqb x 6)
-again (Long n) x = refl
-again (Two mask) x = refl
-
-opens : (h : ℕ) (s : List ℕ) (v : Held) → v ≡ heldBy (holdingOf h (getD s 0 0)) → openBy (asHeld v (marksOf h)) h s ≡ itemOf h s
-unfolding itemOf holdingOf marksOf
-opens h s v e = rw (e, again (formOf h) (getD s 0 0))
+opens : (h : ℕ) (s : List ℕ) (r v : Held) → r ≡ heldBy (holdingOf h (getD s 0 0)) → r ≡ v → openBy (asHeld v (marksOf h)) h s ≡ itemOf h s
+unfolding itemOf
+opens h s r v e f = rw (held-again h (getD s 0 0) r v e f)
 
 decided : (c : tie.After-held-as) (v : Held) → c .held-as .result ≡ v → openBy (asHeld v (marksOf (c .before .before .before .args .header))) (c .before .before .before .args .header) (c .before .before .before .args .contents .now) ≡ itemOf (c .before .before .before .args .header) (c .before .before .before .args .contents .now)
 decided c v e =
     let a = c .before .before .before .args in
-    opens (a .header) (a .contents .now) v (sym e ∙ rw (c .held-as .ensures, c .before .octet-at .ensures))
+    opens (a .header) (a .contents .now) (c .held-as .result) v (rw (← c .before .octet-at .ensures) (c .held-as .ensures)) e
 
 octet-at-requires : tie.Need-octet-at-requires
 octet-at-requires c κs = search needs
