@@ -3,6 +3,7 @@
 pub mod Bools
 pub mod Parts
 pub mod Stores
+pub mod Fronts
 pub mod Octet
 -- of one transfer parameter, up to its two laws in Leaves:
 pub mod Extents
@@ -14,6 +15,8 @@ pub mod Counted
 pub mod Numbers
 pub mod Leaves
 -- of the walk over a message, and what is made of it:
+pub mod Laid
+-- of the walk over a message:
 pub mod Walks
 pub mod Steps
 pub mod Plain
