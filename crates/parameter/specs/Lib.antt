@@ -2,3 +2,4 @@
 pub mod Listed
 pub mod Forms
 pub mod Opening
+pub mod Laying

@@ -3,6 +3,7 @@
 pub mod contents;
 pub mod digits;
 pub mod heads;
+pub mod laying;
 pub mod opening;
 pub mod transfer;
 pub mod units;

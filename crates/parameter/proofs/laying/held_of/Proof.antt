@@ -1,0 +1,21 @@
+-- `held_of` meets its contract: the first value decides beside the header.
+use mathlib.Core.Path.{refl}
+use borrow.Author.Needs.{needs}
+use lib.ListN.{getD}
+use Rattle.parameter.specs.Opening.{held-again}
+use Rattle.parameter.proofs.laying.held_of.Statement.{statement}
+use Rattle.parameter.proofs.laying.held_of.Tie as tie
+
+returns : tie.Need-returns
+returns c =
+    let a = c .before .before .before .args in
+    let r = c .held-as .result in
+    held-again (a .header) (getD (a .values .now) 0 0) r r (rw (← c .before .octet-at .ensures) (c .held-as .ensures)) refl
+
+pub held-of-spec : {M : Type 1} → statement M
+held-of-spec =
+    tie.close
+    (tie.spec
+    (λ c κs. search needs)
+    (λ c κs. search needs)
+    returns)
