@@ -1,3 +1,4 @@
 -- Laws that the proofs of this crate cite.
 pub mod Turns
 pub mod Holdings
+pub mod Written

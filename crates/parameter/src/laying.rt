@@ -1,7 +1,8 @@
-// Laying a transfer parameter of a record out: what refuses it, and how long its contents are.
+// Laying a transfer parameter of a record out: what refuses it, how long its contents are, and its octets at the front of lent room.
 // The parameter is given as its head and its values.
 use crate::contents::contents_fault;
 use crate::contents::octet_at;
+use crate::digits::code_of;
 use crate::heads::name_used;
 use crate::heads::often_of;
 use crate::heads::pli_right;
@@ -11,24 +12,28 @@ use crate::opening::octets_from;
 use crate::units::extent_of;
 use crate::units::lead;
 use crate::units::octets_after;
+use annex::Alphabet;
 use annex::Answer;
 use annex::Extent;
 use annex::Fault;
 use annex::HalfOctets;
 use annex::Transfer;
 ghost use mathlib.Core.Path.{_≡_};
-ghost use mathlib.Core.List.{List, []};
-ghost use Prim.Native.Nat.{ℕ, _+_, _/_};
+ghost use mathlib.Core.Bool.{cond};
+ghost use mathlib.Core.List.{List, [], map};
+ghost use Prim.Native.Nat.{ℕ, _+_, _/_, _≤_};
+ghost use lib.Dec.{leb};
 ghost use lib.ListN.{length, getD};
 ghost use Rattle.annex.specs.Units.{extentOf};
-ghost use Rattle.annex.specs.Digits.{isDigit};
+ghost use Rattle.annex.specs.Digits.{isDigit, codeOf, packed};
 ghost use Rattle.annex.specs.Contents.{faultOf};
-ghost use Rattle.annex.specs.Items.{holdingOf, contentsOf};
+ghost use Rattle.annex.specs.Items.{holdingOf, upperMarks, numberContents, contentsBy, contentsOf, Holding.AsDigits, Holding.AsGeneric};
+ghost use Rattle.annex.specs.Layout.{layoutItem};
 ghost use Rattle.annex.specs.Allowed.{every, lengthFits, lengthRight, marksRight, fieldsRight, withheldRight, formRight, digitsRight};
 ghost use Rattle.annex.specs.Records.{rawItem};
 ghost use Rattle.annex.specs.Writing.{itemWriting};
 ghost use Rattle.parameter.specs.Opening.{marksOf, asHeld};
-ghost use Rattle.parameter.specs.Laying.{itemFrom, isSound, numberRight};
+ghost use Rattle.parameter.specs.Laying.{itemFrom, atFront, isSound, numberRight};
 
 // How the values under this header are held.
 fn held_of(header: u8, values: &[u8]) -> Held
@@ -235,4 +240,141 @@ pub fn refusal(times: u8, t: Transfer, values: &[u8]) -> Answer
     let before = 1 + lead(extent_of(header));
     let len = before + contents_len(t, values);
     Answer::Accepted(len)
+}
+
+// Writes octets at the front of the room.
+fn copy(s: &[u8], room: &mut [u8])
+    requires { ⌜ length (now s) ≤ length (now room) ⌝ }
+    ensures { λ r. ⌜ now (room .exit) ≡ atFront (now (s .entry)) (now (room .entry)) ⌝ }
+{
+    let mut i: usize = 0;
+    while i < s.len() {
+        room[i] = s[i];
+        i += 1;
+    }
+}
+
+// The half-octet of the digit at i, and filler past the last.
+fn code_at(z: Alphabet, digits: &[u8], i: usize) -> u8
+    ensures { λ r. ⌜ r ≡ getD (map (codeOf z) (now (digits .entry))) i 0 ⌝ }
+{
+    if digits.len() <= i {
+        return 0;
+    }
+    code_of(z, digits[i])
+}
+
+// Writes digits at the front of the room, two to an octet, low half first.
+fn pack_digits(z: Alphabet, digits: &[u8], room: &mut [u8])
+    requires { ⌜ (length (now digits) + 1) / 2 ≤ length (now room) ⌝ }
+    ensures { λ r. ⌜ now (room .exit) ≡ atFront (packed z (now (digits .entry))) (now (room .entry)) ⌝ }
+{
+    let n = packed_len(digits.len());
+    let mut i: usize = 0;
+    while i < n {
+        let low = code_at(z, digits, i * 2) as usize;
+        let high = code_at(z, digits, i * 2 + 1) as usize;
+        room[i] = ((low + 16 * high) % 256) as u8;
+        i += 1;
+    }
+}
+
+// The upper marks of a count octet.
+fn upper_marks(t: Transfer) -> u16
+    ensures { λ r. ⌜ ((vs : List ℕ) → r ≡ upperMarks (marksOf (t .header)) (rawItem t vs)) ⌝ }
+{
+    let notification = t.notification as u16;
+    let header = t.header;
+    match header {
+        Transfer::ORIGINATING_AREA | Transfer::CALLED_TERMINAL => 2 * notification,
+        Transfer::ORIGINATING_ID => 2 * notification + t.verification as u16,
+        Transfer::DIALLED_DIGITS => t.dialling as u16,
+        _ => 0,
+    }
+}
+
+// Writes digits of PLI 10: the count octet, then the digits.
+fn put_digits(t: Transfer, digits: &[u8], room: &mut [u8])
+    requires { ⌜ length (contentsBy (AsDigits (marksOf (t .header))) (rawItem t (now digits))) ≤ length (now room) ⌝ }
+    ensures { λ r. ⌜ now (room .exit) ≡ atFront (contentsBy (AsDigits (marksOf (t .header))) (rawItem t (now (digits .entry)))) (now (room .entry)) ⌝ }
+{
+    let marks = upper_marks(t) as usize;
+    let count = 64 * marks + digits.len() % 256;
+    room[0] = (count % 256) as u8;
+    pack_digits(Alphabet::Dialled, digits, &mut room[1..]);
+}
+
+// Writes a number: its two octets of fields, then the digits.
+fn put_number(t: Transfer, digits: &[u8], room: &mut [u8])
+    requires { ⌜ length (numberContents (rawItem t (now digits)) (now digits)) ≤ length (now room) ⌝ }
+    ensures { λ r. ⌜ now (room .exit) ≡ atFront (numberContents (rawItem t (now (digits .entry))) (now (digits .entry))) (now (room .entry)) ⌝ }
+{
+    let first = 128 * (digits.len() % 2) + t.number_type as usize;
+    let upper = 128 * (t.incomplete as usize) + 16 * (t.plan as usize);
+    let second = upper + 4 * (t.presentation as usize) + t.screening as usize;
+    room[0] = (first % 256) as u8;
+    room[1] = (second % 256) as u8;
+    pack_digits(Alphabet::Numbered, digits, &mut room[2..]);
+}
+
+// Writes 06, then the number.
+fn put_generic(t: Transfer, values: &[u8], room: &mut [u8])
+    requires { ⌜ length (contentsBy AsGeneric (rawItem t (now values))) ≤ length (now room) ⌝ }
+    ensures { λ r. ⌜ now (room .exit) ≡ atFront (contentsBy AsGeneric (rawItem t (now (values .entry)))) (now (room .entry)) ⌝ }
+{
+    let digits = octets_from(values, 1);
+    room[0] = Transfer::ADDED_CALLING_NUMBER;
+    put_number(t, digits, &mut room[1..]);
+}
+
+// Writes the contents.
+fn put_contents(t: Transfer, values: &[u8], room: &mut [u8])
+    requires { ⌜ length (contentsOf (rawItem t (now values))) ≤ length (now room) ⌝ }
+    ensures { λ r. ⌜ now (room .exit) ≡ atFront (contentsOf (rawItem t (now (values .entry)))) (now (room .entry)) ⌝ }
+{
+    let held = held_of(t.header, values);
+    match held {
+        Held::Contents => copy(values, room),
+        Held::Digits => put_digits(t, values, room),
+        Held::Number => put_number(t, values, room),
+        Held::Generic => put_generic(t, values, room),
+    }
+}
+
+// Writes the header, the length octet that PLI 11 has, and the contents.
+fn put_whole(t: Transfer, values: &[u8], room: &mut [u8])
+    requires { ⌜ length (layoutItem (rawItem t (now values))) ≤ length (now room) ⌝ }
+    ensures { λ r. ⌜ now (room .exit) ≡ atFront (layoutItem (rawItem t (now (values .entry)))) (now (room .entry)) ⌝ }
+{
+    room[0] = t.header;
+    if lead(extent_of(t.header)) == 0 {
+        put_contents(t, values, &mut room[1..]);
+        return;
+    }
+    let len = contents_len(t, values);
+    room[1] = (len % 256) as u8;
+    put_contents(t, values, &mut room[2..]);
+}
+
+// Whether so much room holds the parameter.
+fn fits_in(t: Transfer, values: &[u8], room: usize) -> bool
+    ensures { λ r. ⌜ r ≡ leb (length (layoutItem (rawItem t (now (values .entry))))) room ⌝ }
+{
+    let before = 1 + lead(extent_of(t.header));
+    if room < before {
+        return false;
+    }
+    contents_len(t, values) <= room - before
+}
+
+// Writes the parameter at the front of the room, each number modulo 256; where the room is too short, nothing.
+pub fn put(t: Transfer, values: &[u8], room: &mut [u8]) -> bool
+    ensures said { λ r. ⌜ r ≡ leb (length (layoutItem (itemFrom t (now (values .entry))))) (length (now (room .entry))) ⌝ }
+    ensures written { λ r. ⌜ now (room .exit) ≡ cond r (atFront (layoutItem (itemFrom t (now (values .entry)))) (now (room .entry))) (now (room .entry)) ⌝ }
+{
+    if !fits_in(t, values, room.len()) {
+        return false;
+    }
+    put_whole(t, values, room);
+    true
 }

@@ -1,5 +1,5 @@
-// One transfer parameter: its length, what is wrong with its contents, and the values that they hold. Nothing here knows a place in a
-// message.
+// One transfer parameter: its length, what is wrong with its contents, the values that they hold, and its octets laid out. Nothing here
+// knows a place in a message.
 pub mod contents;
 pub mod digits;
 pub mod heads;

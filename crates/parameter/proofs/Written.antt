@@ -1,0 +1,35 @@
+-- Octets written at the front of lent room, turn by turn, and behind what is stored first.
+use Prim.Native.Nat.{ℕ, _+_, _-_, _%_, _<_, _≤_}
+use native.Mathlib.Omega.{arith}
+use mathlib.Core.Path.{_≡_, sym, ap, _∙_}
+use mathlib.Core.List.{List, _++_, map-append}
+use lib.ListN.{length, getD, take, drop, set, length-append}
+use lib.Seq.{sets}
+use borrow.Rule.Slice.PartMut.{putMid}
+use Rattle.laws.specs.Fronts.{front-turn, front-end, front-length, front-then}
+use Rattle.parameter.specs.Laying.{lowOctets, atFront, length-low, low-at}
+
+pub written-turn : (room xs : List ℕ) (j x : ℕ) → j < length xs → x ≡ getD xs j 0 % 256 → set (sets room 0 (take j (lowOctets xs))) j x ≡ sets room 0 (take (j + 1) (lowOctets xs))
+written-turn room xs j x h e =
+    rw (e ∙ sym (low-at xs j)) (front-turn room (lowOctets xs) j 0 (omega (arith, length-low xs)))
+
+pub written-end : (room xs : List ℕ) (j : ℕ) → length xs ≤ j → length xs ≤ length room → sets room 0 (take j (lowOctets xs)) ≡ atFront xs room
+written-end room xs j h k =
+    front-end room (lowOctets xs) j (omega (arith, length-low xs)) (omega (arith, length-low xs))
+    ∙ ap (λ (n : ℕ). lowOctets xs ++ drop n room) (length-low xs)
+
+-- what is written leaves the length
+pub written-length : (room xs : List ℕ) → length xs ≤ length room → length (atFront xs room) ≡ length room
+written-length room xs h = rw (← length-low xs) (front-length room (lowOctets xs) (omega (arith, length-low xs)))
+
+-- the room behind what is stored first, lent and written
+pub written-then : (room low first xs ys : List ℕ) → low ≡ lowOctets first → length first + length xs ≤ length room →
+    let w = sets room 0 low in
+    let k = length low in
+    ys ≡ atFront xs (take (length w - k) (drop k w)) →
+    putMid k (length w - k) w ys ≡ atFront (first ++ xs) room
+written-then room low first xs ys f l e =
+    let n : length low ≡ length first = ap (λ (s : List ℕ). length s) f ∙ length-low first in
+    let m : length (low ++ lowOctets xs) ≡ length (first ++ xs) = rw (length-append low (lowOctets xs), length-append first xs) (omega (arith, length-low xs)) in
+    front-then room low (lowOctets xs) ys (omega (arith, length-low xs)) (rw (length-low xs) e)
+    ∙ rw (m, f) (ap (λ (s : List ℕ). s ++ drop (length (first ++ xs)) room) (sym (map-append (λ x. x % 256) first xs)))
