@@ -1,4 +1,4 @@
--- Laws of a transfer parameter laid out: marks and fields that it does not have do not matter, how long it is, and its half-octets.
+-- Laws of a transfer parameter laid out: marks and fields that it does not have do not matter, how long it is, and its octets.
 use Prim.Native.Nat.{ℕ, zero, suc, _+_, _*_, _≤_, _<_}
 use native.Mathlib.Omega.{arith}
 use mathlib.Core.Path.{_≡_, refl, ap}
@@ -6,22 +6,24 @@ use mathlib.Core.Bool.{Bool, true, false, cond}
 use mathlib.Core.List.{List, [], _∷_, map}
 use lib.Dec.{eqb}
 use lib.ListN.{length, getD, length-map, List·getD-eq-default}
-use borrow.Author.Tests.{eqb-true, leb-true}
+use borrow.Author.Tests.{eqb-true, leb-true, lt-ltb}
 use Rattle.annex.specs.Units.{pliOf, afterOf, leadOf, transferByPli, extentOf}
-use Rattle.annex.specs.Heads.{Form, formOf, most-transfer-octets}
+use Rattle.annex.specs.Heads.{Form, formOf, pliRight, most-transfer-octets}
 use Rattle.annex.specs.Heads.Marks.{Unmarked, Notified, Verified, Typed}
 use Rattle.annex.specs.Heads.Form.{Carried, Digits, Number, Calling, Generic, Long, Two}
 use Rattle.annex.specs.Digits.{joined, codeOf, packed}
 use Rattle.annex.specs.Items.{Item, Holding, holdingBy, holdingOf, contentsBy, heldAs, contentsOf, digitsBy, ownBy, ownOf}
 use Rattle.annex.specs.Items.Holding.{AsContents, AsDigits, AsNumber, AsGeneric}
 use Rattle.annex.specs.Layout.{ledBy, layoutItem}
-use Rattle.annex.specs.Allowed.{lengthFits, lengthBy, lengthRight, formBy, formRight, digitsRight}
+use Rattle.annex.specs.Allowed.{every, isOctet, HeldItem, lengthFits, lengthBy, lengthRight, formBy, formRight, digitsRight}
 use Rattle.annex.specs.Writing.{itemWriting}
 use Rattle.annex.specs.declared.Alphabet.{Alphabet}
 use Rattle.annex.specs.declared.Alphabet.the-variants.{Dialled}
 use Rattle.annex.specs.declared.Extent.{Extent}
 use Rattle.annex.specs.declared.Extent.the-variants.{Fixed, CountOctet, LengthOctet}
+use Rattle.laws.specs.Bools.{and-both}
 use Rattle.laws.specs.Joined.{length-packed}
+use Rattle.laws.specs.Leaves.{closed}
 
 -- ---- what is not its own does not matter
 
@@ -58,6 +60,15 @@ digits-by (AsDigits m) i = values-by (AsDigits m) i
 digits-by AsNumber i = refl
 digits-by AsGeneric i = refl
 
+again-by : (k : Holding) (i : Item) → ownBy k (ownBy k i) ≡ ownBy k i
+again-by AsContents i = refl
+again-by (AsDigits Unmarked) i = refl
+again-by (AsDigits Notified) i = refl
+again-by (AsDigits Verified) i = refl
+again-by (AsDigits Typed) i = refl
+again-by AsNumber i = refl
+again-by AsGeneric i = refl
+
 form-by : (f : Form) (i : Item) → formBy f (ownBy (holdingBy f (getD (i .values) 0 0)) i) ≡ formBy f i
 form-by Carried i = refl
 form-by (Digits Unmarked) i = refl
@@ -79,7 +90,7 @@ module _ (i : Item) where
   unfolding ownOf
   own-header = header-by (heldAs i) i
 
-  own-values : ownOf i .values ≡ i .values
+  pub own-values : ownOf i .values ≡ i .values
   unfolding ownOf
   own-values = values-by (heldAs i) i
 
@@ -115,6 +126,12 @@ module _ (i : Item) where
   pub own-writing : (times p : ℕ) → itemWriting times p (ownOf i) ≡ itemWriting times p i
   unfolding itemWriting
   own-writing times p = rw (own-length, own-form, own-digits, own-layout, own-header)
+
+-- what is its own is held as a record holds it
+pub own-held-item : (i : Item) → i .header < 256 → every isOctet (i .values) ≡ true → HeldItem (ownOf i)
+unfolding ownOf
+own-held-item i l o =
+    record { octet = rw (own-header i) l; octets = rw (own-values i) o; own = rw (own-held i) (again-by (heldAs i) i) }
 
 -- ---- how long it is
 
@@ -171,6 +188,21 @@ length-small i t = go (heldAs i) refl t
     go (AsDigits m) e t = rw e (omega (arith, leb-true (length (i .values)) 63 t, length-packed Dialled (i .values)))
     go AsNumber e t = fits-small (pliOf (i .header)) (contentsOf i) t
     go AsGeneric e t = fits-small (pliOf (i .header)) (contentsOf i) t
+
+-- ---- its octets
+
+led-octets : (e : Extent) (s : List ℕ) → length s ≤ most-transfer-octets → every isOctet s ≡ true → every isOctet (ledBy e s) ≡ true
+led-octets (Fixed n) s l o = o
+led-octets CountOctet s l o = o
+led-octets LengthOctet s l o = and-both (isOctet (length s)) (every isOctet s) (lt-ltb (length s) 256 (omega arith)) o
+
+-- an allowed parameter is laid out to octets
+pub layout-octets : (i : Item) → HeldItem i → pliRight (i .header) ≡ true → lengthRight i ≡ true → formRight i ≡ true → digitsRight i ≡ true → every isOctet (layoutItem i) ≡ true
+unfolding layoutItem
+layout-octets i w p l r d =
+    let s = ledBy (extentOf (i .header)) (contentsOf i) in
+    and-both (isOctet (i .header)) (every isOctet s) (lt-ltb (i .header) 256 (w .octet))
+    (led-octets (extentOf (i .header)) (contentsOf i) (length-small i l) (closed i w p l r d .octets))
 
 -- ---- its half-octets
 

@@ -21,9 +21,6 @@ use Rattle.parameter.proofs.laying.put_digits.Tie as tie
 sub-pack-digits : tie.Need-sub-pack-digits
 sub-pack-digits c = simp length-set (omega (arith, c .before .before .before .pre))
 
-part-pack-digits-start : tie.Need-part-pack-digits-start
-part-pack-digits-start c = simp length-set (omega (arith, c .before .before .before .pre))
-
 pack-digits-requires : tie.Need-pack-digits-requires
 pack-digits-requires c κs =
     let st = c .before .before .before .before in
@@ -59,7 +56,7 @@ put-digits-spec =
     (λ c. search needs)
     (λ c. search needs)
     sub-pack-digits
-    part-pack-digits-start
+    sub-pack-digits
     (λ c. search needs)
     pack-digits-requires
     same-length

@@ -16,9 +16,6 @@ use Rattle.parameter.proofs.laying.put_generic.Tie as tie
 sub-put-number : tie.Need-sub-put-number
 sub-put-number c = simp length-set (omega (arith, c .before .before .before .pre))
 
-part-put-number-start : tie.Need-part-put-number-start
-part-put-number-start c = simp length-set (omega (arith, c .before .before .before .pre))
-
 put-number-requires : tie.Need-put-number-requires
 put-number-requires c κs =
     let o = c .before in
@@ -48,7 +45,7 @@ put-generic-spec =
     (λ c κs. search needs)
     (λ c. search needs)
     sub-put-number
-    part-put-number-start
+    sub-put-number
     (λ c. search needs)
     put-number-requires
     same-length

@@ -24,10 +24,6 @@ sub-pack-digits : tie.Need-sub-pack-digits
 sub-pack-digits c =
     simp length-set (omega (arith, c .before .before .before .before .before .before .before .pre))
 
-part-pack-digits-start : tie.Need-part-pack-digits-start
-part-pack-digits-start c =
-    simp length-set (omega (arith, c .before .before .before .before .before .before .before .pre))
-
 pack-digits-requires : tie.Need-pack-digits-requires
 pack-digits-requires c κs =
     let st = c .before .before .before .before .before .before .before .before in
@@ -74,7 +70,7 @@ put-number-spec =
     (λ c. search needs)
     slice-write-room-2
     sub-pack-digits
-    part-pack-digits-start
+    sub-pack-digits
     (λ c. search needs)
     pack-digits-requires
     same-length

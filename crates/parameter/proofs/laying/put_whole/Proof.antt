@@ -45,9 +45,6 @@ sub-put-contents c =
     let st = c .before .before .before .before .before in
     simp length-set (omega (arith, rw (plain c) at (st .pre)))
 
-part-put-contents-start : tie.Need-part-put-contents-start
-part-put-contents-start c = sub-put-contents c
-
 put-contents-requires : tie.Need-put-contents-requires
 put-contents-requires c κs =
     let e = c .before in
@@ -84,9 +81,6 @@ sub-put-contents-2 c =
     let e = c .before in
     let st = e .before .before .before .before .before in
     simp length-set (omega (arith, rw (led e) at (st .pre)))
-
-part-put-contents-start-2 : tie.Need-part-put-contents-start-2
-part-put-contents-start-2 c = sub-put-contents-2 c
 
 put-contents-requires-2 : tie.Need-put-contents-requires-2
 put-contents-requires-2 c κs =
@@ -126,7 +120,7 @@ put-whole-spec =
     (λ c κs. search needs)
     (λ c κs. search needs)
     sub-put-contents
-    part-put-contents-start
+    sub-put-contents
     (λ c. search needs)
     put-contents-requires
     same-length
@@ -135,7 +129,7 @@ put-whole-spec =
     (λ c. search needs)
     slice-write-room-2
     sub-put-contents-2
-    part-put-contents-start-2
+    sub-put-contents-2
     (λ c. search needs)
     put-contents-requires-2
     same-length-2
