@@ -14,9 +14,8 @@ pub mod Headers
 pub mod Counted
 pub mod Numbers
 pub mod Leaves
--- of the walk over a message, and what is made of it:
 pub mod Laid
--- of the walk over a message:
+-- of the walk over a message, and what is made of it:
 pub mod Walks
 pub mod Steps
 pub mod Plain
