@@ -21,3 +21,5 @@ pub mod Buffers
 pub mod Splices
 pub mod Undone
 pub mod Finds
+pub mod Unique
+pub mod Wrong

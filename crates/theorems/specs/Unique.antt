@@ -1,0 +1,66 @@
+-- Two answers that keep a promise on the same input are equal: the result, and what lent memory holds after it. So no promise lets two
+-- programs differ. There is no exception.
+use Prim.Native.Nat.{ℕ}
+use mathlib.Core.Path.{_≡_, sym, _∙_}
+use mathlib.Core.List.{List}
+use Rattle.annex.specs.Editing.{Edit}
+use Rattle.annex.specs.Promises.{
+  VerdictPromise,
+  ReadPromise,
+  FindCommonPromise,
+  FindCommonAnswerPromise,
+  FindTransferPromise,
+  FindTransferAnswerPromise,
+  SpansCheckPromise,
+  RowPromise,
+  SpansPromise,
+  WritePromise,
+  EditPromise,
+  ClassPromise,
+}
+use Rattle.annex.specs.declared.Answer.{Answer}
+use Rattle.annex.specs.declared.Record.{Record}
+use Rattle.annex.specs.declared.Reading.{Reading}
+use Rattle.annex.specs.declared.Row.{Row}
+use Rattle.annex.specs.declared.ClassAnswer.{ClassAnswer}
+
+-- what is equal to the same is equal
+same : {A : Type 0} {x a b : A} → a ≡ x → b ≡ x → a ≡ b
+same p q = p ∙ sym q
+
+pub one-verdict : (m : List ℕ) (a b : Answer) → VerdictPromise m a → VerdictPromise m b → a ≡ b
+one-verdict m a b p q = same p q
+
+pub one-reading : (m : List ℕ) (a b : Reading) → ReadPromise m a → ReadPromise m b → a ≡ b
+one-reading m a b p q = same p q
+
+pub one-common : (m : List ℕ) (h : ℕ) (a b : List ℕ) → FindCommonPromise m h a → FindCommonPromise m h b → a ≡ b
+one-common m h a b p q = same p q
+
+pub one-common-answer : (m : List ℕ) (h : ℕ) (a b : Answer) → FindCommonAnswerPromise m h a → FindCommonAnswerPromise m h b → a ≡ b
+one-common-answer m h a b p q = same p q
+
+pub one-transfer : (m : List ℕ) (x : ℕ) (a b : List ℕ) → FindTransferPromise m x a → FindTransferPromise m x b → a ≡ b
+one-transfer m x a b p q = same p q
+
+pub one-transfer-answer : (m : List ℕ) (x : ℕ) (a b : Answer) → FindTransferAnswerPromise m x a → FindTransferAnswerPromise m x b → a ≡ b
+one-transfer-answer m x a b p q = same p q
+
+pub one-check : (m : List ℕ) (room : ℕ) (a b : Answer) → SpansCheckPromise m room a → SpansCheckPromise m room b → a ≡ b
+one-check m room a b p q = same p q
+
+pub one-row : (m : List ℕ) (k : ℕ) (a b : Row) → RowPromise m k a → RowPromise m k b → a ≡ b
+one-row m k a b p q = same p q
+
+-- with lent memory
+pub one-listing : (m : List ℕ) (table : List Row) (a b : Answer) (s t : List Row) → SpansPromise m table a s → SpansPromise m table b t → (a ≡ b) × (s ≡ t)
+one-listing m table a b s t p q = (same (p .0) (q .0), same (p .1) (q .1))
+
+pub one-writing : (held : Record) (room : List ℕ) (a b : Answer) (s t : List ℕ) → WritePromise held room a s → WritePromise held room b t → (a ≡ b) × (s ≡ t)
+one-writing held room a b s t p q = (same (p .0) (q .0), same (p .1) (q .1))
+
+pub one-edit : (e : Edit) (buffer : List ℕ) (n : ℕ) (a b : Answer) (s t : List ℕ) → EditPromise e buffer n a s → EditPromise e buffer n b t → (a ≡ b) × (s ≡ t)
+one-edit e buffer n a b s t p q = (same (p .0) (q .0), same (p .1) (q .1))
+
+pub one-class : (h x : ℕ) (a b : ClassAnswer) → ClassPromise h x a → ClassPromise h x b → a ≡ b
+one-class h x a b p q = same p q

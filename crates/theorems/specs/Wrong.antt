@@ -1,0 +1,241 @@
+-- Wrong programs that the promises shut out, each with the input at which it breaks one: those that document 01 names under "How tight each
+-- promise is", and two for every other public function. The listing's stand in crate rows, the classes' in crate classes.
+use Prim.Native.Nat.{ℕ, _+_}
+use native.Mathlib.Omega.{arith}
+use mathlib.Core.Path.{_≡_, refl, ap, sym, _∙_}
+use mathlib.Core.List.{List, [], _∷_, _++_}
+use lib.ListN.{length, getD, drop, replicate}
+use Rattle.annex.specs.Answers.{numberOf, placeOf, givenOf}
+use Rattle.annex.specs.Units.{afterOf, leadOf, commonExtentOf, extentOf}
+use Rattle.annex.specs.Heads.{nameUsed, pliRight, oftenOf, zeroesOf, formOf}
+use Rattle.annex.specs.Digits.{halves, joined, digitOf, codeOf, isCode, halvesFault, digitsFault, digitsOf, packed}
+use Rattle.annex.specs.Contents.{numberFault, callingFault, genericFault, dialledFault, twoFault, faultOf}
+use Rattle.annex.specs.Items.{Item, Part, holdingOf, itemOf, contentsOf, ownOf, plainItem, markedItem}
+use Rattle.annex.specs.Layout.{layoutItem, layoutItems, layoutPart, layout}
+use Rattle.annex.specs.Allowed.{lengthRight, formRight, digitsRight, valueRight, valueFits}
+use Rattle.annex.specs.Walk.{walk}
+use Rattle.annex.specs.Reading.{
+  transferOf,
+  transfersVerdict,
+  octetAllowed,
+  commonForm,
+  endOf,
+  dataOf,
+  commonOf,
+  messageVerdict,
+  verdictOf,
+  commonsOf,
+  transfersOf,
+  openCommon,
+  recordOf,
+}
+use Rattle.annex.specs.Records.{pad, valuesOf, pack, viewItems, lengthsOf, transfersSum, viewParts, isWhole, view, readingOf}
+use Rattle.annex.specs.Writing.{
+  itemWriting,
+  itemsWriting,
+  dataWriting,
+  partWriting,
+  partsWriting,
+  overLimits,
+  recordWriting,
+  structWriting,
+  writingOf,
+  writtenOf,
+}
+use Rattle.annex.specs.Finding.{commonIn, commonFound, transferIn, transferAmong, transferFound, findAnswer, findPart}
+use Rattle.annex.specs.Spans.{transferRows, commonRows, rowsOf, rowAt, spansOf}
+use Rattle.annex.specs.Editing.{Edit, editRefusal, replaced, removed, editedItems, edited, recordEditing, editingOf, bufferOf}
+use Rattle.annex.specs.Editing.Edit.{Replacing, Appending, Removing}
+use Rattle.annex.specs.Promises.{
+  VerdictPromise,
+  ReadPromise,
+  FindCommonPromise,
+  FindCommonAnswerPromise,
+  FindTransferPromise,
+  FindTransferAnswerPromise,
+  SpansCheckPromise,
+  RowPromise,
+  WritePromise,
+  EditPromise,
+}
+use Rattle.annex.specs.Bench.{M, K, recordOfK, recordOfM}
+use Rattle.annex.specs.declared.Answer.{Answer}
+use Rattle.annex.specs.declared.Answer.the-variants.{Accepted, Refused}
+use Rattle.annex.specs.declared.Record.{Record}
+use Rattle.annex.specs.declared.Reading.{Reading}
+use Rattle.annex.specs.declared.Row.{Row}
+
+-- case 2: the shortest message; and an edit of each kind of M
+abbrev short : List ℕ
+short = K ++ (0x00 ∷ [])
+
+abbrev shorter : Edit
+shorter = Replacing (0x98 ∷ 0x02 ∷ 0x21 ∷ [])
+
+abbrev another : Edit
+another = Appending (0x41 ∷ 0x01 ∷ [])
+
+-- M with two octets past it
+abbrev roomy : List ℕ
+roomy = M ++ (0xEE ∷ 0xEE ∷ [])
+
+-- what the definitions say, computed once
+record Said : Type 0 where
+  verdict-cut : verdictOf K ≡ Refused 4 4
+  verdict-short : verdictOf short ≡ Accepted 5
+  reading-short : readingOf short .answer ≡ Accepted 5
+  reading-M : readingOf M .«record» ≡ pack recordOfM
+  own-call : findPart M (commonFound 0x83 M) ≡ 0x39 ∷ 0x30 ∷ 0x00 ∷ []
+  own-call-at : findAnswer M (commonFound 0x83 M) ≡ Accepted 3
+  no-partner : findAnswer M (commonFound 0x82 M) ≡ Refused 16 0
+  dialled : findPart M (transferFound 0x18 M) ≡ 0x03 ∷ 0x21 ∷ 0x0A ∷ []
+  dialled-at : findAnswer M (transferFound 0x18 M) ≡ Accepted 19
+  no-name : findAnswer M (transferFound 0x3F M) ≡ Refused 16 0
+  nine-rows : spansOf M 59 ≡ Accepted 9
+  no-room : spansOf M 8 ≡ Refused 15 0
+  area-row : rowAt M 5 ≡ record { offset = 12; header = 0x90; len = 3 }
+  no-row : rowAt M 9 ≡ record { offset = 0; header = 0; len = 0 }
+  written-answer : writingOf (pack recordOfK) 6 ≡ Accepted 5
+  written : writtenOf (pack recordOfK) (replicate 6 0xEE) ≡ short ++ (0xEE ∷ [])
+  replaced-answer : editingOf shorter M 23 ≡ Accepted 22
+  replaced-length : getD (bufferOf shorter M 23) 11 0 ≡ 0x09
+  appended-answer : editingOf another roomy 23 ≡ Accepted 25
+  appended-length : getD (bufferOf another roomy 23) 11 0 ≡ 0x0C
+  appended-end : getD (bufferOf another roomy 23) 24 0 ≡ 0x00
+  removed-answer : editingOf (Removing 0x18) M 23 ≡ Accepted 19
+  removed-length : getD (bufferOf (Removing 0x18) M 23) 11 0 ≡ 0x06
+  removed-rest : getD (bufferOf (Removing 0x18) M 23) 19 0 ≡ 0x00
+
+said : Said
+unfolding afterOf leadOf commonExtentOf extentOf nameUsed pliRight oftenOf zeroesOf formOf halves joined digitOf codeOf isCode halvesFault digitsFault digitsOf packed numberFault callingFault genericFault dialledFault twoFault faultOf holdingOf itemOf contentsOf ownOf layoutItem layoutItems layoutPart layout lengthRight formRight digitsRight valueRight valueFits walk transferOf transfersVerdict octetAllowed commonForm endOf dataOf commonOf messageVerdict verdictOf commonsOf transfersOf openCommon recordOf pad valuesOf pack viewItems lengthsOf transfersSum viewParts isWhole view readingOf itemWriting itemsWriting dataWriting partWriting partsWriting overLimits recordWriting structWriting writingOf writtenOf commonIn commonFound transferIn transferAmong transferFound transferRows commonRows rowsOf rowAt spansOf editRefusal replaced removed editedItems edited recordEditing editingOf bufferOf
+said =
+    record {
+      verdict-cut = refl;
+      verdict-short = refl;
+      reading-short = refl;
+      reading-M = refl;
+      own-call = refl;
+      own-call-at = refl;
+      no-partner = refl;
+      dialled = refl;
+      dialled-at = refl;
+      no-name = refl;
+      nine-rows = refl;
+      no-room = refl;
+      area-row = refl;
+      no-row = refl;
+      written-answer = refl;
+      written = refl;
+      replaced-answer = refl;
+      replaced-length = refl;
+      appended-answer = refl;
+      appended-length = refl;
+      appended-end = refl;
+      removed-answer = refl;
+      removed-length = refl;
+      removed-rest = refl;
+    }
+
+-- ---- verdict: one that accepts everything; one that places every refusal at 0
+
+pub accepts-all : (n : ℕ) → VerdictPromise K (Accepted n) → ⊥
+accepts-all n p = let z : _≡_ {A = ℕ} 0 4 = ap numberOf (p ∙ said .verdict-cut) in omega arith
+
+pub places-at-0 : (k : ℕ) → VerdictPromise K (Refused k 0) → ⊥
+places-at-0 k p = let z : _≡_ {A = ℕ} 0 4 = ap placeOf (p ∙ said .verdict-cut) in omega arith
+
+-- ---- read: "a reader that always refuses"; "one that always answers the record of case 2"; "a reader that opens the first transfer
+-- parameter and carries the rest as octets"
+
+pub always-refuses : (k p : ℕ) (held : Record) → ReadPromise short (record { answer = Refused k p; «record» = held }) → ⊥
+always-refuses k p held e =
+    let z : Refused k p ≡ Accepted 5 = ap (λ (r : Reading). r .answer) e ∙ said .reading-short in
+    let w : _≡_ {A = ℕ} 0 5 = ap givenOf z in
+    omega arith
+
+pub always-case-2 : (a : Answer) → ReadPromise M (record { answer = a; «record» = pack recordOfK }) → ⊥
+unfolding pack
+always-case-2 a e =
+    let z : pack recordOfK ≡ pack recordOfM = ap (λ (r : Reading). r .«record») e ∙ said .reading-M in
+    let w : _≡_ {A = ℕ} 2 5 = ap (λ (r : Record). r .commons) z in
+    omega arith
+
+-- by the digits 120 of M: they are three, and carried octets would be the count octet and two more, beginning with 3
+pub carries-the-rest : (a : Answer) (held : Record) → getD (held .values) 5 0 ≡ 0x03 → ReadPromise M (record { answer = a; «record» = held }) → ⊥
+unfolding pack pad valuesOf
+carries-the-rest a held c e =
+    let z : held ≡ pack recordOfM = ap (λ (r : Reading). r .«record») e ∙ said .reading-M in
+    let w : getD (held .values) 5 0 ≡ 1 = ap (λ (r : Record). getD (r .values) 5 0) z in
+    omega arith
+
+-- ---- finding: one that hands back nothing; one that hands back another stretch
+
+pub finds-no-common : FindCommonPromise M 0x83 [] → ⊥
+finds-no-common p = let z : _≡_ {A = ℕ} 0 3 = ap (λ (l : List ℕ). length l) (p ∙ said .own-call) in omega arith
+
+pub finds-with-header : (rest : List ℕ) → FindCommonPromise M 0x83 (0x83 ∷ rest) → ⊥
+finds-with-header rest p = let z : _≡_ {A = ℕ} 0x83 0x39 = ap (λ (l : List ℕ). getD l 0 0) (p ∙ said .own-call) in omega arith
+
+pub common-always-there : (n : ℕ) → FindCommonAnswerPromise M 0x82 (Accepted n) → ⊥
+common-always-there n p = let z : _≡_ {A = ℕ} 0 16 = ap numberOf (p ∙ said .no-partner) in omega arith
+
+pub common-at-header : FindCommonAnswerPromise M 0x83 (Accepted 2) → ⊥
+common-at-header p = let z : _≡_ {A = ℕ} 2 3 = ap givenOf (p ∙ said .own-call-at) in omega arith
+
+pub finds-no-transfer : FindTransferPromise M 0x18 [] → ⊥
+finds-no-transfer p = let z : _≡_ {A = ℕ} 0 3 = ap (λ (l : List ℕ). length l) (p ∙ said .dialled) in omega arith
+
+-- the count octet is contents
+pub finds-digits-alone : FindTransferPromise M 0x18 (0x21 ∷ 0x0A ∷ []) → ⊥
+finds-digits-alone p = let z : _≡_ {A = ℕ} 2 3 = ap (λ (l : List ℕ). length l) (p ∙ said .dialled) in omega arith
+
+pub transfer-always-there : (n : ℕ) → FindTransferAnswerPromise M 0x3F (Accepted n) → ⊥
+transfer-always-there n p = let z : _≡_ {A = ℕ} 0 16 = ap numberOf (p ∙ said .no-name) in omega arith
+
+pub transfer-at-header : FindTransferAnswerPromise M 0x18 (Accepted 18) → ⊥
+transfer-at-header p = let z : _≡_ {A = ℕ} 18 19 = ap givenOf (p ∙ said .dialled-at) in omega arith
+
+-- ---- rows: "a span listing with an invented row count"; one that ignores the room; a row with the length of the whole parameter; a row
+-- past the last
+
+pub invented-count : SpansCheckPromise M 59 (Accepted 10) → ⊥
+invented-count p = let z : _≡_ {A = ℕ} 10 9 = ap givenOf (p ∙ said .nine-rows) in omega arith
+
+pub ignores-room : SpansCheckPromise M 8 (Accepted 9) → ⊥
+ignores-room p = let z : _≡_ {A = ℕ} 0 15 = ap numberOf (p ∙ said .no-room) in omega arith
+
+pub counts-header : RowPromise M 5 (record { offset = 12; header = 0x90; len = 4 }) → ⊥
+counts-header p = let z : _≡_ {A = ℕ} 4 3 = ap (λ (r : Row). r .len) (p ∙ said .area-row) in omega arith
+
+pub row-past-end : (o h : ℕ) → RowPromise M 9 (record { offset = o; header = h; len = 1 }) → ⊥
+row-past-end o h p = let z : _≡_ {A = ℕ} 1 0 = ap (λ (r : Row). r .len) (p ∙ said .no-row) in omega arith
+
+-- ---- write: one that answers the length and writes nothing; one that clears the room past the message
+
+pub writes-nothing : (a : Answer) → WritePromise (pack recordOfK) (replicate 6 0xEE) a (replicate 6 0xEE) → ⊥
+writes-nothing a p = let z : _≡_ {A = ℕ} 0xEE 0x01 = ap (λ (l : List ℕ). getD l 0 0) (p .1 ∙ said .written) in omega arith
+
+pub clears-the-rest : (a : Answer) → WritePromise (pack recordOfK) (replicate 6 0xEE) a (short ++ (0x00 ∷ [])) → ⊥
+clears-the-rest a p = let z : _≡_ {A = ℕ} 0x00 0xEE = ap (λ (l : List ℕ). getD l 5 0) (p .1 ∙ said .written) in omega arith
+
+-- ---- editing: "an editor that returns success and touches nothing"; one that forgets C5's length octet
+
+pub touches-nothing : (k : ℕ) → EditPromise shorter M 23 (Accepted k) M → ⊥
+touches-nothing k p = let z : _≡_ {A = ℕ} 0x0A 0x09 = ap (λ (l : List ℕ). getD l 11 0) (p .1) ∙ said .replaced-length in omega arith
+
+pub forgets-length : (a : Answer) (now : List ℕ) → getD now 11 0 ≡ 0x0A → EditPromise shorter M 23 a now → ⊥
+forgets-length a now h p = let z : getD now 11 0 ≡ 0x09 = ap (λ (l : List ℕ). getD l 11 0) (p .1) ∙ said .replaced-length in omega arith
+
+pub appends-nothing : (k : ℕ) → EditPromise another roomy 23 (Accepted k) roomy → ⊥
+appends-nothing k p = let z : _≡_ {A = ℕ} 0x0A 0x0C = ap (λ (l : List ℕ). getD l 11 0) (p .1) ∙ said .appended-length in omega arith
+
+-- the end mark moves on
+pub loses-the-tail : (a : Answer) (now : List ℕ) → getD now 24 0 ≡ 0xEE → EditPromise another roomy 23 a now → ⊥
+loses-the-tail a now h p = let z : getD now 24 0 ≡ 0x00 = ap (λ (l : List ℕ). getD l 24 0) (p .1) ∙ said .appended-end in omega arith
+
+pub removes-nothing : (k : ℕ) → EditPromise (Removing 0x18) M 23 (Accepted k) M → ⊥
+removes-nothing k p = let z : _≡_ {A = ℕ} 0x0A 0x06 = ap (λ (l : List ℕ). getD l 11 0) (p .1) ∙ said .removed-length in omega arith
+
+-- octets from the new end to the old are 0
+pub leaves-the-rest : (a : Answer) (now : List ℕ) → getD now 19 0 ≡ 0x03 → EditPromise (Removing 0x18) M 23 a now → ⊥
+leaves-the-rest a now h p = let z : getD now 19 0 ≡ 0x00 = ap (λ (l : List ℕ). getD l 19 0) (p .1) ∙ said .removed-rest in omega arith
