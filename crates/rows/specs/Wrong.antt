@@ -1,0 +1,2 @@
+-- Listings that the promise shuts out.
+use Prim.Native.Nat.{ℕ}
