@@ -1,2 +1,51 @@
--- Listings that the promise shuts out.
-use Prim.Native.Nat.{ℕ}
+-- Listings that the promise shuts out, each with the message at which it breaks it.
+use Prim.Native.Nat.{ℕ, _≤_}
+use native.Mathlib.Omega.{arith}
+use mathlib.Core.Path.{_≡_, refl, ap, _∙_}
+use mathlib.Core.Bool.{Bool, true, false}
+use mathlib.Core.List.{List, [], _∷_, _++_}
+use lib.Dec.{ltb}
+use lib.ListN.{length, getD, drop}
+use borrow.Author.Tests.{le-ltb}
+use Rattle.annex.specs.Answers.{no-room, numberOf, givenOf, refuse}
+use Rattle.annex.specs.Units.{afterOf, leadOf, commonExtentOf}
+use Rattle.annex.specs.Walk.{walk}
+use Rattle.annex.specs.Reading.{octetAllowed, commonForm, endOf, dataOf, commonOf, messageVerdict, verdictOf, commonsOf}
+use Rattle.annex.specs.Spans.{commonRows, rowsOf, noRow, spansOf, tableOf}
+use Rattle.annex.specs.Promises.{SpansPromise}
+use Rattle.annex.specs.Bench.{K}
+use Rattle.annex.specs.declared.Answer.{Answer}
+use Rattle.annex.specs.declared.Answer.the-variants.{Accepted}
+use Rattle.annex.specs.declared.Row.{Row}
+
+-- the shortest accepted message, case 2 of the bench table
+abbrev pub short : List ℕ
+short = K ++ 0x00 ∷ []
+
+abbrev rowFor : ℕ → ℕ → ℕ → Row
+rowFor offset header len = record { offset = offset; header = header; len = len }
+
+-- it has three rows: user class, signal kind, end mark
+abbrev pub shortRows : List Row
+shortRows = rowFor 0 0x01 1 ∷ rowFor 2 0x06 1 ∷ rowFor 4 0x00 0 ∷ []
+
+pub short-listed : (room : ℕ) → (rowsOf short ≡ shortRows) × (spansOf short room ≡ refuse (ltb room 3) no-room 0 (Accepted 3))
+unfolding afterOf leadOf commonExtentOf walk octetAllowed commonForm endOf dataOf commonOf messageVerdict verdictOf commonsOf commonRows rowsOf spansOf
+short-listed room = (refl, refl)
+
+-- an invented row count: any but 3
+pub invented-count-breaks : (n : ℕ) → (n ≡ 3 → ⊥) → (table now : List Row) → SpansPromise short table (Accepted n) now → ⊥
+invented-count-breaks n other table now p = other (go (ltb (length table) 3) (p .0 ∙ short-listed (length table) .1))
+  where
+    go : (b : Bool) → Accepted n ≡ refuse b no-room 0 (Accepted 3) → n ≡ 3
+    go true e = absurd (let z : _≡_ {A = ℕ} 0 15 = ap numberOf e in omega arith)
+    go false e = ap givenOf e
+
+-- a row left out: the end mark's stands where that of the signal kind has to stand
+pub lost-row-breaks : (table now : List Row) (r : Answer) → 3 ≤ length table → SpansPromise short table r (rowFor 0 0x01 1 ∷ rowFor 4 0x00 0 ∷ now) → ⊥
+unfolding tableOf
+lost-row-breaks table now r h p =
+    let l = short-listed (length table) in
+    let e : tableOf short table ≡ shortRows ++ drop 3 table = rw (l .0, l .1, le-ltb (length table) 3 h) in
+    let z : _≡_ {A = ℕ} 4 2 = ap (λ (t : List Row). getD t 1 noRow .offset) (p .1 ∙ e) in
+    omega arith

@@ -1,6 +1,5 @@
--- `rows::spans` meets its contract: a walk of its MIR, by hand. `check` and `given` are called, the borrow of the table is opened, a turn of the loop calls `row_at` and stores the row that it gave, and the borrow is closed at the filled table.
--- All that the proof knows of the three callees is that they meet their contracts.
--- Assumes nothing.
+-- `spans` meets its contract: after i turns the table has the first i rows of m in front and is otherwise as it was lent, so once all are stored that
+-- `check` allows it is the promised one. A walk of the MIR by hand, which knows of `check`, `given` and `row_at` their contracts alone.
 use mathlib.Core.Path.{_≡_, refl, sym, _∙_, ap, subst}
 use Prim.Native.Nat.{ℕ, zero, suc, _+_, _*_, _<_, _^_}
 use native.Mathlib.Numerals.{add-one}
@@ -77,6 +76,7 @@ use Rattle.rows.proofs.spans.Statement as stated
 use Rattle.rows.proofs.spans.Code as code
 use Rattle.rows.proofs.spans.Code.Mir as body
 
+-- at exit nothing is left of m, and the table is still owned
 abbrev stayed : Stays (spans.ended .signature .params) (spans.ended .kept)
 stayed = (stay-none-slice (0 ∷ []) tt (plain (λ _. u8)) yes, (stay-slice (1 ∷ []) tt (plain (λ _. R.the-row)), tt))
 
@@ -145,13 +145,13 @@ module _ {M : Type 1} (𝓤 : URA M) (H : Heap 𝓤) (A : Atoms 𝓤) (W : Given
   abbrev count : ℕ
   count = givenOf (spansOf (m .now) (length ys))
 
-  -- the calls: what is passed, what is asked, and what is learnt of the result
-  abbrev to-check : Check 𝓤 H A mem run .Ghost
-  to-check = (((κ, tt), (q, tt), tt, (m, (length ys, tt)), (vm ∷ [], (vint w64 (length ys) ∷ [], tt))), tt)
+  -- the calls: what is passed, what is asked, and what is learnt of the result. `check` and `row_at` are passed m and a number
+  abbrev to-both : ℕ → Check 𝓤 H A mem run .Ghost
+  to-both k = (((κ, tt), (q, tt), tt, (m, (k, tt)), (vm ∷ [], (vint w64 k ∷ [], tt))), tt)
 
-  goes-check : length ys < 2 ^ 64 → ent 𝓤 (⋆ 𝓤 H A (‵ OwnM ∷ ‵ (flft κ q) ∷ [])) (Check 𝓤 H A mem run .pre to-check)
-  goes-check fits =
-      qed W (‵ OwnM ∷ ‵ (flft κ q) ∷ []) ∵ nothing ! $ owned ! usize (Is usize) (uint-makes 𝓤 H A W w64) (length ys) _ (refl, fits) $ fjoin ! $ move ! (1 ∷ 0 ∷ []) $ fjoin ! $
+  goes-both : (k : ℕ) → k < 2 ^ 64 → ent 𝓤 (⋆ 𝓤 H A (‵ OwnM ∷ ‵ (flft κ q) ∷ [])) (Check 𝓤 H A mem run .pre (to-both k))
+  goes-both k fits =
+      qed W (‵ OwnM ∷ ‵ (flft κ q) ∷ []) ∵ nothing ! $ owned ! usize (Is usize) (uint-makes 𝓤 H A W w64) k _ (refl, fits) $ fjoin ! $ move ! (1 ∷ 0 ∷ []) $ fjoin ! $
       nothing ! $ move ! (2 ∷ 0 ∷ []) $ join ! $ join ! $ frame ! $ done !
 
   check-said : (r : Answer) → ent 𝓤 (ensured 𝓤 H A check.ended (check.clauses 𝓤 H A mem run) (κ, tt) (m, (length ys, tt)) tt r) (fact 𝓤 (r ≡ spansOf (m .now) (length ys)))
@@ -166,17 +166,10 @@ module _ {M : Type 1} (𝓤 : URA M) (H : Heap 𝓤) (A : Atoms 𝓤) (W : Given
   given-said : (r : Answer) (n : ℕ) → ent 𝓤 (ensured 𝓤 H A given.ended (given.clauses 𝓤 H A mem run) tt (r, tt) tt n) (fact 𝓤 (n ≡ givenOf r))
   given-said r n = exE 𝓤 _ (λ ws. snd∗ 𝓤 (sem 𝓤 H A (lasts given.ended tt (r, tt) ws)) (fact 𝓤 (n ≡ givenOf r)))
 
-  abbrev to-row : ℕ → RowAt 𝓤 H A mem run .Ghost
-  to-row i = (((κ, tt), (q, tt), tt, (m, (i, tt)), (vm ∷ [], (vint w64 i ∷ [], tt))), tt)
-
-  goes-row : (i : ℕ) → i < 2 ^ 64 → ent 𝓤 (⋆ 𝓤 H A (‵ OwnM ∷ ‵ (flft κ q) ∷ [])) (RowAt 𝓤 H A mem run .pre (to-row i))
-  goes-row i fits =
-      qed W (‵ OwnM ∷ ‵ (flft κ q) ∷ []) ∵ nothing ! $ owned ! usize (Is usize) (uint-makes 𝓤 H A W w64) i _ (refl, fits) $ fjoin ! $ move ! (1 ∷ 0 ∷ []) $ fjoin ! $
-      nothing ! $ move ! (2 ∷ 0 ∷ []) $ join ! $ join ! $ frame ! $ done !
-
   row-said : (i : ℕ) (r : Row) → ent 𝓤 (ensured 𝓤 H A row-at.ended (row-at.clauses 𝓤 H A mem run) (κ, tt) (m, (i, tt)) tt r) (fact 𝓤 (r ≡ rowAt (m .now) i))
   row-said i r = exE 𝓤 _ (λ ws. snd∗ 𝓤 (sem 𝓤 H A (lasts row-at.ended (κ, tt) (m, (i, tt)) ws)) (fact 𝓤 (r ≡ rowAt (m .now) i)))
 
+  -- at the end: the borrow is shut at the table with n rows stored, which is what the promise says
   exits : Room R.the-row (length ys) → (r : Answer) (u : Val) → Is S.the-row r (u ∷ []) → r ≡ spansOf (m .now) (length ys) → (n : ℕ) → n ≡ count → Within (m .now) (length ys) n
       → ent 𝓤 (⋆ 𝓤 H A (‵ (fobs γ (codedHoleys R.the-row .code (heres R.the-row (fl n)))) ∷ ‵ (fbor κ′ (Held R.the-row (length (fl n)) b o γ)) ∷ ‵ (flft κ′ q′) ∷ ‵ OwnM ∷ ‵ (flft κ q) ∷ [])) (Post u)
   exits room r u is e n en w =
@@ -188,178 +181,174 @@ module _ {M : Type 1} (𝓤 : URA M) (H : Heap 𝓤) (A : Atoms 𝓤) (W : Given
       nothing ! $ move ! (1 ∷ 0 ∷ []) $ fjoin ! $ move ! (1 ∷ 0 ∷ []) $ fjoin ! $
       owned ! S.the-row (Is S.the-row) (EL.makes S.the-type S′.the-plain 𝓤 H A) r (u ∷ []) is $ move ! (1 ∷ 0 ∷ []) $ done !
 
-  module _ (𝓣 : Tables 𝓤 H) (known-row : Triple 𝓤 (𝓣 .C #row-at) (RowAt 𝓤 H A mem run)) (room : Room R.the-row (length ys))
-      (r : Answer) (u : Val) (is : Is S.the-row r (u ∷ [])) (e : r ≡ spansOf (m .now) (length ys)) (n : ℕ) (en : n ≡ count) (w : Within (m .now) (length ys) n) (l₀ l₁ l₂ l₃ l₄ l₅ l₆ l₇ l₈ l₉ l₁₀ : ℕ) where
+  module _ (𝓣 : Tables 𝓤 H) (known-check : Triple 𝓤 (𝓣 .C #check) (Check 𝓤 H A mem run)) (known-given : Triple 𝓤 (𝓣 .C #given) (Count 𝓤 H A mem run))
+      (known-row : Triple 𝓤 (𝓣 .C #row-at) (RowAt 𝓤 H A mem run)) where
     abbrev C : Calls 𝓤 H
     C = 𝓣 .C
 
     abbrev Λ : Loops 𝓤 H
     Λ = 𝓣 .Λ
 
-    -- the locals: the result, m, rows, a, n, i, the count of rows, the test, the row, its place in bytes, and its pointer
-    abbrev En : Env 𝓤 H
-    En = (S′.mir, l₀) ∷ (sliceM, l₁) ∷ (sliceR, l₂) ∷ (S′.mir, l₃) ∷ (word, l₄) ∷ (word, l₅) ∷ (word, l₆) ∷ (tyBool, l₇) ∷ (R′.mir, l₈) ∷ (word, l₉) ∷ (tyPtr, l₁₀) ∷ []
+    -- where the locals stand
+    module _ (room : Room R.the-row (length ys)) (l₀ l₁ l₂ l₃ l₄ l₅ l₆ l₇ l₈ l₉ l₁₀ : ℕ) where
+      -- the locals: the result, m, rows, a, n, i, the length of the table, the test, the row, its place in bytes, and its pointer; _0 to _10 below
+      abbrev En : Env 𝓤 H
+      En = (S′.mir, l₀) ∷ (sliceM, l₁) ∷ (sliceR, l₂) ∷ (S′.mir, l₃) ∷ (word, l₄) ∷ (word, l₅) ∷ (word, l₆) ∷ (tyBool, l₇) ∷ (R′.mir, l₈) ∷ (word, l₉) ∷ (tyPtr, l₁₀) ∷ []
 
-    -- what no turn touches
-    abbrev Frame : List (Item 𝓤)
-    Frame = ‵ (fat fullShare sliceM l₁ 0 vm) ∷ ‵ (fat fullShare sliceR l₂ 0 vr) ∷ ‵ (fat fullShare S′.mir l₃ 0 u) ∷ ‵ (fat fullShare word l₄ 0 (vint w64 n)) ∷ ‵ (froom S′.mir l₀ 0) ∷ ‵ (froom word l₆ 0)
-        ∷ ‵ (fobor κ′ q′ (Held R.the-row (length ys) b o γ)) ∷ ‵ (fobs γ (codedHoleys R.the-row .code (heres R.the-row ys))) ∷ ‵ (fauth γ (codedHoleys R.the-row .code (heres R.the-row ys)))
-        ∷ ‵ (fdies S′.mir l₀) ∷ ‵ (fdies sliceM l₁) ∷ ‵ (fdies sliceR l₂) ∷ ‵ (fdies S′.mir l₃) ∷ ‵ (fdies word l₄) ∷ ‵ (fdies word l₅) ∷ ‵ (fdies word l₆) ∷ ‵ (fdies tyBool l₇) ∷ ‵ (fdies R′.mir l₈) ∷ ‵ (fdies word l₉) ∷ ‵ (fdies tyPtr l₁₀) ∷ []
+      -- once `check` has returned r
+      module _ (r : Answer) (u : Val) (is : Is S.the-row r (u ∷ [])) (e : r ≡ spansOf (m .now) (length ys)) where
+        -- once `given` has returned n
+        module _ (n : ℕ) (en : n ≡ count) (w : Within (m .now) (length ys) n) where
+          -- what no turn touches
+          abbrev Frame : List (Item 𝓤)
+          Frame = ‵ (fat fullShare sliceM l₁ 0 vm) ∷ ‵ (fat fullShare sliceR l₂ 0 vr) ∷ ‵ (fat fullShare S′.mir l₃ 0 u) ∷ ‵ (fat fullShare word l₄ 0 (vint w64 n)) ∷ ‵ (froom S′.mir l₀ 0) ∷ ‵ (froom word l₆ 0)
+              ∷ ‵ (fobor κ′ q′ (Held R.the-row (length ys) b o γ)) ∷ ‵ (fobs γ (codedHoleys R.the-row .code (heres R.the-row ys))) ∷ ‵ (fauth γ (codedHoleys R.the-row .code (heres R.the-row ys)))
+              ∷ ‵ (fdies S′.mir l₀) ∷ ‵ (fdies sliceM l₁) ∷ ‵ (fdies sliceR l₂) ∷ ‵ (fdies S′.mir l₃) ∷ ‵ (fdies word l₄) ∷ ‵ (fdies word l₅) ∷ ‵ (fdies word l₆) ∷ ‵ (fdies tyBool l₇) ∷ ‵ (fdies R′.mir l₈) ∷ ‵ (fdies word l₉) ∷ ‵ (fdies tyPtr l₁₀) ∷ []
 
-    -- i rows are filled
-    abbrev At : ℕ → List (Item 𝓤)
-    At i = ‵ (row R.the-row fullShare (fl i) b o) ∷ ‵ (fat fullShare word l₅ 0 (vint w64 i)) ∷ ‵ (froom tyBool l₇ 0) ∷ ‵ (froom R′.mir l₈ 0) ∷ ‵ (froom word l₉ 0) ∷ ‵ (froom tyPtr l₁₀ 0) ∷ ‵ OwnM ∷ ‵ (flft κ q) ∷ Frame
+          -- i rows are stored
+          abbrev At : ℕ → List (Item 𝓤)
+          At i = ‵ (row R.the-row fullShare (fl i) b o) ∷ ‵ (fat fullShare word l₅ 0 (vint w64 i)) ∷ ‵ (froom tyBool l₇ 0) ∷ ‵ (froom R′.mir l₈ 0) ∷ ‵ (froom word l₉ 0) ∷ ‵ (froom tyPtr l₁₀ 0) ∷ ‵ OwnM ∷ ‵ (flft κ q) ∷ Frame
 
-    -- the invariant, where t rows are left
-    abbrev Inv : ℕ → SProp 𝓤
-    Inv t = ex 𝓤 (λ (i : ℕ). guard 𝓤 (i + t ≡ n) (⋆ 𝓤 H A (At i)))
+          -- the invariant, where t rows are left
+          abbrev Inv : ℕ → SProp 𝓤
+          Inv t = ex 𝓤 (λ (i : ℕ). guard 𝓤 (i + t ≡ n) (⋆ 𝓤 H A (At i)))
 
-    abbrev Below : ℕ → SProp 𝓤
-    Below t = ex 𝓤 (λ (t′ : ℕ). guard 𝓤 (t′ < t) (Inv t′))
+          abbrev Below : ℕ → SProp 𝓤
+          Below t = ex 𝓤 (λ (t′ : ℕ). guard 𝓤 (t′ < t) (Inv t′))
 
-    -- when the loop is left, the rest of the body runs
-    abbrev Left : Out → SProp 𝓤
-    Left = afterBlock 𝓤 H (afterSeq 𝓤 H (Wp 𝓤 H C Λ En body.t-6 (atReturn 𝓤 H En Post)) (atReturn 𝓤 H En Post))
+          -- when the loop is left, the rest of the body runs
+          abbrev Left : Out → SProp 𝓤
+          Left = afterBlock 𝓤 H (afterSeq 𝓤 H (Wp 𝓤 H C Λ En body.t-6 (atReturn 𝓤 H En Post)) (atReturn 𝓤 H En Post))
 
-    -- a turn that fills one row
-    more : (i : ℕ) (X : SProp 𝓤) → i < n → ent 𝓤 (⋆ 𝓤 H A (At (suc i))) X → ent 𝓤 (⋆ 𝓤 H A (At i)) (Wp 𝓤 H C Λ En body.turn-1 (afterTurn 𝓤 H X Left))
-    unfolding afterTurn
-    more i X small k =
-        let low : i < length ys = omega (arith, w) in
-        let len : length (fl i) ≡ length ys = length-filled (m .now) ys i (omega (arith, w)) in
-        let within : i < length (fl i) = omega arith in
-        let fits : i < 2 ^ 64 = omega (arith, room .0) in
-        let next-fits : i + 1 < 2 ^ 64 = omega (arith, room .0) in
-        let scaled : i * 24 < 2 ^ 64 = omega (arith, room .1) in
-        qed W (At i) ∵ exec ! C Λ En body.turn-1 (anyQ (afterTurn 𝓤 H X Left)) $
-        assigns ! (bin ! (load ! (from ! (stop !)) (look ! 1 refl)) (load ! (from ! (stop !)) (look ! 11 refl)) tt) (from ! (stop !)) (init ! 2 refl (tt, tt)) $
-        rewrite ! 2 (λ (t : Bool). ‵ (fat fullShare tyBool l₇ 0 (vbool t))) (lt-ltb i n small) refl $
-        stays ! (load ! (from ! (stop !)) (look ! 2 refl)) $
-        -- `row_at` is called: what m owns is had twice, and one copy goes to the callee with the token
-        move ! (6 ∷ 7 ∷ []) $ use1 W (‵ OwnM ⊛ ‵ OwnM) (shr-slice-copy 𝓤 H A W (named 0) κ u8 .twice m (vm ∷ [])) $ split ! $ move ! (0 ∷ 2 ∷ []) $ use2 W (raw (RowAt 𝓤 H A mem run .pre (to-row i))) (goes-row i fits) $
-        calls-at ! (fmOf 𝓤 H (W .laws) 𝓣) (RowAt 𝓤 H A mem run) known-row (to-row i) (and-then ! (load ! (from ! (stop !)) (look ! 8 refl)) (and-then ! (load ! (from ! (stop !)) (look ! 3 refl)) (no-more !))) (λ v.
-        use1 W (later (some (λ (y : Row). ((‵ (flft κ q) ⊛ ‵ ftrue) ⊛ ‵ (R.the-row .own y (v ∷ []))) ⊛ raw (ensured 𝓤 H A row-at.ended (row-at.clauses 𝓤 H A mem run) (κ, tt) (m, (i, tt)) tt y)))) (id⊢ 𝓤 _) $ await ! tt $ pick ! (λ y.
-        split ! $ move ! (1 ∷ []) $ use1 W (raw (fact 𝓤 (y ≡ rowAt (m .now) i))) (row-said i y) $ heard ! (y ≡ rowAt (m .now) i) (λ ey. split ! $ move ! (1 ∷ []) $
-        peeks ! R.the-row (Is R.the-row) (shows 𝓤 H A R.the-row) y (v ∷ []) (λ isy.
-        land ! (from ! (stop !)) (init ! 6 refl (LL.lawful R.the-type R′.the-laws 𝓤 H A W .typed y _ isy .0)) $
-        drop ! $ split ! $ move ! (1 ∷ []) $ drop ! $
-        -- [the token; what m owns; the rows; _5; _7; _8; room for _9; room for _10; Frame]
-        assigns ! (bin ! (load ! (from ! (stop !)) (look ! 3 refl)) (lit ! tt) (record { fits = scaled })) (from ! (stop !)) (init ! 6 refl (tt, record { fits = scaled })) $
-        assigns ! (bin ! (load ! (from ! (fld ! refl (stop !))) (look-in ! 9 (sub ! 0 refl (whole !)))) (load ! (from ! (stop !)) (look ! 6 refl)) tt) (from ! (stop !)) (init ! 7 refl (tt, tt)) $
-        rewrite ! 7 (λ (p : ℕ). ‵ (fat fullShare tyPtr l₁₀ 0 (vptr b p))) (sym (place-is 24 o i)) refl $
-        -- the row at i is taken out, stored to, and put back
-        move ! (2 ∷ []) $ elem-out ! R.the-row (Is R.the-row) (shows 𝓤 H A R.the-row) (LL.vals R.the-type R′.the-laws) (LL.tells R.the-type R′.the-laws) fullShare (fl i) i noRow b o within (λ _.
-        assigns ! (of-opd ! (load ! (from ! (stop !)) (look ! 7 refl))) (from ! (hop ! (look ! 9 refl) (stop !))) (store-raw ! 0 refl (LL.lawful R.the-type R′.the-laws 𝓤 H A W .typed y _ isy .0)) $
-        move ! (1 ∷ []) $ drop ! $ owned ! R.the-row (Is R.the-row) (LL.makes R.the-type R′.the-plain 𝓤 H A) y (v ∷ []) isy $ move ! (1 ∷ 0 ∷ []) $ elem-put ! R.the-row fullShare (fl i) i y (v ∷ []) b o within $
-        rewrite ! 0 (λ (l : List Row). ‵ (row R.the-row fullShare l b o)) (ap (set (fl i) i) ey ∙ filled-more (m .now) ys i (omega (arith, w))) refl $
-        -- [the rows; the token; what m owns; _5; _7; _8; _9; _10; Frame]
-        assigns-last ! (bin ! (load ! (from ! (stop !)) (look ! 3 refl)) (lit ! tt) (record { fits = next-fits })) (from ! (stop !)) (store ! 3 refl (tt, record { fits = next-fits })) $
-        rewrite ! 3 (λ (j : ℕ). ‵ (fat fullShare word l₅ 0 (vint w64 j))) (add-one i) refl $
-        forget ! 4 refl $ forget ! 5 refl $ forget ! 6 refl $ forget ! 7 refl $ move ! (0 ∷ 3 ∷ 4 ∷ 5 ∷ 6 ∷ 7 ∷ 2 ∷ 1 ∷ []) $ by ! k)))))
+          -- a turn that stores one row
+          more : (i : ℕ) (X : SProp 𝓤) → i < n → ent 𝓤 (⋆ 𝓤 H A (At (suc i))) X → ent 𝓤 (⋆ 𝓤 H A (At i)) (Wp 𝓤 H C Λ En body.turn-1 (afterTurn 𝓤 H X Left))
+          unfolding afterTurn
+          more i X small k =
+              let low : i < length ys = omega (arith, w) in
+              let len : length (fl i) ≡ length ys = length-filled (m .now) ys i (omega (arith, w)) in
+              let within : i < length (fl i) = omega arith in
+              let fits : i < 2 ^ 64 = omega (arith, room .0) in
+              let next-fits : i + 1 < 2 ^ 64 = omega (arith, room .0) in
+              let scaled : i * 24 < 2 ^ 64 = omega (arith, room .1) in
+              qed W (At i) ∵ exec ! C Λ En body.turn-1 (anyQ (afterTurn 𝓤 H X Left)) $
+              assigns ! (bin ! (load ! (from ! (stop !)) (look ! 1 refl)) (load ! (from ! (stop !)) (look ! 11 refl)) tt) (from ! (stop !)) (init ! 2 refl (tt, tt)) $
+              rewrite ! 2 (λ (t : Bool). ‵ (fat fullShare tyBool l₇ 0 (vbool t))) (lt-ltb i n small) refl $
+              stays ! (load ! (from ! (stop !)) (look ! 2 refl)) $
+              -- `row_at` is called: what m owns is had twice, and one copy goes to the callee with the token
+              move ! (6 ∷ 7 ∷ []) $ use1 W (‵ OwnM ⊛ ‵ OwnM) (shr-slice-copy 𝓤 H A W (named 0) κ u8 .twice m (vm ∷ [])) $ split ! $ move ! (0 ∷ 2 ∷ []) $ use2 W (raw (RowAt 𝓤 H A mem run .pre (to-both i))) (goes-both i fits) $
+              calls-at ! (fmOf 𝓤 H (W .laws) 𝓣) (RowAt 𝓤 H A mem run) known-row (to-both i) (and-then ! (load ! (from ! (stop !)) (look ! 8 refl)) (and-then ! (load ! (from ! (stop !)) (look ! 3 refl)) (no-more !))) (λ v.
+              use1 W (later (some (λ (y : Row). ((‵ (flft κ q) ⊛ ‵ ftrue) ⊛ ‵ (R.the-row .own y (v ∷ []))) ⊛ raw (ensured 𝓤 H A row-at.ended (row-at.clauses 𝓤 H A mem run) (κ, tt) (m, (i, tt)) tt y)))) (id⊢ 𝓤 _) $ await ! tt $ pick ! (λ y.
+              split ! $ move ! (1 ∷ []) $ use1 W (raw (fact 𝓤 (y ≡ rowAt (m .now) i))) (row-said i y) $ heard ! (y ≡ rowAt (m .now) i) (λ ey. split ! $ move ! (1 ∷ []) $
+              peeks ! R.the-row (Is R.the-row) (shows 𝓤 H A R.the-row) y (v ∷ []) (λ isy.
+              land ! (from ! (stop !)) (init ! 6 refl (LL.lawful R.the-type R′.the-laws 𝓤 H A W .typed y _ isy .0)) $
+              drop ! $ split ! $ move ! (1 ∷ []) $ drop ! $
+              -- [the token; what m owns; the rows; _5; _7; _8; room for _9; room for _10; Frame]
+              assigns ! (bin ! (load ! (from ! (stop !)) (look ! 3 refl)) (lit ! tt) (record { fits = scaled })) (from ! (stop !)) (init ! 6 refl (tt, record { fits = scaled })) $
+              assigns ! (bin ! (load ! (from ! (fld ! refl (stop !))) (look-in ! 9 (sub ! 0 refl (whole !)))) (load ! (from ! (stop !)) (look ! 6 refl)) tt) (from ! (stop !)) (init ! 7 refl (tt, tt)) $
+              rewrite ! 7 (λ (p : ℕ). ‵ (fat fullShare tyPtr l₁₀ 0 (vptr b p))) (sym (place-is 24 o i)) refl $
+              -- the row at i is taken out, stored to, and put back
+              move ! (2 ∷ []) $ elem-out ! R.the-row (Is R.the-row) (shows 𝓤 H A R.the-row) (LL.vals R.the-type R′.the-laws) (LL.tells R.the-type R′.the-laws) fullShare (fl i) i noRow b o within (λ _.
+              assigns ! (of-opd ! (load ! (from ! (stop !)) (look ! 7 refl))) (from ! (hop ! (look ! 9 refl) (stop !))) (store-raw ! 0 refl (LL.lawful R.the-type R′.the-laws 𝓤 H A W .typed y _ isy .0)) $
+              move ! (1 ∷ []) $ drop ! $ owned ! R.the-row (Is R.the-row) (LL.makes R.the-type R′.the-plain 𝓤 H A) y (v ∷ []) isy $ move ! (1 ∷ 0 ∷ []) $ elem-put ! R.the-row fullShare (fl i) i y (v ∷ []) b o within $
+              rewrite ! 0 (λ (l : List Row). ‵ (row R.the-row fullShare l b o)) (ap (set (fl i) i) ey ∙ filled-more (m .now) ys i (omega (arith, w))) refl $
+              -- [the rows; the token; what m owns; _5; _7; _8; _9; _10; Frame]
+              assigns-last ! (bin ! (load ! (from ! (stop !)) (look ! 3 refl)) (lit ! tt) (record { fits = next-fits })) (from ! (stop !)) (store ! 3 refl (tt, record { fits = next-fits })) $
+              rewrite ! 3 (λ (j : ℕ). ‵ (fat fullShare word l₅ 0 (vint w64 j))) (add-one i) refl $
+              forget ! 4 refl $ forget ! 5 refl $ forget ! 6 refl $ forget ! 7 refl $ move ! (0 ∷ 3 ∷ 4 ∷ 5 ∷ 6 ∷ 7 ∷ 2 ∷ 1 ∷ []) $ by ! k)))))
 
-    -- the turn that leaves the loop, and the rest of the body: the borrow is closed at what is filled
-    ends : (X : SProp 𝓤) → ent 𝓤 (⋆ 𝓤 H A (At n)) (Wp 𝓤 H C Λ En body.turn-1 (afterTurn 𝓤 H X Left))
-    unfolding afterTurn
-    ends X =
-        qed W (At n) ∵ exec ! C Λ En body.turn-1 (anyQ (afterTurn 𝓤 H X Left)) $
-        assigns ! (bin ! (load ! (from ! (stop !)) (look ! 1 refl)) (load ! (from ! (stop !)) (look ! 11 refl)) tt) (from ! (stop !)) (init ! 2 refl (tt, tt)) $
-        rewrite ! 2 (λ (t : Bool). ‵ (fat fullShare tyBool l₇ 0 (vbool t))) (le-ltb n n (omega arith)) refl $
-        leaves-loop ! (load ! (from ! (stop !)) (look ! 2 refl)) $ exec ! C Λ En body.t-6 (atRet En Post) $
-        assigns ! (of-opd ! (load ! (from ! (stop !)) (look ! 10 refl))) (from ! (stop !)) (init ! 12 refl (EL.lawful S.the-type S′.the-laws 𝓤 H A W tt .typed r _ is .0)) $
-        move ! (0 ∷ 14 ∷ 15 ∷ 16 ∷ []) $ closes-slice ! tt R.the-row ys (fl n) (length-filled (m .now) ys n w) b o $
-        -- [obs; the borrow; its token; _5; _7; room for _8, _9, _10; what m owns; the token; _1; _2; _3; _4; _0; room for _6; and that each local dies]
-        returns ! (look ! 14 refl) $ forget ! 3 refl $ forget ! 4 refl $ forget ! 10 refl $ forget ! 11 refl $ forget ! 12 refl $ forget ! 13 refl $ forget ! 14 refl $
-        move ! (14 ∷ 16 ∷ []) $ free1 ! $ move ! (10 ∷ 15 ∷ []) $ free1 ! $ move ! (10 ∷ 14 ∷ []) $ free1 ! $ move ! (10 ∷ 13 ∷ []) $ free1 ! $ move ! (10 ∷ 12 ∷ []) $ free1 ! $
-        move ! (3 ∷ 11 ∷ []) $ free1 ! $ move ! (9 ∷ 10 ∷ []) $ free1 ! $ move ! (3 ∷ 9 ∷ []) $ free1 ! $ move ! (3 ∷ 8 ∷ []) $ free1 ! $ move ! (3 ∷ 7 ∷ []) $ free1 ! $ move ! (3 ∷ 6 ∷ []) $ free1 ! $ free0 ! $
-        by ! (exits room r u is e n en w)
+          -- the turn that leaves the loop, and the rest of the body: the borrow is closed at the table as it then is
+          ends : (X : SProp 𝓤) → ent 𝓤 (⋆ 𝓤 H A (At n)) (Wp 𝓤 H C Λ En body.turn-1 (afterTurn 𝓤 H X Left))
+          unfolding afterTurn
+          ends X =
+              qed W (At n) ∵ exec ! C Λ En body.turn-1 (anyQ (afterTurn 𝓤 H X Left)) $
+              assigns ! (bin ! (load ! (from ! (stop !)) (look ! 1 refl)) (load ! (from ! (stop !)) (look ! 11 refl)) tt) (from ! (stop !)) (init ! 2 refl (tt, tt)) $
+              rewrite ! 2 (λ (t : Bool). ‵ (fat fullShare tyBool l₇ 0 (vbool t))) (le-ltb n n (omega arith)) refl $
+              leaves-loop ! (load ! (from ! (stop !)) (look ! 2 refl)) $ exec ! C Λ En body.t-6 (atRet En Post) $
+              assigns ! (of-opd ! (load ! (from ! (stop !)) (look ! 10 refl))) (from ! (stop !)) (init ! 12 refl (EL.lawful S.the-type S′.the-laws 𝓤 H A W tt .typed r _ is .0)) $
+              move ! (0 ∷ 14 ∷ 15 ∷ 16 ∷ []) $ closes-slice ! tt R.the-row ys (fl n) (length-filled (m .now) ys n w) b o $
+              -- [obs; the borrow; its token; _5; _7; room for _8, _9, _10; what m owns; the token; _1; _2; _3; _4; _0; room for _6; and that each local dies]
+              returns ! (look ! 14 refl) $ forget ! 3 refl $ forget ! 4 refl $ forget ! 10 refl $ forget ! 11 refl $ forget ! 12 refl $ forget ! 13 refl $ forget ! 14 refl $
+              move ! (14 ∷ 16 ∷ []) $ free1 ! $ move ! (10 ∷ 15 ∷ []) $ free1 ! $ move ! (10 ∷ 14 ∷ []) $ free1 ! $ move ! (10 ∷ 13 ∷ []) $ free1 ! $ move ! (10 ∷ 12 ∷ []) $ free1 ! $
+              move ! (3 ∷ 11 ∷ []) $ free1 ! $ move ! (9 ∷ 10 ∷ []) $ free1 ! $ move ! (3 ∷ 9 ∷ []) $ free1 ! $ move ! (3 ∷ 8 ∷ []) $ free1 ! $ move ! (3 ∷ 7 ∷ []) $ free1 ! $ move ! (3 ∷ 6 ∷ []) $ free1 ! $ free0 ! $
+              by ! (exits room r u is e n en w)
 
-    below : (t i : ℕ) → i + suc t ≡ n → ent 𝓤 (⋆ 𝓤 H A (At (suc i))) (Below (suc t))
-    below t i f =
-        via 𝓤 (Inv t)
-        (via 𝓤 (guard 𝓤 (suc i + t ≡ n) (⋆ 𝓤 H A (At (suc i)))) (guardI 𝓤 (suc i + t ≡ n) (⋆ 𝓤 H A (At (suc i))) (omega arith))
-        (exI 𝓤 (λ (j : ℕ). guard 𝓤 (j + t ≡ n) (⋆ 𝓤 H A (At j))) (suc i)))
-        (via 𝓤 (guard 𝓤 (t < suc t) (Inv t)) (guardI 𝓤 (t < suc t) (Inv t) (omega arith)) (exI 𝓤 (λ (w : ℕ). guard 𝓤 (w < suc t) (Inv w)) t))
+          below : (t i : ℕ) → i + suc t ≡ n → ent 𝓤 (⋆ 𝓤 H A (At (suc i))) (Below (suc t))
+          below t i f =
+              via 𝓤 (Inv t)
+              (via 𝓤 (guard 𝓤 (suc i + t ≡ n) (⋆ 𝓤 H A (At (suc i)))) (guardI 𝓤 (suc i + t ≡ n) (⋆ 𝓤 H A (At (suc i))) (omega arith))
+              (exI 𝓤 (λ (j : ℕ). guard 𝓤 (j + t ≡ n) (⋆ 𝓤 H A (At j))) (suc i)))
+              (via 𝓤 (guard 𝓤 (t < suc t) (Inv t)) (guardI 𝓤 (t < suc t) (Inv t) (omega arith)) (exI 𝓤 (λ (w : ℕ). guard 𝓤 (w < suc t) (Inv w)) t))
 
-    -- a turn from the invariant at t leaves the loop, or ends in the invariant below t
-    turn-at : (t i : ℕ) → i + t ≡ n → ent 𝓤 (⋆ 𝓤 H A (At i)) (Wp 𝓤 H C Λ En body.turn-1 (afterTurn 𝓤 H (Below t) Left))
-    turn-at zero i f = let same : n ≡ i = omega arith in subst (λ (k : ℕ). ent 𝓤 (⋆ 𝓤 H A (At k)) (Wp 𝓤 H C Λ En body.turn-1 (afterTurn 𝓤 H (Below zero) Left))) same (ends (Below zero))
-    turn-at (suc t) i f = more i (Below (suc t)) (omega arith) (below t i f)
+          -- a turn from the invariant at t leaves the loop, or ends in the invariant below t
+          turn-at : (t i : ℕ) → i + t ≡ n → ent 𝓤 (⋆ 𝓤 H A (At i)) (Wp 𝓤 H C Λ En body.turn-1 (afterTurn 𝓤 H (Below t) Left))
+          turn-at zero i f = let same : n ≡ i = omega arith in subst (λ (k : ℕ). ent 𝓤 (⋆ 𝓤 H A (At k)) (Wp 𝓤 H C Λ En body.turn-1 (afterTurn 𝓤 H (Below zero) Left))) same (ends (Below zero))
+          turn-at (suc t) i f = more i (Below (suc t)) (omega arith) (below t i f)
 
-    turns : (t : ℕ) → ent 𝓤 (Inv t) (Wp 𝓤 H C Λ En body.turn-1 (afterTurn 𝓤 H (Below t) Left))
-    turns t = exE 𝓤 (λ (i : ℕ). guard 𝓤 (i + t ≡ n) (⋆ 𝓤 H A (At i))) (λ i. guardE 𝓤 (i + t ≡ n) (⋆ 𝓤 H A (At i)) (λ f. turn-at t i f))
+          turns : (t : ℕ) → ent 𝓤 (Inv t) (Wp 𝓤 H C Λ En body.turn-1 (afterTurn 𝓤 H (Below t) Left))
+          turns t = exE 𝓤 (λ (i : ℕ). guard 𝓤 (i + t ≡ n) (⋆ 𝓤 H A (At i))) (λ i. guardE 𝓤 (i + t ≡ n) (⋆ 𝓤 H A (At i)) (λ f. turn-at t i f))
 
-    loops : ent 𝓤 (⋆ 𝓤 H A (At 0)) (Wp 𝓤 H C Λ En (loop body.turn-1) Left)
-    loops =
-        via 𝓤 (Inv n)
-        (via 𝓤 (guard 𝓤 (0 + n ≡ n) (⋆ 𝓤 H A (At 0))) (guardI 𝓤 (0 + n ≡ n) (⋆ 𝓤 H A (At 0)) (omega arith)) (exI 𝓤 (λ (j : ℕ). guard 𝓤 (j + n ≡ n) (⋆ 𝓤 H A (At j))) 0))
-        (loop-rule 𝓤 H (W .laws) 𝓣 _<_ (Nat·lt-wfRel .wf) En body.turn-1 Left Inv turns n)
+          loops : ent 𝓤 (⋆ 𝓤 H A (At 0)) (Wp 𝓤 H C Λ En (loop body.turn-1) Left)
+          loops =
+              via 𝓤 (Inv n)
+              (via 𝓤 (guard 𝓤 (0 + n ≡ n) (⋆ 𝓤 H A (At 0))) (guardI 𝓤 (0 + n ≡ n) (⋆ 𝓤 H A (At 0)) (omega arith)) (exI 𝓤 (λ (j : ℕ). guard 𝓤 (j + n ≡ n) (⋆ 𝓤 H A (At j))) 0))
+              (loop-rule 𝓤 H (W .laws) 𝓣 _<_ (Nat·lt-wfRel .wf) En body.turn-1 Left Inv turns n)
 
-  module _ (𝓣 : Tables 𝓤 H) (known-given : Triple 𝓤 (𝓣 .C #given) (Count 𝓤 H A mem run)) (known-row : Triple 𝓤 (𝓣 .C #row-at) (RowAt 𝓤 H A mem run)) (room : Room R.the-row (length ys))
-      (r : Answer) (u : Val) (is : Is S.the-row r (u ∷ [])) (e : r ≡ spansOf (m .now) (length ys)) (l₀ l₁ l₂ l₃ l₄ l₅ l₆ l₇ l₈ l₉ l₁₀ : ℕ) where
-    abbrev Eb : Env 𝓤 H
-    Eb = (S′.mir, l₀) ∷ (sliceM, l₁) ∷ (sliceR, l₂) ∷ (S′.mir, l₃) ∷ (word, l₄) ∷ (word, l₅) ∷ (word, l₆) ∷ (tyBool, l₇) ∷ (R′.mir, l₈) ∷ (word, l₉) ∷ (tyPtr, l₁₀) ∷ []
+        -- the locals once `check` has returned, and the borrow of the table
+        abbrev Checked : List (Item 𝓤)
+        Checked = ‵ (froom tyPtr l₁₀ 0) ∷ ‵ (fdies tyPtr l₁₀) ∷ ‵ (froom word l₉ 0) ∷ ‵ (fdies word l₉) ∷ ‵ (froom R′.mir l₈ 0) ∷ ‵ (fdies R′.mir l₈) ∷ ‵ (froom tyBool l₇ 0) ∷ ‵ (fdies tyBool l₇)
+            ∷ ‵ (fat fullShare word l₆ 0 (vint w64 (length ys))) ∷ ‵ (fdies word l₆) ∷ ‵ (froom word l₅ 0) ∷ ‵ (fdies word l₅) ∷ ‵ (froom word l₄ 0) ∷ ‵ (fdies word l₄) ∷ ‵ (fat fullShare S′.mir l₃ 0 u) ∷ ‵ (fdies S′.mir l₃)
+            ∷ ‵ (fat fullShare sliceR l₂ 0 vr) ∷ ‵ (fdies sliceR l₂) ∷ ‵ (fat fullShare sliceM l₁ 0 vm) ∷ ‵ (fdies sliceM l₁) ∷ ‵ (froom S′.mir l₀ 0) ∷ ‵ (fdies S′.mir l₀)
+            ∷ ‵ (fobs γ (codedHoleys R.the-row .code (heres R.the-row ys))) ∷ ‵ (fbor κ′ (Held R.the-row (length ys) b o γ)) ∷ ‵ (flft κ′ q′) ∷ []
 
-    -- the locals once `check` has returned, and the borrow of the table
-    abbrev Checked : List (Item 𝓤)
-    Checked = ‵ (froom tyPtr l₁₀ 0) ∷ ‵ (fdies tyPtr l₁₀) ∷ ‵ (froom word l₉ 0) ∷ ‵ (fdies word l₉) ∷ ‵ (froom R′.mir l₈ 0) ∷ ‵ (fdies R′.mir l₈) ∷ ‵ (froom tyBool l₇ 0) ∷ ‵ (fdies tyBool l₇)
-        ∷ ‵ (fat fullShare word l₆ 0 (vint w64 (length ys))) ∷ ‵ (fdies word l₆) ∷ ‵ (froom word l₅ 0) ∷ ‵ (fdies word l₅) ∷ ‵ (froom word l₄ 0) ∷ ‵ (fdies word l₄) ∷ ‵ (fat fullShare S′.mir l₃ 0 u) ∷ ‵ (fdies S′.mir l₃)
-        ∷ ‵ (fat fullShare sliceR l₂ 0 vr) ∷ ‵ (fdies sliceR l₂) ∷ ‵ (fat fullShare sliceM l₁ 0 vm) ∷ ‵ (fdies sliceM l₁) ∷ ‵ (froom S′.mir l₀ 0) ∷ ‵ (fdies S′.mir l₀)
-        ∷ ‵ (fobs γ (codedHoleys R.the-row .code (heres R.the-row ys))) ∷ ‵ (fbor κ′ (Held R.the-row (length ys) b o γ)) ∷ ‵ (flft κ′ q′) ∷ []
+        -- from the call of `given` to the loop
+        counts : ent 𝓤 (⋆ 𝓤 H A (‵ (S.the-row .own r (u ∷ [])) ∷ (‵ (flft κ q) ⊛ ‵ ftrue) ∷ ‵ OwnM ∷ Checked)) (Wp 𝓤 H C Λ En body.t-3 (atReturn 𝓤 H En Post))
+        counts =
+            qed W (‵ (S.the-row .own r (u ∷ [])) ∷ (‵ (flft κ q) ⊛ ‵ ftrue) ∷ ‵ OwnM ∷ Checked) ∵ exec ! C Λ En body.t-3 (atRet En Post) $
+            use1 W (raw (Count 𝓤 H A mem run .pre (to-given r u))) (goes-given r u) $
+            calls-at ! (fmOf 𝓤 H (W .laws) 𝓣) (Count 𝓤 H A mem run) known-given (to-given r u) (and-then ! (load ! (from ! (stop !)) (look ! 17 refl)) (no-more !)) (λ v.
+            use1 W (later (some (λ (n : ℕ). (‵ ftrue ⊛ ‵ (usize .own n (v ∷ []))) ⊛ raw (ensured 𝓤 H A given.ended (given.clauses 𝓤 H A mem run) tt (r, tt) tt n)))) (id⊢ 𝓤 _) $ await ! tt $ pick ! (λ n.
+            split ! $ move ! (1 ∷ []) $ use1 W (raw (fact 𝓤 (n ≡ givenOf r))) (given-said r n) $ heard ! (n ≡ givenOf r) (λ en. split ! $ move ! (1 ∷ []) $
+            peeks ! usize (Is usize) (shows 𝓤 H A usize) n (v ∷ []) (λ isn.
+            land ! (from ! (stop !)) (init ! 16 refl (uint-lawful 𝓤 H A W w64 .typed n _ isn .0)) $
+            rewrite ! 16 (λ (vs : List Val). ‵ (fat fullShare word l₄ 0 (only vs))) (isn .0) refl $
+            drop ! $ drop ! $ split ! $ move ! (1 ∷ []) $ drop ! $
+            -- [the token; what m owns; Checked, with n in _4]
+            assigns ! (of-opd ! (lit ! tt)) (from ! (stop !)) (init ! 12 refl (tt, record { fits = lit< tt })) $
+            move ! (24 ∷ 25 ∷ 26 ∷ []) $ opens-slice ! tt R.the-row ys b o $
+            rewrite ! 0 (λ (l : List Row). ‵ (row R.the-row fullShare l b o)) (sym (filled-none (m .now) ys)) refl $ forget ! 14 refl $
+            keep ! (0 ∷ 16 ∷ 12 ∷ 10 ∷ 8 ∷ 6 ∷ 5 ∷ 4 ∷ 24 ∷ 22 ∷ 20 ∷ 18 ∷ 26 ∷ 14 ∷ 1 ∷ 2 ∷ 3 ∷ 27 ∷ 25 ∷ 23 ∷ 21 ∷ 19 ∷ 17 ∷ 15 ∷ 13 ∷ 11 ∷ 9 ∷ 7 ∷ []) $
+            by ! (loops n (en ∙ ap givenOf e) (subst (Within (m .now) (length ys)) (sym (en ∙ ap givenOf e)) (given-within (m .now) (length ys))))))))
 
-    -- from the call of `given` to the loop
-    counts : ent 𝓤 (⋆ 𝓤 H A (‵ (S.the-row .own r (u ∷ [])) ∷ (‵ (flft κ q) ⊛ ‵ ftrue) ∷ ‵ OwnM ∷ Checked)) (Wp 𝓤 H (𝓣 .C) (𝓣 .Λ) Eb body.t-3 (atReturn 𝓤 H Eb Post))
-    counts =
-        qed W (‵ (S.the-row .own r (u ∷ [])) ∷ (‵ (flft κ q) ⊛ ‵ ftrue) ∷ ‵ OwnM ∷ Checked) ∵ exec ! (𝓣 .C) (𝓣 .Λ) Eb body.t-3 (atRet Eb Post) $
-        use1 W (raw (Count 𝓤 H A mem run .pre (to-given r u))) (goes-given r u) $
-        calls-at ! (fmOf 𝓤 H (W .laws) 𝓣) (Count 𝓤 H A mem run) known-given (to-given r u) (and-then ! (load ! (from ! (stop !)) (look ! 17 refl)) (no-more !)) (λ v.
-        use1 W (later (some (λ (n : ℕ). (‵ ftrue ⊛ ‵ (usize .own n (v ∷ []))) ⊛ raw (ensured 𝓤 H A given.ended (given.clauses 𝓤 H A mem run) tt (r, tt) tt n)))) (id⊢ 𝓤 _) $ await ! tt $ pick ! (λ n.
-        split ! $ move ! (1 ∷ []) $ use1 W (raw (fact 𝓤 (n ≡ givenOf r))) (given-said r n) $ heard ! (n ≡ givenOf r) (λ en. split ! $ move ! (1 ∷ []) $
-        peeks ! usize (Is usize) (shows 𝓤 H A usize) n (v ∷ []) (λ isn.
-        land ! (from ! (stop !)) (init ! 16 refl (uint-lawful 𝓤 H A W w64 .typed n _ isn .0)) $
-        rewrite ! 16 (λ (vs : List Val). ‵ (fat fullShare word l₄ 0 (only vs))) (isn .0) refl $
-        drop ! $ drop ! $ split ! $ move ! (1 ∷ []) $ drop ! $
-        -- [the token; what m owns; Checked, with n in _4]
-        assigns ! (of-opd ! (lit ! tt)) (from ! (stop !)) (init ! 12 refl (tt, record { fits = lit< tt })) $
-        move ! (24 ∷ 25 ∷ 26 ∷ []) $ opens-slice ! tt R.the-row ys b o $
-        rewrite ! 0 (λ (l : List Row). ‵ (row R.the-row fullShare l b o)) (sym (filled-none (m .now) ys)) refl $ forget ! 14 refl $
-        keep ! (0 ∷ 16 ∷ 12 ∷ 10 ∷ 8 ∷ 6 ∷ 5 ∷ 4 ∷ 24 ∷ 22 ∷ 20 ∷ 18 ∷ 26 ∷ 14 ∷ 1 ∷ 2 ∷ 3 ∷ 27 ∷ 25 ∷ 23 ∷ 21 ∷ 19 ∷ 17 ∷ 15 ∷ 13 ∷ 11 ∷ 9 ∷ 7 ∷ []) $
-        by ! (loops 𝓣 known-row room r u is e n (en ∙ ap givenOf e) (subst (Within (m .now) (length ys)) (sym (en ∙ ap givenOf e)) (given-within (m .now) (length ys))) l₀ l₁ l₂ l₃ l₄ l₅ l₆ l₇ l₈ l₉ l₁₀)))))
+      -- the locals at the start of the body, what m owns with its token, and the borrow of the table with its token
+      abbrev Entered : List (Item 𝓤)
+      Entered = ‵ (froom tyPtr l₁₀ 0) ∷ ‵ (fdies tyPtr l₁₀) ∷ ‵ (froom word l₉ 0) ∷ ‵ (fdies word l₉) ∷ ‵ (froom R′.mir l₈ 0) ∷ ‵ (fdies R′.mir l₈) ∷ ‵ (froom tyBool l₇ 0) ∷ ‵ (fdies tyBool l₇)
+          ∷ ‵ (froom word l₆ 0) ∷ ‵ (fdies word l₆) ∷ ‵ (froom word l₅ 0) ∷ ‵ (fdies word l₅) ∷ ‵ (froom word l₄ 0) ∷ ‵ (fdies word l₄) ∷ ‵ (froom S′.mir l₃ 0) ∷ ‵ (fdies S′.mir l₃)
+          ∷ ‵ (fat fullShare sliceR l₂ 0 vr) ∷ ‵ (fdies sliceR l₂) ∷ ‵ (fat fullShare sliceM l₁ 0 vm) ∷ ‵ (fdies sliceM l₁) ∷ ‵ (froom S′.mir l₀ 0) ∷ ‵ (fdies S′.mir l₀)
+          ∷ ‵ OwnM ∷ ‵ (flft κ q) ∷ ‵ (fobs γ (codedHoleys R.the-row .code (heres R.the-row ys))) ∷ ‵ (fbor κ′ (Held R.the-row (length ys) b o γ)) ∷ ‵ (flft κ′ q′) ∷ []
 
-  module _ (𝓣 : Tables 𝓤 H) (known-check : Triple 𝓤 (𝓣 .C #check) (Check 𝓤 H A mem run)) (known-given : Triple 𝓤 (𝓣 .C #given) (Count 𝓤 H A mem run)) (known-row : Triple 𝓤 (𝓣 .C #row-at) (RowAt 𝓤 H A mem run))
-      (room : Room R.the-row (length ys)) (l₀ l₁ l₂ l₃ l₄ l₅ l₆ l₇ l₈ l₉ l₁₀ : ℕ) where
-    abbrev Ea : Env 𝓤 H
-    Ea = (S′.mir, l₀) ∷ (sliceM, l₁) ∷ (sliceR, l₂) ∷ (S′.mir, l₃) ∷ (word, l₄) ∷ (word, l₅) ∷ (word, l₆) ∷ (tyBool, l₇) ∷ (R′.mir, l₈) ∷ (word, l₉) ∷ (tyPtr, l₁₀) ∷ []
+      -- from the start of the body to the call of `given`
+      starts : ent 𝓤 (⋆ 𝓤 H A Entered) (Wp 𝓤 H C Λ En body.t-1 (atReturn 𝓤 H En Post))
+      starts =
+          qed W Entered ∵ exec ! C Λ En body.t-1 (atRet En Post) $
+          assigns ! (of-opd ! (load ! (from ! (fld ! refl (stop !))) (look-in ! 16 (sub ! 1 refl (whole !))))) (from ! (stop !)) (init ! 8 refl (tt, record { fits = room .0 })) $
+          move ! (22 ∷ 23 ∷ []) $ use1 W (‵ OwnM ⊛ ‵ OwnM) (shr-slice-copy 𝓤 H A W (named 0) κ u8 .twice m (vm ∷ [])) $ split ! $ move ! (0 ∷ 2 ∷ []) $ use2 W (raw (Check 𝓤 H A mem run .pre (to-both (length ys)))) (goes-both (length ys) (room .0)) $
+          calls-at ! (fmOf 𝓤 H (W .laws) 𝓣) (Check 𝓤 H A mem run) known-check (to-both (length ys)) (and-then ! (load ! (from ! (stop !)) (look ! 20 refl)) (and-then ! (load ! (from ! (stop !)) (look ! 10 refl)) (no-more !))) (λ u.
+          use1 W (later (some (λ (r : Answer). ((‵ (flft κ q) ⊛ ‵ ftrue) ⊛ ‵ (S.the-row .own r (u ∷ []))) ⊛ raw (ensured 𝓤 H A check.ended (check.clauses 𝓤 H A mem run) (κ, tt) (m, (length ys, tt)) tt r)))) (id⊢ 𝓤 _) $ await ! tt $ pick ! (λ r.
+          split ! $ move ! (1 ∷ []) $ use1 W (raw (fact 𝓤 (r ≡ spansOf (m .now) (length ys)))) (check-said r) $ heard ! (r ≡ spansOf (m .now) (length ys)) (λ e. split ! $ move ! (1 ∷ []) $
+          peeks ! S.the-row (Is S.the-row) (shows 𝓤 H A S.the-row) r (u ∷ []) (λ is.
+          land ! (from ! (stop !)) (init ! 17 refl (EL.lawful S.the-type S′.the-laws 𝓤 H A W tt .typed r _ is .0)) $
+          by ! (counts r u is e)))))
 
-    -- the locals at the start of the body, what m owns with its token, and the borrow of the table with its token
-    abbrev Entered : List (Item 𝓤)
-    Entered = ‵ (froom tyPtr l₁₀ 0) ∷ ‵ (fdies tyPtr l₁₀) ∷ ‵ (froom word l₉ 0) ∷ ‵ (fdies word l₉) ∷ ‵ (froom R′.mir l₈ 0) ∷ ‵ (fdies R′.mir l₈) ∷ ‵ (froom tyBool l₇ 0) ∷ ‵ (fdies tyBool l₇)
-        ∷ ‵ (froom word l₆ 0) ∷ ‵ (fdies word l₆) ∷ ‵ (froom word l₅ 0) ∷ ‵ (fdies word l₅) ∷ ‵ (froom word l₄ 0) ∷ ‵ (fdies word l₄) ∷ ‵ (froom S′.mir l₃ 0) ∷ ‵ (fdies S′.mir l₃)
-        ∷ ‵ (fat fullShare sliceR l₂ 0 vr) ∷ ‵ (fdies sliceR l₂) ∷ ‵ (fat fullShare sliceM l₁ 0 vm) ∷ ‵ (fdies sliceM l₁) ∷ ‵ (froom S′.mir l₀ 0) ∷ ‵ (fdies S′.mir l₀)
-        ∷ ‵ OwnM ∷ ‵ (flft κ q) ∷ ‵ (fobs γ (codedHoleys R.the-row .code (heres R.the-row ys))) ∷ ‵ (fbor κ′ (Held R.the-row (length ys) b o γ)) ∷ ‵ (flft κ′ q′) ∷ []
-
-    -- from the start of the body to the call of `given`
-    starts : ent 𝓤 (⋆ 𝓤 H A Entered) (Wp 𝓤 H (𝓣 .C) (𝓣 .Λ) Ea body.t-1 (atReturn 𝓤 H Ea Post))
-    starts =
-        qed W Entered ∵ exec ! (𝓣 .C) (𝓣 .Λ) Ea body.t-1 (atRet Ea Post) $
-        assigns ! (of-opd ! (load ! (from ! (fld ! refl (stop !))) (look-in ! 16 (sub ! 1 refl (whole !))))) (from ! (stop !)) (init ! 8 refl (tt, record { fits = room .0 })) $
-        move ! (22 ∷ 23 ∷ []) $ use1 W (‵ OwnM ⊛ ‵ OwnM) (shr-slice-copy 𝓤 H A W (named 0) κ u8 .twice m (vm ∷ [])) $ split ! $ move ! (0 ∷ 2 ∷ []) $ use2 W (raw (Check 𝓤 H A mem run .pre to-check)) (goes-check (room .0)) $
-        calls-at ! (fmOf 𝓤 H (W .laws) 𝓣) (Check 𝓤 H A mem run) known-check to-check (and-then ! (load ! (from ! (stop !)) (look ! 20 refl)) (and-then ! (load ! (from ! (stop !)) (look ! 10 refl)) (no-more !))) (λ u.
-        use1 W (later (some (λ (r : Answer). ((‵ (flft κ q) ⊛ ‵ ftrue) ⊛ ‵ (S.the-row .own r (u ∷ []))) ⊛ raw (ensured 𝓤 H A check.ended (check.clauses 𝓤 H A mem run) (κ, tt) (m, (length ys, tt)) tt r)))) (id⊢ 𝓤 _) $ await ! tt $ pick ! (λ r.
-        split ! $ move ! (1 ∷ []) $ use1 W (raw (fact 𝓤 (r ≡ spansOf (m .now) (length ys)))) (check-said r) $ heard ! (r ≡ spansOf (m .now) (length ys)) (λ e. split ! $ move ! (1 ∷ []) $
-        peeks ! S.the-row (Is S.the-row) (shows 𝓤 H A S.the-row) r (u ∷ []) (λ is.
-        land ! (from ! (stop !)) (init ! 17 refl (EL.lawful S.the-type S′.the-laws 𝓤 H A W tt .typed r _ is .0)) $
-        by ! (counts 𝓣 known-given known-row room r u is e l₀ l₁ l₂ l₃ l₄ l₅ l₆ l₇ l₈ l₉ l₁₀)))))
-
-  module _ (𝓣 : Tables 𝓤 H) (known-check : Triple 𝓤 (𝓣 .C #check) (Check 𝓤 H A mem run)) (known-given : Triple 𝓤 (𝓣 .C #given) (Count 𝓤 H A mem run)) (known-row : Triple 𝓤 (𝓣 .C #row-at) (RowAt 𝓤 H A mem run)) where
+    -- the whole function, from its entry
     walk : Is (ShrSlice (named 0) κ u8) m (vm ∷ []) → Is (MutSlice (named 1) κ′ R.the-row) (x ys) (vr ∷ []) → ent 𝓤 (onEntry 𝓤 H A spans.signature (κ, (κ′, tt)) (q, (q′, tt)) a vals) (WpFn 𝓤 H (𝓣 .C) (𝓣 .Λ) function (vm ∷ vr ∷ []) Post)
     walk pm pr =
         qed W ((‵ (flft κ q) ⊛ ‵ (flft κ′ q′) ⊛ ‵ ftrue) ∷ ‵ (owns (ShrSlice (named 0) κ u8 ∷ MutSlice (named 1) κ′ R.the-row ∷ []) a vals) ∷ []) ∵
         move ! (1 ∷ []) $ fsplit ! $ move ! (1 ∷ []) $ fsplit ! $ fsplit ! $ drop ! $ fsplit ! $ move ! (4 ∷ []) $ split3 ! $ keep ! (6 ∷ 0 ∷ 3 ∷ 4 ∷ 1 ∷ []) $
         -- [what m owns; its token; obs; the borrow; its token]
-        enter ! (𝓣 .C) (𝓣 .Λ) function (vm ∷ vr ∷ []) _ $
+        enter ! C Λ function (vm ∷ vr ∷ []) _ $
         alloc1 ! (λ l₀. alloc1 ! (λ l₁. alloc1 ! (λ l₂. alloc1 ! (λ l₃. alloc1 ! (λ l₄. alloc1 ! (λ l₅. alloc1 ! (λ l₆. alloc1 ! (λ l₇. alloc1 ! (λ l₈. alloc1 ! (λ l₉. alloc1 ! (λ l₁₀. alloc0 ! $ params1 ! $
         pass1 ! (init ! 18 refl (shr-slice-lawful 𝓤 H A W (named 0) κ u8 .typed m (vm ∷ []) pm .0)) $ pass1 ! (init ! 16 refl (mut-slice-lawful 𝓤 H A W (named 1) κ′ R.the-row .typed (x ys) (vr ∷ []) pr .0)) $ pass0 ! $
-        by ! (starts 𝓣 known-check known-given known-row (pr .0 .1) l₀ l₁ l₂ l₃ l₄ l₅ l₆ l₇ l₈ l₉ l₁₀))))))))))))
+        by ! (starts (pr .0 .1) l₀ l₁ l₂ l₃ l₄ l₅ l₆ l₇ l₈ l₉ l₁₀))))))))))))
 
 module _ {M : Type 1} (𝓤 : URA M) (H : Heap 𝓤) (A : Atoms 𝓤) (W : Given 𝓤 H A) (mem : Memory → SProp 𝓤) (run : Routine → Fun 𝓤) (𝓣 : Tables 𝓤 H)
     (known-check : Triple 𝓤 (𝓣 .C #check) (Check 𝓤 H A mem run)) (known-given : Triple 𝓤 (𝓣 .C #given) (Count 𝓤 H A mem run)) (known-row : Triple 𝓤 (𝓣 .C #row-at) (RowAt 𝓤 H A mem run)) where
