@@ -228,7 +228,6 @@ module _ {M : Type 1} (𝓤 : URA M) (H : Heap 𝓤) (A : Atoms 𝓤) (W : Given
               let len : length (fl i) ≡ length ys = length-filled (m .now) ys i (omega (arith, w)) in
               let within : i < length (fl i) = omega arith in
               let fits : i < 2 ^ 64 = omega (arith, room .0) in
-              let next-fits : i + 1 < 2 ^ 64 = omega (arith, room .0) in
               let scaled : i * 24 < 2 ^ 64 = omega (arith, room .1) in
               qed W (At i) ∵ exec ! C Λ En body.turn-1 (anyQ (afterTurn 𝓤 H X Left)) $
               assigns ! (bin ! (load ! (from ! (stop !)) (look ! 1 refl)) (load ! (from ! (stop !)) (look ! 11 refl)) tt) (from ! (stop !)) (init ! 2 refl (tt, tt)) $
@@ -252,7 +251,7 @@ module _ {M : Type 1} (𝓤 : URA M) (H : Heap 𝓤) (A : Atoms 𝓤) (W : Given
               move ! (1 ∷ []) $ drop ! $ owned ! R.the-row (Is R.the-row) (LL.makes R.the-type R′.the-plain 𝓤 H A) y (v ∷ []) isy $ move ! (1 ∷ 0 ∷ []) $ elem-put ! R.the-row fullShare (fl i) i y (v ∷ []) b o within $
               rewrite ! 0 (λ (l : List Row). ‵ (row R.the-row fullShare l b o)) (ap (set (fl i) i) ey ∙ filled-more (m .now) ys i (omega (arith, w))) refl $
               -- [the rows; the token; what m owns; _5; _7; _8; _9; _10; Frame]
-              assigns-last ! (bin ! (load ! (from ! (stop !)) (look ! 3 refl)) (lit ! tt) (record { fits = next-fits })) (from ! (stop !)) (store ! 3 refl (tt, record { fits = next-fits })) $
+              assigns-last ! (bin ! (load ! (from ! (stop !)) (look ! 3 refl)) (lit ! tt) (record { fits = omega (arith, room .1) })) (from ! (stop !)) (store ! 3 refl (tt, record { fits = omega (arith, room .1) })) $
               rewrite ! 3 (λ (j : ℕ). ‵ (fat fullShare word l₅ 0 (vint w64 j))) (add-one i) refl $
               forget ! 4 refl $ forget ! 5 refl $ forget ! 6 refl $ forget ! 7 refl $ move ! (0 ∷ 3 ∷ 4 ∷ 5 ∷ 6 ∷ 7 ∷ 2 ∷ 1 ∷ []) $ by ! k)))))
 
