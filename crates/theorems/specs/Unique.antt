@@ -25,7 +25,7 @@ use Rattle.annex.specs.declared.Row.{Row}
 use Rattle.annex.specs.declared.ClassAnswer.{ClassAnswer}
 
 -- what is equal to the same is equal
-same : {A : Type 0} {x a b : A} → a ≡ x → b ≡ x → a ≡ b
+pub same : {A : Type 0} {x a b : A} → a ≡ x → b ≡ x → a ≡ b
 same p q = p ∙ sym q
 
 pub one-verdict : (m : List ℕ) (a b : Answer) → VerdictPromise m a → VerdictPromise m b → a ≡ b
