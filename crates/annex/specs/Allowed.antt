@@ -61,13 +61,13 @@ isOctet x = ltb x 256
 
 -- ---- one transfer parameter
 
--- its PLI's length rule: "contents of another length than the PLI rule gives" are not allowed
+-- Writing, 11: the contents are as long as the length rule of the header's PLI asks
 abbrev pub lengthFits : Extent → List ℕ → Bool
 lengthFits (Fixed n) s = eqb (length s) n
 lengthFits CountOctet s = eqb (length s) (afterOf CountOctet (getD s 0 0))
 lengthFits LengthOctet s = leb (length s) most-transfer-octets
 
--- digits of PLI 10: "Counts 0 to 63 are allowed"
+-- Transfer data, PLI 10, and Writing, 11: six bits count the digits, so there are at most 63
 abbrev pub lengthBy : Holding → Item → Bool
 lengthBy AsContents i = lengthFits (extentOf (i .header)) (contentsOf i)
 lengthBy (AsDigits m) i = leb (length (i .values)) most-digits
@@ -106,20 +106,20 @@ formBy (Two mask) i = eqb (length (i .values)) 2 && clear mask (getD (i .values)
 unfoldable pub formRight : Item → Bool
 formRight i = formBy (formOf (i .header)) i
 
--- digits "0-9, 10 for *, 11 for #"
+-- Writing, 13: each digit is one of the twelve values that a record holds for digits
 unfoldable pub digitsRight : Item → Bool
 digitsRight i = every isDigit (digitsBy (heldAs i) i)
 
 -- ---- one common parameter
 
--- 01 "must be 01"; 06 one of the signal kinds
+-- Common part, and refusal 5: the user class is 01, the signal kind one of the list
 unfoldable pub valueRight : Part → Bool
 valueRight p =
     cond (eqb (p .header) user-class) (eqb (p .value) 0x01)
     (cond (eqb (p .header) signal-kind) (among (p .value) signalKinds)
     true)
 
--- 04 "one octet"; call numbers "24 bits"
+-- Common part, and Writing, 12: the sequence is an octet, a call number has 24 bits
 unfoldable pub valueFits : Part → Bool
 valueFits p =
     cond (eqb (p .header) sequence) (isOctet (p .value))
@@ -148,7 +148,7 @@ Held r = Each HeldPart r
 
 -- ---- a record
 
--- the transfer parameters of its C5s, "were there several, all together"
+-- Writing: the transfer parameters of a record, those of every C5 in it one after the other
 abbrev pub itemsIn : List Part → List Item
 itemsIn [] = []
 itemsIn (p ∷ ps) = p .items ++ itemsIn ps
@@ -170,20 +170,20 @@ partNamesOf r = map (λ p. nameOf (p .header)) r
 
 pub record Allowed (r : List Part) : Type 0 where
   pub held : Held r
-  -- "a sequence of at most 6 common parameters without end mark"
+  -- Writing, 1 and 2: few enough common parameters, each of a kind that a record may hold
   pub few-commons : length r ≤ most-commons
   pub listed : every (λ p. among (p .header) commonHeaders) r ≡ true
-  -- "each parameter stands at most once"
+  -- Common part, and refusal 3: none twice
   pub once : atMost (λ x. 1) (partNamesOf r) ≡ true
-  -- "01 and 06 must be there"
+  -- Common part, and refusal 6: user class and signal kind are among them
   pub has-class : among user-class (headersOf r) ≡ true
   pub has-kind : among signal-kind (headersOf r) ≡ true
   pub values-right : every valueRight r ≡ true
   pub values-fit : every valueFits r ≡ true
-  -- "a sequence of at most 52 transfer parameters whose contents, laid out, come to at most 255 octets"
+  -- Writing, 1: few enough transfer parameters, with few enough octets of contents in sum
   pub few-transfers : length (itemsIn r) ≤ most-transfers
   pub few-contents : contentsSum (itemsIn r) ≤ most-transfer-octets
-  -- "length octet 0 to 255": all of the transfer data
+  -- Common part, and refusal 14: all of the transfer data is counted by one length octet
   pub few-octets : length (layoutItems (itemsIn r)) ≤ most-transfer-octets
   -- each transfer parameter: its name is used, its PLI is the name's, the name stands no oftener than it may, its contents have the PLI's
   -- length, the form that the header asks, and digits that are digits

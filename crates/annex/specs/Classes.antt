@@ -1,5 +1,4 @@
--- Classes of code values: document 01, "Classes of code values". "17 if unlisted, 12 at place 0 if a zero bit is set, else named, held back
--- or spare."
+-- Classes of code values: document 01, "Classes of code values", and refusals 17 and 12, in that order.
 use Prim.Native.Nat.{ℕ, _/_, _%_}
 use mathlib.Core.Bool.{Bool, true, false, cond, _&&_, _||_}
 use mathlib.Core.List.{List, [], _∷_}
@@ -63,7 +62,7 @@ classLists =
     lists 0xD7 Low7 (only 1 ∷ upTo 3 4 ∷ only 126 ∷ []) (only 2 ∷ upTo 112 125 ∷ []) ∷
     lists 0xDC Low7 (only 1 ∷ upTo 3 4 ∷ only 126 ∷ []) (only 2 ∷ upTo 112 125 ∷ []) ∷ []
 
--- "All else is spare."
+-- what no range has is spare
 abbrev pub classBy : ClassList → ℕ → Class
 classBy l x = cond (seenIn (l .look) x (l .named)) Named (cond (seenIn (l .look) x (l .held)) HeldBack Spare)
 

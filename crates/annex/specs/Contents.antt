@@ -39,30 +39,30 @@ presentationOf s = getD s 1 0 / 4 % 4
 abbrev pub countOf : List ℕ → ℕ
 countOf s = (length s - 2) * 2 - oddOf s
 
--- D7, whose first octet is at the offset `at`: "Fewer than two octets, or odd with no digit octet, is bad form."
--- "Odd: last high half 0. Even with no digits is allowed."
+-- Transfer data, D7: a number whose first octet is at the offset `at`. Its two octets of fields must be there, and where the odd mark is
+-- set a digit octet too; then the digits, with filler after an odd count
 unfoldable pub numberFault : ℕ → List ℕ → Fault
 numberFault at s =
     formedThen (not (ltb (length s) 2))
     (formedThen (not (eqb (oddOf s) 1 && eqb (length s) 2))
     (digitsFault Numbered (countOf s) (at + 2) (drop 2 s)))
 
--- DC: as D7, "but with presentation 2, bits 7-0 of octet 1 and bits 7-4 of octet 2 are 0 and no digits follow"
+-- Transfer data, DC: a number; where it is withheld (presentation 2) two octets, with nothing told but presentation and screening
 unfoldable pub callingFault : List ℕ → Fault
 callingFault s =
     cond (eqb (presentationOf s) 2)
     (formed (eqb (length s) 2 && (eqb (getD s 0 0) 0 && ltb (getD s 1 0) 16)))
     (numberFault 0 s)
 
--- DA: "at least one octet; if that is 06, the rest is as D7, otherwise carried"
+-- Transfer data, DA: a first octet, which says whether a number follows (06) or anything at all
 unfoldable pub genericFault : List ℕ → Fault
 genericFault s = formedThen (not (eqb (length s) 0)) (cond (eqb (getD s 0 0) 6) (numberFault 1 (drop 1 s)) Sound)
 
--- PLI 10: the count octet, then its digits
+-- Transfer data, PLI 10: the count octet, then its digits
 unfoldable pub dialledFault : List ℕ → Fault
 dialledFault s = digitsFault Dialled (getD s 0 0 % 64) 1 (drop 1 s)
 
--- DB and CF: "length 2", bits of the second octet 0
+-- Transfer data, DB and CF: two octets, with bits of the second that must be 0
 unfoldable pub twoFault : ℕ → List ℕ → Fault
 twoFault mask s = formed (eqb (length s) 2 && clear mask (getD s 1 0))
 

@@ -10,18 +10,19 @@ use Rattle.annex.specs.declared.Alphabet.the-variants.{Dialled, Numbered
 use Rattle.annex.specs.declared.Fault.{Fault}
 use Rattle.annex.specs.declared.Fault.the-variants.{Sound, Bad}
 
--- the half-octets of octets, "low half first"
+-- the half-octets of octets: of each octet the low half comes first
 unfoldable pub halves : List ℕ → List ℕ
 halves [] = []
 halves (x ∷ s) = x % 16 ∷ x / 16 ∷ halves s
 
--- and back: "After an odd count the last high half is 0"
+-- and back: an odd last one stands low, with 0 as filler above it
 unfoldable pub joined : List ℕ → List ℕ
 joined [] = []
 joined (a ∷ []) = a ∷ []
 joined (a ∷ b ∷ hs) = (a + 16 * b) ∷ joined hs
 
--- dialled: "Codes 1-9 are digits, 10 is zero, 11 is *, 12 is #". In a number: "code 0 is zero". A record holds 0-9, 10 for *, 11 for #
+-- the two codes: they differ in the zero, which is 10 where digits are dialled (PLI 10) and 0 in a number (D7). In both 11 and 12 are * and #,
+-- which a record holds as 10 and 11
 abbrev pub zeroFrom : Alphabet → ℕ → ℕ
 zeroFrom Dialled h = cond (eqb h 10) 0 h
 zeroFrom Numbered h = h
@@ -36,7 +37,7 @@ zeroTo Numbered d = d
 unfoldable pub codeOf : Alphabet → ℕ → ℕ
 codeOf z d = cond (eqb d 10) 11 (cond (eqb d 11) 12 (zeroTo z d))
 
--- dialled: "0, 13, 14, 15 are spare". In a number: "10 is spare", "13-15 spare"
+-- spare codes: 13 to 15 in both, and the other code's zero
 abbrev pub spareUnder13 : Alphabet → ℕ
 spareUnder13 Dialled = 0
 spareUnder13 Numbered = 10

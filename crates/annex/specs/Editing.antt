@@ -1,5 +1,4 @@
--- Editing in place: document 01, "Editing". "the buffer holds the message in its first n octets; n beyond the buffer is 15. Then reading's
--- numbers with its places. All later places are 0".
+-- Editing in place: document 01, "Editing": the refusals in their order, the record so edited, and what the buffer then holds.
 use Prim.Native.Nat.{ℕ, _+_, _-_}
 use mathlib.Core.Bool.{Bool, true, false, cond, not}
 use mathlib.Core.List.{List, [], _∷_, _++_, map}
@@ -45,14 +44,14 @@ newItem new = itemOf (newHeader new) (contentsIn (extentOf (newHeader new)) (new
 abbrev pub present : ℕ → List Item → Bool
 present x is = among x (namesOf is)
 
--- "new parameter empty 11; 8; 9"
+-- 11, 8 and 9 of the new octets' header
 abbrev pub newHead : List ℕ → Answer → Answer
 newHead new a =
     refuse (eqb (length new) 0) cut-contents 0
     (refuse (not (nameUsed (newHeader new))) unused-name 0
     (refuse (not (pliRight (newHeader new))) other-pli 0 a))
 
--- "new octets too few or left over 11; 12; 13"
+-- 11, 12 and 13 of the octets after it
 abbrev pub newContents : List ℕ → Answer
 newContents new =
     let h = newHeader new in
@@ -71,7 +70,7 @@ editRefusal (Appending new) is =
     (newContents new))
 editRefusal (Removing x) is = refuse (not (present x is)) absent 0 (Accepted 0)
 
--- "A replacement replaces the parameter of its own name"
+-- the new parameter in the place of the one with its name
 unfoldable pub replaced : Item → List Item → List Item
 replaced new [] = []
 replaced new (i ∷ is) = cond (eqb (nameOf (i .header)) (nameOf (new .header))) (new ∷ is) (i ∷ replaced new is)
@@ -80,7 +79,7 @@ unfoldable pub removed : ℕ → List Item → List Item
 removed x [] = []
 removed x (i ∷ is) = cond (eqb (nameOf (i .header)) x) is (i ∷ removed x is)
 
--- the parameters so edited: "an appended one stands last in C5"
+-- the parameters so edited; an appended one comes last
 unfoldable pub editedItems : Edit → List Item → List Item
 editedItems (Replacing new) is = replaced (newItem new) is
 editedItems (Appending new) is = is ++ (newItem new ∷ [])
@@ -110,7 +109,7 @@ editingOf e buffer n =
     refuse (ltb (length buffer) n) no-room 0
     (andThen (verdictOf (take n buffer)) (λ _. recordEditing e (recordOf (take n buffer)) (length buffer)))
 
--- "If the message shrinks, octets from the new end to the old are set to 0; the rest of the buffer stays."
+-- the new message at the front, zeros to where the old one ended, and behind that the buffer as it was
 abbrev pub cleared : ℕ → List ℕ → List ℕ
 cleared k d = replicate k 0 ++ drop k d
 

@@ -1,5 +1,5 @@
--- Finding contents: document 01, "Finding contents". "reading's numbers, then 16 if it is 00, absent or unknown; it hands back that stretch
--- of the caller's own message, not a copy, and an empty stretch on refusal."
+-- Finding contents: document 01, "Finding contents": where they stand, the part itself, and the answer to the second question; 16 comes after
+-- reading's numbers.
 use Prim.Native.Nat.{ℕ, _+_, _-_}
 use mathlib.Core.Bool.{Bool, true, false, cond}
 use mathlib.Core.List.{List, [], _∷_}

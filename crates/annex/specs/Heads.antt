@@ -140,7 +140,7 @@ heads =
     row 0xF8 0x00 Carried ∷  -- NSP setting
     row 0xFD 0x00 Carried ∷ []  -- originating region
 
--- "Five names have no layout": any PLI is allowed and contents are carried
+-- the five names without layout: their PLI is free, and nothing is asked of their contents
 abbrev pub freeNames : List ℕ
 freeNames = 0x07 ∷ 0x24 ∷ 0x30 ∷ 0x31 ∷ 0x3B ∷ []
 
@@ -150,15 +150,15 @@ isFree h = among (nameOf h) freeNames
 abbrev headerOf : Head → ℕ
 headerOf r = r .header
 
--- "The other twelve names are unused": what is not listed under some PLI, and not one of the five
+-- refusal 8: a name is in use where it has no layout, or some header of it is listed
 unfoldable pub nameUsed : ℕ → Bool
 nameUsed h = isFree h || among (nameOf h) (map (λ r. nameOf (headerOf r)) heads)
 
--- the PLI is that name's
+-- refusal 9: the header itself is listed, or its name's PLI is free
 unfoldable pub pliRight : ℕ → Bool
 pliRight h = isFree h || among h (map headerOf heads)
 
--- how often the name x may stand: "A name (P0, P1) stands at most once (house)"
+-- refusal 10: how often the name x may stand in the transfer data (house)
 unfoldable pub oftenOf : ℕ → ℕ
 oftenOf x = 1
 

@@ -46,7 +46,7 @@ holdingBy Generic x = cond (eqb x 6) AsGeneric AsContents
 holdingBy (Long n) x = AsContents
 holdingBy (Two mask) x = AsContents
 
--- "The header, for DA its first octet too, decides which"
+-- Writing: the header decides how, and for DA the first octet with it
 unfoldable pub holdingOf : ℕ → ℕ → Holding
 holdingOf h x = holdingBy (formOf h) x
 
@@ -123,7 +123,7 @@ upperMarks Notified i = 2 * i .notification
 upperMarks Verified i = 2 * i .notification + i .verification
 upperMarks Typed i = i .dialling
 
--- "counts and odd marks follow from the digits"
+-- Writing: a record holds no counts and no odd marks; they come of the digits
 abbrev pub numberContents : Item → List ℕ → List ℕ
 numberContents i ds =
     (128 * (length ds % 2) + i .numberType) ∷ (128 * i .incomplete + 16 * i .plan + 4 * i .presentation + i .screening) ∷ packed Numbered ds

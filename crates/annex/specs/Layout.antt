@@ -24,11 +24,11 @@ unfoldable pub layoutItems : List Item → List ℕ
 layoutItems [] = []
 layoutItems (i ∷ is) = layoutItem i ++ layoutItems is
 
--- "24 bits, least octet first"
+-- Common part: a call number, from its least octet to its highest
 abbrev pub callOctets : ℕ → List ℕ
 callOctets v = v % 256 ∷ v / 256 % 256 ∷ v / 65536 % 256 ∷ []
 
--- "transfer data: length octet 0 to 255, then parameters"
+-- Common part: transfer data behind its length octet
 abbrev pub dataOctets : List ℕ → List ℕ
 dataOctets t = length t ∷ t
 
@@ -40,7 +40,7 @@ layoutPart p =
     (cond (isCall (p .header)) (callOctets (p .value))
     (p .value ∷ []))
 
--- the parameters in order, then the end mark: "the end mark is last (house)"
+-- Common part: the parameters in order, and the end mark behind them (house)
 unfoldable pub layout : List Part → List ℕ
 layout [] = end-mark ∷ []
 layout (p ∷ ps) = layoutPart p ++ layout ps

@@ -1,5 +1,5 @@
--- Reading: document 01, "Refusal numbers and their order", Reading. "1 first, then left to right. A common parameter is tried 2, 3, 4, 5;
--- for C5, 8 to 13 run after 4, each transfer parameter in number order. At the end mark 6, then 7."
+-- Reading: document 01, "Refusal numbers and their order", Reading: the tests of a transfer parameter, of a common parameter and of the end
+-- mark, each in the order of their numbers, over the message from left to right; and the record of an accepted message.
 use Prim.Native.Nat.{ℕ, zero, suc, _+_, _-_, _*_}
 use mathlib.Core.Bool.{Bool, true, false, cond, not, _&&_, _||_}
 use mathlib.Core.List.{List, [], _∷_, map}
@@ -125,7 +125,7 @@ commonsOf m = walk (listing commonStep) unseen 0 0 m
 unfoldable pub transfersOf : List ℕ → List Par
 transfersOf t = walk (listing transferStep) unseen 0 0 t
 
--- "24 bits, least octet first"
+-- Common part: a call number, least octet first
 abbrev pub callNumber : List ℕ → ℕ
 callNumber s = getD s 0 0 + 256 * getD s 1 0 + 65536 * getD s 2 0
 
@@ -142,7 +142,7 @@ openCommon q =
     (cond (isCall (q .head)) (record { header = q .head; value = callNumber (q .own); items = [] })
     (record { header = q .head; value = getD (q .own) 0 0; items = [] }))
 
--- "without end mark"
+-- Writing: a record has no end mark
 abbrev pub withoutEnd : List Par → List Par
 withoutEnd [] = []
 withoutEnd (q ∷ qs) = cond (eqb (q .head) end-mark) (withoutEnd qs) (q ∷ withoutEnd qs)

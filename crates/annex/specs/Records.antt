@@ -1,5 +1,5 @@
--- The record as a struct, and as the sequence of values that it stands for: document 01, "Writing". "Records are equal as sequences of
--- these values; unused room in one handed out is zero."
+-- The record as a struct, and as the sequence of values that it stands for: document 01, "Writing". Two structs that stand for the same values
+-- are the same record; in a struct handed out all room that is not used is zero.
 use Prim.Native.Nat.{ℕ, zero, suc, _+_, _-_, _/_, _%_}
 use mathlib.Core.Bool.{Bool, true, false, cond, _&&_}
 use mathlib.Core.List.{List, [], _∷_, _++_, map}
@@ -156,7 +156,7 @@ isWhole r =
 unfoldable pub view : Record → List Part
 view r = viewParts (commonsIn r) (r .transfer) (r .values)
 
--- ---- what reading gives: the record of an accepted message; "a record beside it is empty, all zero"
+-- ---- what reading gives: the record of an accepted message, packed; beside a refusal the record of nothing
 
 abbrev pub readBy : Answer → List Part → Reading
 readBy (Accepted n) r = record { answer = Accepted n; «record» = pack r }

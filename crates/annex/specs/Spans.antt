@@ -1,5 +1,5 @@
--- Spans: document 01, "Spans". "one row (offset of header, header, contents length) per parameter, in order of offset, into the caller's
--- table of rows, end mark included". "Reading's numbers, then 15. Rows past the last stay."
+-- Spans: document 01, "Spans": the rows of a message, those of C5 right behind its own, the end mark's last; 15 comes after reading's numbers;
+-- and what the table then holds.
 use Prim.Native.Nat.{ℕ, _+_, _-_}
 use mathlib.Core.Bool.{cond}
 use mathlib.Core.List.{List, [], _∷_, _++_}

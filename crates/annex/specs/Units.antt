@@ -17,7 +17,7 @@ pliOf h = h / 64
 abbrev pub nameOf : ℕ → ℕ
 nameOf h = h % 64
 
--- "half that many octets, rounded up"
+-- the one conversion: two half-octets to an octet, an odd one taking an octet of its own
 abbrev pub octetsOf : HalfOctets → Octets
 octetsOf n = record { 0 = (n .0 + 1) / 2 }
 
@@ -27,7 +27,7 @@ afterOf (Fixed n) x = n
 afterOf CountOctet x = 1 + octetsOf (record { 0 = x % 64 }) .0
 afterOf LengthOctet x = 1 + x
 
--- "Contents means all octets after the header, and after the length octet"; a count octet is contents
+-- Transfer data: what stands between a header and its contents is a length octet alone; a count octet belongs to the contents
 unfoldable pub leadOf : Extent → ℕ
 leadOf (Fixed n) = 0
 leadOf CountOctet = 0

@@ -1,5 +1,5 @@
--- Writing: document 01, "Refusal numbers and their order", Writing. "1 first, then 2, 3, 5, 8-13 in the reader's order, places being where
--- octets would stand." "After the last transfer parameter 14, at the end 6, then 15. Octets past the written ones stay."
+-- Writing: document 01, "Refusal numbers and their order", Writing: 1, then each parameter's refusals in the order in which its octets would
+-- stand, each at the place where they would stand; 14 behind the last of C5, 6 at the end mark, 15 last; and what the room then holds.
 use Prim.Native.Nat.{ℕ, _+_, _-_}
 use mathlib.Core.Bool.{Bool, true, false, cond, not, _||_}
 use mathlib.Core.List.{List, [], _∷_, _++_}

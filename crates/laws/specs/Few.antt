@@ -125,7 +125,7 @@ unfolding commonRows
 length-rows [] = refl
 length-rows (q ∷ qs) = rw (length-append (innerRows q) (commonRows qs)) (omega (arith, length-rows qs))
 
--- "at most 59"
+-- no more than 59 of them
 pub rows-few : (m : List ℕ) → length (rowsOf m) ≤ 59
 unfolding rowsOf commonsOf commonAllows allowance
 rows-few m = omega (arith, length-rows (commonsOf m), spent commonAllows commonStep rowsIn common-spends m unseen 0 0 refl)

@@ -24,7 +24,7 @@ use Rattle.theorems.specs.Transfers.{AllowedItem, AllowedItems, transfer
 
 -- ---- the three kinds
 
--- the most octets of a common parameter, by its name: "2+4+4+2+2+257+1"
+-- the most octets of a common parameter, by its name; with the end mark they come to 272
 abbrev pub mostOf : ℕ → ℕ
 mostOf x = getD (1 ∷ 2 ∷ 4 ∷ 4 ∷ 2 ∷ 257 ∷ 2 ∷ []) x 0
 

@@ -53,7 +53,7 @@ each-octets (p ∷ r) a b =
     let one : every isOctet (layoutPart p) ≡ true = rw (b .0 .laid) (and-both (isOctet (p .header)) _ (lt-ltb (p .header) 256 (a .0 .held .octet)) (b .0 .octets)) in
     every-append isOctet (layoutPart p) (layout r) one (each-octets r (a .1) (b .1))
 
--- "A message has at most 272 octets: 2+4+4+2+2+257+1."
+-- each common parameter at its longest, once, and the end mark: 272
 each-most : (r : List Part) → Each Built r → length (layout r) ≤ 1 + total mostOf (partNamesOf r)
 unfolding layout total
 each-most [] b = omega arith

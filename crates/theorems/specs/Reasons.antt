@@ -49,11 +49,11 @@ editedIn e d n = edited e (recordOf (take n d))
 
 -- none of the reasons of document 01, "Editing"
 pub record NoReason (e : Edit) (d : List ℕ) (n : ℕ) : Type 0 where
-  -- 15: "n beyond the buffer"
+  -- 15: the message lies within the buffer
   pub within : n ≤ length d
-  -- "reading's numbers"
+  -- 1 to 13: and reading accepts it
   pub message : verdictOf (take n d) ≡ Accepted n
-  -- 16: "no transfer data"
+  -- 16: it has a C5
   pub has-data : among transfer-data (headersOf (recordOf (take n d))) ≡ true
   -- the edit's own: 11, 8, 9, 16, 10, 11, 12, 13
   pub right : EditRight e (itemsIn (recordOf (take n d)))

@@ -144,8 +144,7 @@ accepts-all n p = let z : _≡_ {A = ℕ} 0 4 = ap numberOf (p ∙ said .verdict
 pub places-at-0 : (k : ℕ) → VerdictPromise K (Refused k 0) → ⊥
 places-at-0 k p = let z : _≡_ {A = ℕ} 0 4 = ap placeOf (p ∙ said .verdict-cut) in omega arith
 
--- ---- read: "a reader that always refuses"; "one that always answers the record of case 2"; "a reader that opens the first transfer
--- parameter and carries the rest as octets"
+-- ---- read: one that refuses everything; one that knows only case 2; one that opens only the first transfer parameter
 
 pub always-refuses : (k p : ℕ) (held : Record) → ReadPromise short (record { answer = Refused k p; «record» = held }) → ⊥
 always-refuses k p held e =
@@ -195,7 +194,7 @@ transfer-always-there n p = let z : _≡_ {A = ℕ} 0 16 = ap numberOf (p ∙ sa
 pub transfer-at-header : FindTransferAnswerPromise M 0x18 (Accepted 18) → ⊥
 transfer-at-header p = let z : _≡_ {A = ℕ} 18 19 = ap givenOf (p ∙ said .dialled-at) in omega arith
 
--- ---- rows: "a span listing with an invented row count"; one that ignores the room; a row with the length of the whole parameter; a row
+-- ---- rows: one that makes up its count; one that ignores the room; a row with the length of the whole parameter; a row
 -- past the last
 
 pub invented-count : SpansCheckPromise M 59 (Accepted 10) → ⊥
@@ -218,7 +217,7 @@ writes-nothing a p = let z : _≡_ {A = ℕ} 0xEE 0x01 = ap (λ (l : List ℕ). 
 pub clears-the-rest : (a : Answer) → WritePromise (pack recordOfK) (replicate 6 0xEE) a (short ++ (0x00 ∷ [])) → ⊥
 clears-the-rest a p = let z : _≡_ {A = ℕ} 0x00 0xEE = ap (λ (l : List ℕ). getD l 5 0) (p .1 ∙ said .written) in omega arith
 
--- ---- editing: "an editor that returns success and touches nothing"; one that forgets C5's length octet
+-- ---- editing: one that claims success and does nothing; one that forgets C5's length octet
 
 pub touches-nothing : (k : ℕ) → EditPromise shorter M 23 (Accepted k) M → ⊥
 touches-nothing k p = let z : _≡_ {A = ℕ} 0x0A 0x09 = ap (λ (l : List ℕ). getD l 11 0) (p .1) ∙ said .replaced-length in omega arith
