@@ -16,6 +16,7 @@ use Rattle.annex.specs.Reading.{transferStep, transfersOf, commonStep, commonsO
 use Rattle.annex.specs.Spans.{transferRows, innerRows, commonRows, rowsOf}
 use Rattle.annex.specs.declared.Answer.{Answer}
 use Rattle.annex.specs.declared.Answer.the-variants.{Accepted, Refused}
+use Rattle.laws.specs.Members.{among-every}
 use Rattle.laws.specs.Bools.{and-left, and-right}
 use Rattle.laws.specs.Steps.{transfer-taken, common-taken}
 use Rattle.laws.specs.Rows.{sumOf, parAt, transfer-rows}
@@ -88,18 +89,9 @@ transfers-few t =
 commonAllows : ℕ → ℕ → ℕ
 commonAllows n x = cond (eqb x 0) (cond (eqb n (nameOf transfer-data)) (1 + most-transfers) (cond (leb n 6) 1 0)) 0
 
--- what a test computes over a list holds at each of its numbers
-among-all : (f : ℕ → Bool) (ks : List ℕ) → every f ks ≡ true → (x : ℕ) → among x ks ≡ true → f x ≡ true
-among-all f [] t x e = absurd (let z : _≡_ {A = ℕ} 0 1 = cc in omega arith)
-among-all f (k ∷ ks) t x e = go (eqb x k) refl e (among-all f ks (and-right (f k) (every f ks) t) x)
-  where
-    go : (b : Bool) → eqb x k ≡ b → b || among x ks ≡ true → (among x ks ≡ true → f x ≡ true) → f x ≡ true
-    go true g u r = rw (eqb-true x k g) (and-left (f k) (every f ks) t)
-    go false g u r = r u
-
 listed-allowed : (h : ℕ) → among h listedHeaders ≡ true → 1 ≤ commonAllows (nameOf h) 0
 unfolding commonAllows
-listed-allowed h e = leb-true 1 _ (among-all (λ x. leb 1 (commonAllows (nameOf x) 0)) listedHeaders refl h e)
+listed-allowed h e = leb-true 1 _ (among-every (λ x. leb 1 (commonAllows (nameOf x) 0)) listedHeaders refl h e)
 
 inner-few : (p h : ℕ) (own : List ℕ) → among h listedHeaders ≡ true → 1 + length (innerRows (parAt p h own)) ≤ commonAllows (nameOf h) 0
 unfolding commonAllows

@@ -1,6 +1,7 @@
 -- Laws that the proofs of several crates cite. A reader need not believe any of them: the checker does.
 -- Of tests, lists and octets:
 pub mod Bools
+pub mod Members
 pub mod Parts
 pub mod Stores
 pub mod Fronts

@@ -85,14 +85,6 @@ among-each P (k ∷ ks) p x e = go (eqb x k) refl e (among-each P ks (p .1) x)
     go true q r f = rw (eqb-true x k q) (p .0)
     go false q r f = f r
 
--- a test that computes to true of each is true of one that is among them
-pub among-every : (f : ℕ → Bool) (ks : List ℕ) → every f ks ≡ true → (x : ℕ) → among x ks ≡ true → f x ≡ true
-among-every f ks e x m = among-each (λ k. f k ≡ true) ks (go ks e) x m
-  where
-    go : (ks : List ℕ) → every f ks ≡ true → Each (λ k. f k ≡ true) ks
-    go [] e = tt
-    go (k ∷ ks) e = (and-left (f k) _ e, go ks (and-right (f k) _ e))
-
 -- ---- how often one stands
 
 pub times-append : (u : ℕ) (xs ys : List ℕ) → timesIn u (xs ++ ys) ≡ timesIn u xs + timesIn u ys

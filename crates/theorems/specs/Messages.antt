@@ -18,7 +18,8 @@ use Rattle.annex.specs.Reading.{wholeIn, commonStep, commonClose, messageVerdic
 use Rattle.annex.specs.declared.Answer.the-variants.{Accepted}
 use Rattle.laws.specs.Bools.{and-left, and-right, or-right}
 use Rattle.laws.specs.Steps.{passed, common-within}
-use Rattle.theorems.specs.Lists.{among-every, every-left, every-right, each-map}
+use Rattle.laws.specs.Members.{among-every}
+use Rattle.theorems.specs.Lists.{every-left, every-right, each-map}
 use Rattle.theorems.specs.Trails.{laidOut, seenBy, Trail, walked}
 use Rattle.theorems.specs.Counts.{
   namesIn,

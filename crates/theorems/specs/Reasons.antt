@@ -23,7 +23,7 @@ use Rattle.annex.specs.Editing.Edit.{Replacing, Appending, Removing}
 use Rattle.annex.specs.declared.Answer.{Answer}
 use Rattle.annex.specs.declared.Answer.the-variants.{Accepted, Refused}
 use Rattle.annex.specs.declared.Fault.the-variants.{Sound}
-use Rattle.laws.specs.Steps.{passed, sounded}
+use Rattle.laws.specs.Steps.{passed, then-passed, sounded}
 use Rattle.theorems.specs.Lengths.{Long}
 use Rattle.theorems.specs.Messages.{message-read}
 
@@ -63,11 +63,6 @@ pub record NoReason (e : Edit) (d : List ℕ) (n : ℕ) : Type 0 where
   pub room : length (layout (editedIn e d n)) ≤ length d
 
 -- ---- an accepted edit has passed them
-
--- what follows an accepted step is accepted too
-then-passed : (a : Answer) (f : ℕ → Answer) (k : ℕ) → andThen a f ≡ Accepted k → (j : ℕ) × (a ≡ Accepted j) × (f j ≡ Accepted k)
-then-passed (Accepted j) f k e = (j, refl, e)
-then-passed (Refused j p) f k e = absurd (let z : _≡_ {A = ℕ} 0 1 = cc in omega arith)
 
 -- a new parameter, with a test b of its name
 new-passed : (new : List ℕ) (b : Bool) (k j : ℕ) → newHead new (refuse b k 0 (newContents new)) ≡ Accepted j → NewRight new × (b ≡ false)

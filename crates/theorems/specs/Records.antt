@@ -18,13 +18,13 @@ use Rattle.annex.specs.Records.{valuesOf}
 use Rattle.annex.specs.declared.Alphabet.{Alphabet}
 use Rattle.annex.specs.declared.Alphabet.the-variants.{Dialled, Numbered}
 use Rattle.laws.specs.Bools.{and-left, and-right, and-both}
+use Rattle.laws.specs.Members.{among-every}
 use Rattle.theorems.specs.Lists.{
   each-append,
   each-left,
   each-right,
   each-every,
   each-so,
-  among-every,
   times-here,
   times-rest,
   times-append,

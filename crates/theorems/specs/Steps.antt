@@ -17,7 +17,8 @@ use Rattle.annex.specs.declared.Answer.{Answer}
 use Rattle.annex.specs.declared.Answer.the-variants.{Accepted, Refused}
 use Rattle.annex.specs.declared.Fault.the-variants.{Sound}
 use Rattle.laws.specs.Steps.{passed, transfer-taken, FormTaken, form-taken, common-formed, common-refused, data-taken}
-use Rattle.theorems.specs.Lists.{among-each, among-every}
+use Rattle.laws.specs.Members.{among-every}
+use Rattle.theorems.specs.Lists.{among-each}
 use Rattle.theorems.specs.Lengths.{Long, long-alone, long-before}
 
 -- ---- a transfer parameter

@@ -17,6 +17,8 @@ use Rattle.annex.specs.Records.{noCommon, noTransfer, pad, headOf, commonHeadOf
 use Rattle.annex.specs.declared.Common.{Common}
 use Rattle.annex.specs.declared.Transfer.{Transfer}
 use Rattle.annex.specs.declared.Record.{Record}
+use Rattle.laws.specs.Laid.{own-held-item}
+use Rattle.laws.specs.Filling.{values-append}
 use Rattle.theorems.specs.Lists.{every-take, every-drop, each-take, each-drop}
 use Rattle.theorems.specs.Records.{plain-items, Within}
 
@@ -33,11 +35,6 @@ lengths-heads : (is : List Item) → lengthsOf (map headOf is) ≡ length (value
 unfolding lengthsOf valuesOf
 lengths-heads [] = refl
 lengths-heads (i ∷ is) = rw (lengths-heads is) (sym (length-append (i .values) (valuesOf is)))
-
-values-append : (is js : List Item) → valuesOf (is ++ js) ≡ valuesOf is ++ valuesOf js
-unfolding valuesOf
-values-append [] js = refl
-values-append (i ∷ is) js = rw (append-assoc, values-append is js)
 
 -- a head tells how many transfer parameters its part holds
 transfers-in : (p : Part) → HeldPart p → transfersIn (commonHeadOf p) ≡ length (p .items)
@@ -103,37 +100,11 @@ pub record FitsStruct (s : Record) : Type 0 where
   pub transfer-octets : Each OctetTransfer (s .transfer)
   pub value-octets : every isOctet (s .values) ≡ true
 
--- what is a parameter's own keeps its header and its values
-record Kept (k : Holding) (i : Item) : Type 0 where
-  header : ownBy k i .header ≡ i .header
-  values : ownBy k i .values ≡ i .values
-  again : ownBy k (ownBy k i) ≡ ownBy k i
-
-kept : (k : Holding) (i : Item) → Kept k i
-kept AsContents i = record { header = refl; values = refl; again = refl }
-kept (AsDigits Unmarked) i = record { header = refl; values = refl; again = refl }
-kept (AsDigits Notified) i = record { header = refl; values = refl; again = refl }
-kept (AsDigits Verified) i = record { header = refl; values = refl; again = refl }
-kept (AsDigits Typed) i = record { header = refl; values = refl; again = refl }
-kept AsNumber i = record { header = refl; values = refl; again = refl }
-kept AsGeneric i = record { header = refl; values = refl; again = refl }
-
-own-item : (i : Item) → i .header < 256 → every isOctet (i .values) ≡ true → HeldItem (ownOf i)
-unfolding ownOf
-own-item i s o =
-    let k = heldAs i in
-    let w = kept k i in
-    record {
-      octet = rw (w .header) s;
-      octets = rw (w .values) o;
-      own = rw (w .header, w .values) (w .again);
-    }
-
 held-items : (ts : List Transfer) (vs : List ℕ) → Each OctetTransfer ts → every isOctet vs ≡ true → Each HeldItem (viewItems ts vs)
 unfolding viewItems
 held-items [] vs s o = tt
 held-items (t ∷ ts) vs s o = (
-  own-item (rawItem t (take (t .len) vs)) (s .0) (every-take isOctet (t .len) vs o),
+  own-held-item (rawItem t (take (t .len) vs)) (s .0) (every-take isOctet (t .len) vs o),
   held-items ts (drop (t .len) vs) (s .1) (every-drop isOctet (t .len) vs o),
 )
 
