@@ -32,7 +32,7 @@ itemsAt t i = map openTransfer (pars transferSize 0 i (drop i t))
 
 -- ---- one turn of filling
 
-size-at : (t : List ℕ) (i x : ℕ) → x ≡ getD t (i + 1) 0 → afterOf (extentOf (getD t i 0)) x ≡ transferSize (getD t i 0) (drop (i + 1) t)
+pub size-at : (t : List ℕ) (i x : ℕ) → x ≡ getD t (i + 1) 0 → afterOf (extentOf (getD t i 0)) x ≡ transferSize (getD t i 0) (drop (i + 1) t)
 size-at t i x e =
     let z : i + 1 + 0 ≡ i + 1 = omega arith in
     rw (e, getD-drop (i + 1) t 0 0, z)

@@ -72,7 +72,7 @@ fn transfer_search(t: &[u8], name: u8) -> Found
 }
 
 // In a message that is accepted: where the contents of a common parameter stand. The end mark has none to be found.
-fn common_plain(m: &[u8], header: u8) -> Found
+pub fn common_plain(m: &[u8], header: u8) -> Found
     ensures { λ r. ⌜ r ≡ commonPlain header (now (m .entry)) ⌝ }
 {
     if header == Common::END_MARK {

@@ -88,7 +88,7 @@ new-passed new b k j a =
     )
 
 -- the edit's own tests
-edit-passed : (e : Edit) (is : List Item) (j : ℕ) → editRefusal e is ≡ Accepted j → EditRight e is
+pub edit-passed : (e : Edit) (is : List Item) (j : ℕ) → editRefusal e is ≡ Accepted j → EditRight e is
 unfolding editRefusal
 edit-passed (Replacing new) is j a =
     let b = present (nameOf (newHeader new)) is in

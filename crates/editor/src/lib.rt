@@ -1,0 +1,102 @@
+// Editing in place: a transfer parameter of the message in a buffer's first n octets is replaced, appended or removed. Each step is
+// accepted before the next one runs, and nothing is written before the last.
+mod steps;
+use annex::Answer;
+use annex::Common;
+use annex::Found;
+use annex::Transfer;
+use octets::splice;
+use reader::finding::common_plain;
+use steps::message_in;
+use steps::new_contents;
+use steps::new_head;
+use steps::whole_search;
+ghost use Rattle.annex.specs.Editing.Edit.{Replacing, Appending, Removing};
+ghost use Rattle.annex.specs.Promises.{EditPromise};
+ghost use Rattle.editor.specs.Splicing.{Placed, SplicePromise};
+
+// The last step: 14, then 15, or new in the place of the old octets from index from on. The transfer data stands from index start to before
+// end, C5's length octet right before it.
+fn splice_in(buffer: &mut [u8], n: usize, start: usize, end: usize, from: usize, old: usize, new: &[u8]) -> Answer
+    requires { ⌜ Placed (now buffer) n start end from old ⌝ }
+    ensures { λ r. ⌜ SplicePromise (now (buffer .entry)) n start end from old (now (new .entry)) r (now (buffer .exit)) ⌝ }
+{
+    let length = end - start - old + new.len();
+    if Transfer::MOST_OCTETS < length {
+        return Answer::Refused(Answer::TRANSFER_OVER, 0);
+    }
+    if !splice(buffer, n, from, old, new) {
+        return Answer::Refused(Answer::NO_ROOM, 0);
+    }
+    buffer[start - 1] = length as u8;
+    Answer::Accepted(n - old + new.len())
+}
+
+// Replaces the transfer parameter that has the name of new.
+pub fn replace(buffer: &mut [u8], n: usize, new: &[u8]) -> Answer
+    ensures { λ r. ⌜ EditPromise (Replacing (now (new .entry))) (now (buffer .entry)) n r (now (buffer .exit)) ⌝ }
+{
+    let message = message_in(&buffer[..], n);
+    let Answer::Accepted(_) = message else {
+        return message;
+    };
+    let Found::At(start, end) = common_plain(&buffer[..n], Common::TRANSFER_DATA) else {
+        return Answer::Refused(Answer::ABSENT, 0);
+    };
+    let head = new_head(new);
+    let Answer::Accepted(_) = head else {
+        return head;
+    };
+    let header = new[0];
+    let Found::At(from, to) = whole_search(&buffer[start..end], header % 64) else {
+        return Answer::Refused(Answer::ABSENT, 0);
+    };
+    let contents = new_contents(header, &new[1..]);
+    let Answer::Accepted(_) = contents else {
+        return contents;
+    };
+    splice_in(buffer, n, start, end, start + from, to - from, new)
+}
+
+// Puts a transfer parameter behind the others in C5.
+pub fn append(buffer: &mut [u8], n: usize, new: &[u8]) -> Answer
+    ensures { λ r. ⌜ EditPromise (Appending (now (new .entry))) (now (buffer .entry)) n r (now (buffer .exit)) ⌝ }
+{
+    let message = message_in(&buffer[..], n);
+    let Answer::Accepted(_) = message else {
+        return message;
+    };
+    let Found::At(start, end) = common_plain(&buffer[..n], Common::TRANSFER_DATA) else {
+        return Answer::Refused(Answer::ABSENT, 0);
+    };
+    let head = new_head(new);
+    let Answer::Accepted(_) = head else {
+        return head;
+    };
+    let header = new[0];
+    let Found::Nowhere = whole_search(&buffer[start..end], header % 64) else {
+        return Answer::Refused(Answer::REPEATED_NAME, 0);
+    };
+    let contents = new_contents(header, &new[1..]);
+    let Answer::Accepted(_) = contents else {
+        return contents;
+    };
+    splice_in(buffer, n, start, end, end, 0, new)
+}
+
+// Removes the transfer parameter of this name.
+pub fn remove(buffer: &mut [u8], n: usize, name: u8) -> Answer
+    ensures { λ r. ⌜ EditPromise (Removing name) (now (buffer .entry)) n r (now (buffer .exit)) ⌝ }
+{
+    let message = message_in(&buffer[..], n);
+    let Answer::Accepted(_) = message else {
+        return message;
+    };
+    let Found::At(start, end) = common_plain(&buffer[..n], Common::TRANSFER_DATA) else {
+        return Answer::Refused(Answer::ABSENT, 0);
+    };
+    let Found::At(from, to) = whole_search(&buffer[start..end], name) else {
+        return Answer::Refused(Answer::ABSENT, 0);
+    };
+    splice_in(buffer, n, start, end, start + from, to - from, b"")
+}
