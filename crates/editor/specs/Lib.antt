@@ -2,3 +2,4 @@
 pub mod Whole
 pub mod Steps
 pub mod Splicing
+pub mod Cuts

@@ -1,81 +1,51 @@
+-- `splice_in` meets its contract: its test is 14, the splice refuses for want of room alone, and the octet stored is C5's length octet.
+use native.Mathlib.Omega.{arith}
+use mathlib.Core.Path.{_≡_, refl, sym, _∙_}
+use mathlib.Core.Bool.{true, false}
 use borrow.Author.Needs.{needs}
+use borrow.Author.Tests.{lt-ltb, le-ltb, not-true, not-false}
+use Rattle.octets.specs.Splice.{spliceFits, Fitting, told-fitting, set-spliced}
+use Rattle.editor.specs.Splicing.{spliceAnswer, no-room-left}
 use Rattle.editor.proofs.splice_in.Statement.{statement}
 use Rattle.editor.proofs.splice_in.Tie as tie
-use Rattle.editor.proofs.splice_in.Reads as reads
-use Rattle.editor.proofs.splice_in.Lts as lts
-use Rattle.octets.proofs.splice.Reads as splice-reads
 
--- src/lib.rt:24:18
-sub-length : tie.Need-sub-length
-sub-length c = search needs
-
--- src/lib.rt:24:18
-sub-length-2 : tie.Need-sub-length-2
-sub-length-2 c = search needs
-
--- src/lib.rt:24:18
-add-length : tie.Need-add-length
-add-length c = search needs
-
--- src/lib.rt:26:9
 returns : tie.Need-returns
-returns c = ?
+unfolding spliceAnswer
+returns c = (rw (lt-ltb _ _ (c .if1 .taken)), refl)
 
--- src/lib.rt:28:9
-splice-requires : tie.Need-splice-requires
-splice-requires c κs = search needs
-
--- src/lib.rt:29:9
-same-length : tie.Need-same-length
-same-length c = search needs
-
--- src/lib.rt:29:9
 returns-2 : tie.Need-returns-2
-returns-2 c = ?
+unfolding spliceAnswer
+returns-2 c =
+    let s = c .before .before .before in
+    let a = s .before .before .before .before .before .args in
+    let f = not-true _ (c .if2 .taken) in
+    let l = no-room-left _ _ _ _ _ _ (a .new .now) (s .before .before .before .before .before .pre) (sym (s .splice .ensures .0) ∙ f) in
+    (rw (le-ltb _ _ (s .before .before .if1 .left), lt-ltb _ _ l), s .splice .ensures .1 ∙ rw f)
 
--- src/lib.rt:31:25
-cast-buffer : tie.Need-cast-buffer
-cast-buffer c = search needs
-
--- src/lib.rt:31:12
-sub-buffer : tie.Need-sub-buffer
-sub-buffer c = search needs
-
--- src/lib.rt:31:5
-slice-write-buffer : tie.Need-slice-write-buffer
-slice-write-buffer c = search needs
-
--- src/lib.rt:32:22
-sub-t10 : tie.Need-sub-t10
-sub-t10 c = search needs
-
--- src/lib.rt:32:22
-add-t11 : tie.Need-add-t11
-add-t11 c = search needs
-
--- src/lib.rt:20:1
-same-length-2 : tie.Need-same-length-2
-same-length-2 c = search needs
-
--- src/lib.rt:20:1
 returns-3 : tie.Need-returns-3
-returns-3 c = ?
+unfolding spliceAnswer
+returns-3 c =
+    let s = c .before .before .before in
+    let a = s .before .before .before .before .before .args in
+    let t = not-false _ (c .if2 .left) in
+    let fit = told-fitting (a .buffer .now) (a .n) (a .from) (a .old) (a .new .now) (sym (s .splice .ensures .0) ∙ t) in
+    (rw (le-ltb _ _ (s .before .before .if1 .left), le-ltb _ _ (fit .room)), rw (s .splice .ensures .1, t) (set-spliced _ _ _ _ _ fit _ _ (omega arith)))
 
 pub splice-in-spec : {M : Type 1} → statement M
 splice-in-spec =
     tie.close
     (tie.spec
-    sub-length
-    sub-length-2
-    add-length
+    (λ c. search needs)
+    (λ c. search needs)
+    (λ c. search needs)
     returns
-    splice-requires
-    same-length
+    (λ c κs. search needs)
+    (λ c. search needs)
     returns-2
-    cast-buffer
-    sub-buffer
-    slice-write-buffer
-    sub-t10
-    add-t11
-    same-length-2
+    (λ c. search needs)
+    (λ c. search needs)
+    (λ c. search needs)
+    (λ c. search needs)
+    (λ c. search needs)
+    (λ c. search needs)
     returns-3)
