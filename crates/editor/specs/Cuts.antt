@@ -15,13 +15,13 @@ use Rattle.annex.specs.Editing.{Edit, newHeader, editingOf}
 use Rattle.annex.specs.Editing.Edit.{Replacing, Appending, Removing}
 use Rattle.annex.specs.declared.Answer.the-variants.{Accepted}
 use Rattle.annex.specs.declared.Found.the-variants.{At}
-use Rattle.laws.specs.Finding.{commonPlain, common-plain}
+use Rattle.laws.specs.Finding.{common-plain}
 use Rattle.theorems.specs.Lists.{every-take}
 use Rattle.theorems.specs.Reasons.{EditRight, editedIn, edit-passed, edit-answer}
 use Rattle.theorems.specs.Edits.{OfOctets}
 use Rattle.theorems.specs.Splices.{Stands, Spliced, message-splices}
 use Rattle.editor.specs.Whole.{wholeSearch, whole-stands}
-use Rattle.editor.specs.Steps.{ownAnswer, roomAnswer, Held, data-held, data-part, own-steps}
+use Rattle.editor.specs.Steps.{ownAnswer, roomAnswer, Held, Data, data-held, data-part, own-steps}
 use Rattle.editor.specs.Splicing.{Cut}
 
 -- every step but the last is accepted; the transfer data was found from s to before t
@@ -42,23 +42,25 @@ stretch before front old back after l s k p q =
     let whole : before ++ (transfer-data ∷ l ∷ (front ++ (old ++ (back ++ after)))) ≡ five ++ (t ++ after) = simp append-assoc in
     rw (whole, drop-at five (t ++ after) s long) (take-at t after k (sym q))
 
-pub ready : (e : Edit) (d : List ℕ) (n s t j : ℕ) → Held d n → commonPlain transfer-data (take n d) ≡ At s t → ownAnswer e (take (t - s) (drop s d)) ≡ Accepted j → OfOctets e → Ready e d n s t
-ready e d n s t j h f a o =
+pub ready : (e : Edit) (d : List ℕ) (n s t j : ℕ) → Data d n s t → ownAnswer e (take (t - s) (drop s d)) ≡ Accepted j → OfOctets e → Ready e d n s t
+ready e d n s t j w a o =
+    let h = w .message in
+    let f = w .found in
     let m = take n d in
     let right : EditRight e (itemsIn (recordOf m)) = edit-passed e (itemsIn (recordOf m)) j (own-steps d n h s t f e ∙ a) in
     let has-data : among transfer-data (headersOf (recordOf m)) ≡ true = sym (data-held d n h) ∙ rw f in
-    let w : Spliced e m (editedIn e d n) = message-splices e m (h .given) (every-take isOctet n d (h .octets)) (h .message) has-data right o in
-    let l = length (w .front ++ (w .old ++ w .back)) in
-    let g : At (length (w .before) + 2) (length (w .before) + 2 + l) ≡ At s t = sym (w .found) ∙ common-plain transfer-data m (h .given) (h .message) ∙ f in
-    let p : s ≡ length (w .before) + 2 = cc in
-    let q : t ≡ length (w .before) + 2 + l = cc in
+    let y : Spliced e m (editedIn e d n) = message-splices e m (h .given) (every-take isOctet n d (h .octets)) (h .message) has-data right o in
+    let l = length (y .front ++ (y .old ++ y .back)) in
+    let g : At (length (y .before) + 2) (length (y .before) + 2 + l) ≡ At s t = sym (y .found) ∙ common-plain transfer-data m (h .given) (h .message) ∙ f in
+    let p : s ≡ length (y .before) + 2 = cc in
+    let q : t ≡ length (y .before) + 2 + l = cc in
     let k : t - s ≡ l = omega arith in
     record {
       held = h;
-      splice = w;
+      splice = y;
       start-is = p;
       end-is = q;
-      part-is = sym (data-part d n h s t f) ∙ ap (λ (x : List ℕ). take (t - s) (drop s x)) (w .was) ∙ stretch (w .before) (w .front) (w .old) (w .back) (w .after) l s (t - s) p k;
+      part-is = sym (data-part d n h s t f) ∙ ap (λ (x : List ℕ). take (t - s) (drop s x)) (y .was) ∙ stretch (y .before) (y .front) (y .old) (y .back) (y .after) l s (t - s) p k;
       room = edit-answer e d n (h .given) (h .within) (h .message) has-data right;
     }
 
@@ -66,7 +68,7 @@ ready e d n s t j h f a o =
 
 module _ {e : Edit} {d : List ℕ} {n s t : ℕ} (r : Ready e d n s t) where
   -- the parameter that was found is taken out
-  taken : (x from to : ℕ) (new : List ℕ) → Stands x (take n d) (r .splice .front ++ (r .splice .old ++ r .splice .back)) (length (r .splice .before) + 2) (length (r .splice .front)) (r .splice .old) → wholeSearch x (take (t - s) (drop s d)) ≡ At from to → new ≡ r .splice .new → Cut e d n s t (s + from) (to - from) new
+  taken : (x from to : ℕ) (new : List ℕ) → Stands x (take n d) (r .splice .front ++ (r .splice .old ++ r .splice .back)) (length (r .splice .before) + 2) (length (r .splice .front)) (r .splice .old) → wholeSearch x (take (t - s) (drop s d)) ≡ At from to → new ≡ r .splice .new → Cut e d n s t (s + from) (s + to) new
   taken x from to new w f y =
       let l = length (r .splice .front) in
       let g : At l (l + length (r .splice .old)) ≡ At from to = sym (whole-stands x (take n d) _ _ l (r .splice .old) _ (r .splice .sound) w) ∙ rw (← r .part-is) f in
@@ -78,18 +80,19 @@ module _ {e : Edit} {d : List ℕ} {n s t : ℕ} (r : Ready e d n s t) where
         start-is = r .start-is;
         end-is = r .end-is;
         from-is = omega (arith, r .start-is);
-        old-is = omega arith;
+        to-is = omega (arith, r .start-is);
         new-is = y;
+        room = r .room;
       }
 
-pub cut-replacing : (new d : List ℕ) (n s t from to : ℕ) → Ready (Replacing new) d n s t → wholeSearch (nameOf (newHeader new)) (take (t - s) (drop s d)) ≡ At from to → Cut (Replacing new) d n s t (s + from) (to - from) new
+pub cut-replacing : (new d : List ℕ) (n s t from to : ℕ) → Ready (Replacing new) d n s t → wholeSearch (nameOf (newHeader new)) (take (t - s) (drop s d)) ≡ At from to → Cut (Replacing new) d n s t (s + from) (s + to) new
 cut-replacing new d n s t from to r f = taken r (nameOf (newHeader new)) from to new (r .splice .told .1) f (sym (r .splice .told .0))
 
-pub cut-removing : (x : ℕ) (d : List ℕ) (n s t from to : ℕ) → Ready (Removing x) d n s t → wholeSearch x (take (t - s) (drop s d)) ≡ At from to → Cut (Removing x) d n s t (s + from) (to - from) []
+pub cut-removing : (x : ℕ) (d : List ℕ) (n s t from to : ℕ) → Ready (Removing x) d n s t → wholeSearch x (take (t - s) (drop s d)) ≡ At from to → Cut (Removing x) d n s t (s + from) (s + to) []
 cut-removing x d n s t from to r f = taken r x from to [] (r .splice .told .1) f (sym (r .splice .told .0))
 
 -- the new parameter stands last
-pub cut-appending : (new d : List ℕ) (n s t : ℕ) → Ready (Appending new) d n s t → Cut (Appending new) d n s t t 0 new
+pub cut-appending : (new d : List ℕ) (n s t : ℕ) → Ready (Appending new) d n s t → Cut (Appending new) d n s t t t new
 cut-appending new d n s t r =
     let w = r .splice in
     let o = ap length (w .told .1) in
@@ -101,6 +104,7 @@ cut-appending new d n s t r =
       start-is = r .start-is;
       end-is = r .end-is;
       from-is = omega (arith, r .end-is);
-      old-is = sym o;
+      to-is = omega (arith, r .end-is);
       new-is = sym (w .told .0);
+      room = r .room;
     }

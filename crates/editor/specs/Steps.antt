@@ -3,11 +3,11 @@ use Prim.Native.Nat.{ℕ, _-_, _≤_}
 use native.Mathlib.Omega.{arith}
 use mathlib.Core.Path.{_≡_, refl, sym, ap, _∙_}
 use mathlib.Core.Bool.{Bool, true, false, not}
-use mathlib.Core.List.{List}
-use lib.Dec.{ltb, leb}
+use mathlib.Core.List.{List, _∷_}
+use lib.Dec.{eqb, ltb}
 use lib.ListN.{length, take, drop}
 use lib.Seq.{take-take, length-take-le}
-use borrow.Author.Tests.{ltb-false}
+use borrow.Author.Tests.{ltb-false, eqb-false}
 use Rattle.annex.specs.Answers.{repeated-name, transfer-over, no-room, absent, refuse, andThen}
 use Rattle.annex.specs.Units.{nameOf}
 use Rattle.annex.specs.Heads.{among, transfer-data, most-transfer-octets, oftenOf}
@@ -22,7 +22,7 @@ use Rattle.annex.specs.declared.Answer.{Answer}
 use Rattle.annex.specs.declared.Answer.the-variants.{Accepted, Refused}
 use Rattle.annex.specs.declared.Found.{Found}
 use Rattle.annex.specs.declared.Found.the-variants.{At, Nowhere}
-use Rattle.laws.specs.Parts.{from-to}
+use Rattle.laws.specs.Parts.{to-end, from-to}
 use Rattle.laws.specs.Steps.{passed}
 use Rattle.laws.specs.Finding.{moved, transferSearch, commonPlain, common-inside, common-plain, transfer-plain}
 use Rattle.theorems.specs.Lists.{every-take}
@@ -100,7 +100,7 @@ pub record Held (d : List ℕ) (n : ℕ) : Type 0 where
   pub given : ℕ
   pub message : verdictOf (take n d) ≡ Accepted given
 
-pub held : (d : List ℕ) (n j : ℕ) → every isOctet d ≡ true → messageAnswer d n ≡ Accepted j → Held d n
+held : (d : List ℕ) (n j : ℕ) → every isOctet d ≡ true → messageAnswer d n ≡ Accepted j → Held d n
 held d n j o a =
     let p = passed (ltb (length d) n) no-room 0 j (verdictOf (take n d)) a in
     record { octets = o; within = ltb-false (length d) n (p .0); given = j; message = p .1 }
@@ -161,8 +161,52 @@ steps-edit e d n o =
     go (Accepted j) f = record-steps d n (held d n j o f) e
     go (Refused k p) f = refl
 
--- a refusal of the steps keeps the promise with the buffer unchanged
-pub steps-refused : (e : Edit) (d : List ℕ) (n k p : ℕ) → every isOctet d ≡ true → stepsAnswer e d n ≡ Refused k p → EditPromise e d n (Refused k p) d
-steps-refused e d n k p o a =
-    let r = steps-edit e d n o ∙ a in
-    (sym r, sym (buffer-refused e d n k p r))
+-- ---- what each step leaves
+
+-- a refusal keeps the promise with the buffer unchanged
+refused : (e : Edit) (d : List ℕ) (n : ℕ) (r : Answer) (k p : ℕ) → every isOctet d ≡ true → r ≡ Refused k p → stepsAnswer e d n ≡ r → EditPromise e d n r d
+refused e d n r k p o q a =
+    let s = steps-edit e d n o ∙ a in
+    (sym s, sym (buffer-refused e d n k p (s ∙ q)))
+
+pub message-refused : (e : Edit) (d : List ℕ) (n : ℕ) (r : Answer) (k p : ℕ) → every isOctet d ≡ true → r ≡ messageAnswer d n → r ≡ Refused k p → EditPromise e d n r d
+message-refused e d n r k p o m q = refused e d n r k p o q (rw (← m, q))
+
+pub message-within : (d : List ℕ) (n j : ℕ) → messageAnswer d n ≡ Accepted j → n ≤ length d
+message-within d n j m = ltb-false (length d) n (passed (ltb (length d) n) no-room 0 j (verdictOf (take n d)) m .0)
+
+pub data-refused : (e : Edit) (d : List ℕ) (n j : ℕ) → every isOctet d ≡ true → messageAnswer d n ≡ Accepted j → commonPlain transfer-data (take n d) ≡ Nowhere → EditPromise e d n (Refused absent 0) d
+data-refused e d n j o m f = refused e d n (Refused absent 0) absent 0 o refl (rw (m, f))
+
+-- the message is accepted, and its transfer data stands from s to before t
+pub record Data (d : List ℕ) (n s t : ℕ) : Type 0 where
+  pub message : Held d n
+  pub found : commonPlain transfer-data (take n d) ≡ At s t
+  pub order : s ≤ t
+  pub inside : t ≤ n
+  pub steps : (e : Edit) → stepsAnswer e d n ≡ andThen (ownAnswer e (take (t - s) (drop s d))) (λ _. roomAnswer e d n)
+
+pub data-taken : (d : List ℕ) (n j s t : ℕ) → every isOctet d ≡ true → messageAnswer d n ≡ Accepted j → commonPlain transfer-data (take n d) ≡ At s t → Data d n s t
+data-taken d n j s t o m f =
+    let h = held d n j o m in
+    let i = data-inside d n h s t f in
+    record { message = h; found = f; order = i .0; inside = i .1; steps = λ e. rw (m, f) }
+
+pub own-refused : (e : Edit) (d : List ℕ) (n s t : ℕ) (r : Answer) (k p : ℕ) → Data d n s t → r ≡ Refused k p → ownAnswer e (take (t - s) (drop s d)) ≡ r → EditPromise e d n r d
+own-refused e d n s t r k p w q a = refused e d n r k p (w .message .octets) q (w .steps e ∙ rw (a, q))
+
+-- a new parameter whose header is accepted has one
+module _ (new : List ℕ) (j : ℕ) (h : headAnswer new ≡ Accepted j) where
+  pub head-some : 1 ≤ length new
+  head-some = omega (arith, eqb-false (length new) 0 (passed (eqb (length new) 0) _ 0 j _ h .0))
+
+  -- with its name found, or free, its contents decide
+  pub replacing-left : (t : List ℕ) (a b : ℕ) → wholeSearch (nameOf (newHeader new)) t ≡ At a b → ownAnswer (Replacing new) t ≡ newContents new
+  replacing-left t a b f = rw (h, f)
+
+  pub appending-left : (t : List ℕ) → wholeSearch (nameOf (newHeader new)) t ≡ Nowhere → ownAnswer (Appending new) t ≡ newContents new
+  appending-left t f = rw (h, f)
+
+-- they are told of the header and the part behind it
+pub contents-part : (new : List ℕ) → newContents (newHeader new ∷ take (length new - 1) (drop 1 new)) ≡ newContents new
+contents-part new = ap (λ (xs : List ℕ). newContents (newHeader new ∷ xs)) (to-end 1 new)

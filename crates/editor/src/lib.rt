@@ -15,12 +15,13 @@ ghost use Rattle.annex.specs.Editing.Edit.{Replacing, Appending, Removing};
 ghost use Rattle.annex.specs.Promises.{EditPromise};
 ghost use Rattle.editor.specs.Splicing.{Placed, SplicePromise};
 
-// The last step: 14, then 15, or new in the place of the old octets from index from on. The transfer data stands from index start to before
-// end, C5's length octet right before it.
-fn splice_in(buffer: &mut [u8], n: usize, start: usize, end: usize, from: usize, old: usize, new: &[u8]) -> Answer
-    requires { ⌜ Placed (now buffer) n start end from old ⌝ }
-    ensures { λ r. ⌜ SplicePromise (now (buffer .entry)) n start end from old (now (new .entry)) r (now (buffer .exit)) ⌝ }
+// The last step: 14, then 15, or new in the place of the octets from index from to before to. They lie in the transfer data, which stands
+// from index start to before end, C5's length octet right before it.
+fn splice_in(buffer: &mut [u8], n: usize, start: usize, end: usize, from: usize, to: usize, new: &[u8]) -> Answer
+    requires { ⌜ Placed (now buffer) n start end from to ⌝ }
+    ensures { λ r. ⌜ SplicePromise (now (buffer .entry)) n start end from to (now (new .entry)) r (now (buffer .exit)) ⌝ }
 {
+    let old = to - from;
     let length = end - start - old + new.len();
     if Transfer::MOST_OCTETS < length {
         return Answer::Refused(Answer::TRANSFER_OVER, 0);
@@ -55,7 +56,7 @@ pub fn replace(buffer: &mut [u8], n: usize, new: &[u8]) -> Answer
     let Answer::Accepted(_) = contents else {
         return contents;
     };
-    splice_in(buffer, n, start, end, start + from, to - from, new)
+    splice_in(buffer, n, start, end, start + from, start + to, new)
 }
 
 // Puts a transfer parameter behind the others in C5.
@@ -81,7 +82,7 @@ pub fn append(buffer: &mut [u8], n: usize, new: &[u8]) -> Answer
     let Answer::Accepted(_) = contents else {
         return contents;
     };
-    splice_in(buffer, n, start, end, end, 0, new)
+    splice_in(buffer, n, start, end, end, end, new)
 }
 
 // Removes the transfer parameter of this name.
@@ -98,5 +99,5 @@ pub fn remove(buffer: &mut [u8], n: usize, name: u8) -> Answer
     let Found::At(from, to) = whole_search(&buffer[start..end], name) else {
         return Answer::Refused(Answer::ABSENT, 0);
     };
-    splice_in(buffer, n, start, end, start + from, to - from, b"")
+    splice_in(buffer, n, start, end, start + from, start + to, b"")
 }

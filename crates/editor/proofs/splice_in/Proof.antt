@@ -1,11 +1,10 @@
 -- `splice_in` meets its contract: its test is 14, the splice refuses for want of room alone, and the octet stored is C5's length octet.
-use native.Mathlib.Omega.{arith}
-use mathlib.Core.Path.{_≡_, refl, sym, _∙_}
-use mathlib.Core.Bool.{true, false}
+use Prim.Native.Nat.{_-_}
+use mathlib.Core.Path.{refl, sym, _∙_}
 use borrow.Author.Needs.{needs}
 use borrow.Author.Tests.{lt-ltb, le-ltb, not-true, not-false}
-use Rattle.octets.specs.Splice.{spliceFits, Fitting, told-fitting, set-spliced}
-use Rattle.editor.specs.Splicing.{spliceAnswer, no-room-left}
+use Rattle.octets.specs.Splice.{told-fitting}
+use Rattle.editor.specs.Splicing.{spliceAnswer, no-room-left, length-stored}
 use Rattle.editor.proofs.splice_in.Statement.{statement}
 use Rattle.editor.proofs.splice_in.Tie as tie
 
@@ -17,24 +16,25 @@ returns-2 : tie.Need-returns-2
 unfolding spliceAnswer
 returns-2 c =
     let s = c .before .before .before in
-    let a = s .before .before .before .before .before .args in
+    let a = s .before .before .before .before .before in
     let f = not-true _ (c .if2 .taken) in
-    let l = no-room-left _ _ _ _ _ _ (a .new .now) (s .before .before .before .before .before .pre) (sym (s .splice .ensures .0) ∙ f) in
+    let l = no-room-left _ _ _ _ _ _ (a .args .new .now) (a .pre) (sym (s .splice .ensures .0) ∙ f) in
     (rw (le-ltb _ _ (s .before .before .if1 .left), lt-ltb _ _ l), s .splice .ensures .1 ∙ rw f)
 
 returns-3 : tie.Need-returns-3
 unfolding spliceAnswer
 returns-3 c =
     let s = c .before .before .before in
-    let a = s .before .before .before .before .before .args in
+    let a = s .before .before .before .before .before in
     let t = not-false _ (c .if2 .left) in
-    let fit = told-fitting (a .buffer .now) (a .n) (a .from) (a .old) (a .new .now) (sym (s .splice .ensures .0) ∙ t) in
-    (rw (le-ltb _ _ (s .before .before .if1 .left), le-ltb _ _ (fit .room)), rw (s .splice .ensures .1, t) (set-spliced _ _ _ _ _ fit _ _ (omega arith)))
+    let fit = told-fitting (a .args .buffer .now) (a .args .n) (a .args .from) (a .args .to - a .args .from) (a .args .new .now) (sym (s .splice .ensures .0) ∙ t) in
+    (rw (le-ltb _ _ (s .before .before .if1 .left), le-ltb _ _ (fit .room)), rw (s .splice .ensures .1, t) (length-stored _ _ _ _ _ _ _ (a .pre) fit))
 
 pub splice-in-spec : {M : Type 1} → statement M
 splice-in-spec =
     tie.close
     (tie.spec
+    (λ c. search needs)
     (λ c. search needs)
     (λ c. search needs)
     (λ c. search needs)
