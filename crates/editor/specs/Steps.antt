@@ -195,6 +195,10 @@ data-taken d n j s t o m f =
 pub own-refused : (e : Edit) (d : List ℕ) (n s t : ℕ) (r : Answer) (k p : ℕ) → Data d n s t → r ≡ Refused k p → ownAnswer e (take (t - s) (drop s d)) ≡ r → EditPromise e d n r d
 own-refused e d n s t r k p w q a = refused e d n r k p (w .message .octets) q (w .steps e ∙ rw (a, q))
 
+-- a removal is refused for nothing else once its name is found
+pub removing-left : (x : ℕ) (t : List ℕ) (a b : ℕ) → wholeSearch x t ≡ At a b → ownAnswer (Removing x) t ≡ Accepted 0
+removing-left x t a b f = rw f
+
 -- a new parameter whose header is accepted has one
 module _ (new : List ℕ) (j : ℕ) (h : headAnswer new ≡ Accepted j) where
   pub head-some : 1 ≤ length new

@@ -1,197 +1,168 @@
+-- `append` meets its contract: its steps are those of the definition, and the end of the transfer data is where the edit puts the new octets.
+use Prim.Native.Nat.{ℕ, _-_, _≤_}
+use native.Mathlib.Omega.{arith}
+use mathlib.Core.Path.{_≡_, refl, sym, _∙_}
+use mathlib.Core.Bool.{true}
+use mathlib.Core.List.{List}
+use denote.Ref.{now}
 use borrow.Author.Needs.{needs}
+use lib.ListN.{length, take, drop}
+use lib.Seq.{length-take-le}
+use Rattle.annex.specs.Allowed.{every, isOctet}
+use Rattle.annex.specs.Editing.Edit.{Appending}
+use Rattle.reader.proofs.Octets.{octets-every}
+use Rattle.editor.specs.Steps.{
+  ownAnswer,
+  message-within,
+  message-refused,
+  data-refused,
+  Data,
+  data-taken,
+  own-refused,
+  head-some,
+  appending-left,
+  contents-part,
+}
+use Rattle.editor.specs.Splicing.{Cut, cut-placed, cut-edits}
+use Rattle.editor.specs.Cuts.{ready, cut-appending}
 use Rattle.editor.proofs.append.Statement.{statement}
 use Rattle.editor.proofs.append.Tie as tie
-use Rattle.editor.proofs.append.Reads as reads
-use Rattle.editor.proofs.append.Lts as lts
-use Rattle.editor.proofs.splice_in.Reads as splice-in-reads
-use Rattle.editor.proofs.steps.message_in.Reads as message-in-reads
-use Rattle.editor.proofs.steps.new_contents.Reads as new-contents-reads
-use Rattle.editor.proofs.steps.new_head.Reads as new-head-reads
-use Rattle.editor.proofs.steps.whole_search.Reads as whole-search-reads
-use Rattle.reader.proofs.finding.common_plain.Reads as common-plain-reads
 
--- src/lib.rt:66:9
-message-in-requires : tie.Need-message-in-requires
-message-in-requires c κs = search needs
+-- ---- the message and its transfer data
 
-enum-told : tie.Need-enum-told
-enum-told c = search needs
+octets : (c : tie.After-message-in) → every isOctet (now (c .before .before .before .before .args .buffer)) ≡ true
+octets c =
+    octets-every (now (c .before .before .before .before .args .buffer)) (λ i. omega (arith, c .before .before .before .slice-known .given i))
 
--- src/lib.rt:68:9
-enum-told-2 : tie.Need-enum-told-2
-enum-told-2 c = search needs
-
--- src/lib.rt:68:9
-same-length : tie.Need-same-length
-same-length c = search needs
-
--- src/lib.rt:68:9
 returns : tie.Need-returns
-returns c = ?
+returns c =
+    let m = c .before .before in
+    message-refused _ _ _ _ _ _ (octets m) (m .message-in .ensures) (c .enum-told2 .given .1)
 
--- src/lib.rt:70:46
-slice-reshare-prefix-common-plain : tie.Need-slice-reshare-prefix-common-plain
-slice-reshare-prefix-common-plain c = ?
+within : tie.Need-slice-reshare-prefix-common-plain
+within c =
+    let m = c .before .before in
+    message-within (now (m .before .before .before .before .args .buffer)) _ _ (sym (m .message-in .ensures) ∙ c .enum-told .given .1)
 
--- src/lib.rt:70:46
-slice-aggregate-common-plain : tie.Need-slice-aggregate-common-plain
-slice-aggregate-common-plain c = ?
-
--- src/lib.rt:70:33
-common-plain-requires : tie.Need-common-plain-requires
-common-plain-requires c κs = search needs
-
--- src/lib.rt:70:19
-enum-known-start : tie.Need-enum-known-start
-enum-known-start c = search needs
-
--- src/lib.rt:71:9
-enum-told-3 : tie.Need-enum-told-3
-enum-told-3 c = search needs
-
--- src/lib.rt:71:9
-same-length-2 : tie.Need-same-length-2
-same-length-2 c = search needs
-
--- src/lib.rt:71:9
 returns-2 : tie.Need-returns-2
-returns-2 c = ?
+returns-2 c =
+    let d = c .before .before in
+    let a = d .before .before in
+    let m = a .before .before in
+    data-refused _ _ _ _ (octets m) (sym (m .message-in .ensures) ∙ a .enum-told .given .1) (sym (d .common-plain .ensures) ∙ c .enum-told3 .given .1)
 
--- src/lib.rt:73:9
-new-head-requires : tie.Need-new-head-requires
-new-head-requires c κs = search needs
+abbrev at-start : tie.After-known-told → tie.Start
+at-start c = c .before .before .before .before .before .before .before .before .before .before .before
 
-enum-told-4 : tie.Need-enum-told-4
-enum-told-4 c = search needs
+found : (c : tie.After-known-told) → Data (now (at-start c .args .buffer)) (at-start c .args .n) (c .before .start .given .0 .0) (c .before .start .given .0 .1 .0)
+found c =
+    let d = c .before .before .before in
+    let a = d .before .before in
+    let m = a .before .before in
+    data-taken _ _ _ _ _ (octets m) (sym (m .message-in .ensures) ∙ a .enum-told .given .1) (sym (d .common-plain .ensures) ∙ c .before .start .given .1)
 
--- src/lib.rt:75:9
-enum-told-5 : tie.Need-enum-told-5
-enum-told-5 c = search needs
+-- the octets of the transfer data
+abbrev part : (c : tie.After-known-told) → List ℕ
+part c =
+    let s = c .before .start .given .0 in
+    take (s .1 .0 - s .0) (drop (s .0) (now (at-start c .args .buffer)))
 
--- src/lib.rt:75:9
-same-length-3 : tie.Need-same-length-3
-same-length-3 c = search needs
+-- ---- the new parameter's header
 
--- src/lib.rt:75:9
 returns-3 : tie.Need-returns-3
-returns-3 c = ?
+returns-3 c =
+    let h = c .before .before in
+    own-refused (Appending _) _ _ _ _ _ _ _ (found (h .before)) (c .enum-told5 .given .1) (rw (← h .new-head .ensures, c .enum-told5 .given .1))
 
--- src/lib.rt:77:18
-shared-slice-read-header : tie.Need-shared-slice-read-header
-shared-slice-read-header c = ?
+some : (c : tie.After-enum-told4) → 1 ≤ length (now (at-start (c .before .before .before) .args .new))
+some c =
+    let h = c .before .before in
+    head-some (now (at-start (h .before) .args .new)) _ (sym (h .new-head .ensures) ∙ c .enum-told4 .given .1)
 
--- src/lib.rt:78:39
-sub-whole-search : tie.Need-sub-whole-search
-sub-whole-search c = ?
+-- ---- its name
 
--- src/lib.rt:78:39
-part-whole-search-start : tie.Need-part-whole-search-start
-part-whole-search-start c = ?
-
--- src/lib.rt:78:39
-part-whole-search-end : tie.Need-part-whole-search-end
-part-whole-search-end c = ?
-
--- src/lib.rt:78:26
-whole-search-requires : tie.Need-whole-search-requires
-whole-search-requires c κs = search needs
-
-enum-told-6 : tie.Need-enum-told-6
-enum-told-6 c = search needs
-
--- src/lib.rt:79:9
-enum-told-7 : tie.Need-enum-told-7
-enum-told-7 c = search needs
-
--- src/lib.rt:79:9
-same-length-4 : tie.Need-same-length-4
-same-length-4 c = search needs
-
--- src/lib.rt:79:9
 returns-4 : tie.Need-returns-4
-returns-4 c = ?
+returns-4 c =
+    let w = c .before .before in
+    let a = w .before .before .before .before in
+    let h = a .before .before in
+    own-refused (Appending _) _ _ _ _ _ _ _ (found (h .before)) refl (rw (← h .new-head .ensures, a .enum-told4 .given .1, ← w .whole-search .ensures, c .enum-told7 .given .1))
 
--- src/lib.rt:81:41
-sub-new-contents : tie.Need-sub-new-contents
-sub-new-contents c = ?
+-- ---- its contents
 
--- src/lib.rt:81:41
-part-new-contents-start : tie.Need-part-new-contents-start
-part-new-contents-start c = ?
+abbrev at-data : tie.After-new-contents → tie.After-known-told
+at-data c = c .before .before .before .before .before .before .before .before .before .before .before
 
--- src/lib.rt:81:41
-part-new-contents-end : tie.Need-part-new-contents-end
-part-new-contents-end c = search needs
+left : (c : tie.After-new-contents) → ownAnswer (Appending (now (at-start (at-data c) .args .new))) (part (at-data c)) ≡ c .new-contents .result
+left c =
+    let f = c .before .before in
+    let w = f .before .before in
+    let a = w .before .before .before .before in
+    let new = now (at-start (at-data c) .args .new) in
+    appending-left new _ (sym (a .before .before .new-head .ensures) ∙ a .enum-told4 .given .1) (part (at-data c)) (sym (w .whole-search .ensures) ∙ f .enum-told6 .given .1)
+    ∙ sym (c .new-contents .ensures ∙ contents-part new)
 
--- src/lib.rt:81:9
-new-contents-requires : tie.Need-new-contents-requires
-new-contents-requires c κs = search needs
-
-enum-told-8 : tie.Need-enum-told-8
-enum-told-8 c = search needs
-
--- src/lib.rt:83:9
-enum-told-9 : tie.Need-enum-told-9
-enum-told-9 c = search needs
-
--- src/lib.rt:83:9
-same-length-5 : tie.Need-same-length-5
-same-length-5 c = search needs
-
--- src/lib.rt:83:9
 returns-5 : tie.Need-returns-5
-returns-5 c = ?
+returns-5 c =
+    let n = c .before .before in
+    own-refused (Appending _) _ _ _ _ _ _ _ (found (at-data n)) (c .enum-told9 .given .1) (left n)
 
--- src/lib.rt:85:5
-splice-in-requires : tie.Need-splice-in-requires
-splice-in-requires c κs = ?
+-- ---- the last step
 
--- src/lib.rt:63:1
-same-length-6 : tie.Need-same-length-6
-same-length-6 c = search needs
+cut : (c : tie.After-enum-told8) →
+    let d = at-data (c .before .before) in
+    let s = d .before .start .given .0 in
+    let a = at-start d .args in
+    Cut (Appending (now (a .new))) (now (a .buffer)) (a .n) (s .0) (s .1 .0) (s .1 .0) (s .1 .0) (now (a .new))
+cut c =
+    let n = c .before .before in
+    let k = at-data n .before .before .before .before .before .before .before .before .before in
+    let o = octets-every (now (k .before .before .args .new)) (λ i. omega (arith, k .shared-slice-known .given i)) in
+    cut-appending _ _ _ _ _ (ready (Appending _) _ _ _ _ _ (found (at-data n)) (left n ∙ c .enum-told8 .given .1) o)
 
--- src/lib.rt:63:1
 returns-6 : tie.Need-returns-6
-returns-6 c = ?
+returns-6 c =
+    let s = c .before .before in
+    cut-edits (cut (s .before .before)) _ _ (s .splice-in .ensures)
 
 pub append-spec : {M : Type 1} → statement M
 append-spec =
     tie.close
     (tie.spec
-    message-in-requires
-    enum-told
-    enum-told-2
-    same-length
+    (λ c κs. search needs)
+    (λ c. search needs)
+    (λ c. search needs)
+    (λ c. search needs)
     returns
-    slice-reshare-prefix-common-plain
-    slice-aggregate-common-plain
-    common-plain-requires
-    enum-known-start
-    enum-told-3
-    same-length-2
+    within
+    (λ c. sym (length-take-le _ _ (within (c .before))))
+    (λ c κs. search needs)
+    (λ c. search needs)
+    (λ c. search needs)
+    (λ c. search needs)
     returns-2
-    new-head-requires
-    enum-told-4
-    enum-told-5
-    same-length-3
+    (λ c κs. search needs)
+    (λ c. search needs)
+    (λ c. search needs)
+    (λ c. search needs)
     returns-3
-    shared-slice-read-header
-    sub-whole-search
-    part-whole-search-start
-    part-whole-search-end
-    whole-search-requires
-    enum-told-6
-    enum-told-7
-    same-length-4
+    (λ c. some (c .before))
+    (λ c. found (c .before .before .before .before) .order)
+    (λ c. found (c .before .before .before .before .before) .order)
+    (λ c. let d = found (c .before .before .before .before .before) in let l = d .message .within in omega (arith, d .inside))
+    (λ c κs. search needs)
+    (λ c. search needs)
+    (λ c. search needs)
+    (λ c. search needs)
     returns-4
-    sub-new-contents
-    part-new-contents-start
-    part-new-contents-end
-    new-contents-requires
-    enum-told-8
-    enum-told-9
-    same-length-5
+    (λ c. some (c .before .before .before .before .before .before))
+    (λ c. some (c .before .before .before .before .before .before))
+    (λ c. search needs)
+    (λ c κs. search needs)
+    (λ c. search needs)
+    (λ c. search needs)
+    (λ c. search needs)
     returns-5
-    splice-in-requires
-    same-length-6
+    (λ c κs. cut-placed (cut (c .before)))
+    (λ c. search needs)
     returns-6)
