@@ -9,7 +9,7 @@ use lib.ListN.{length, take, drop, length-append}
 use lib.Seq.{take-at, drop-at}
 use Rattle.annex.specs.Units.{nameOf}
 use Rattle.annex.specs.Heads.{among, transfer-data}
-use Rattle.annex.specs.Allowed.{every, isOctet, headersOf, itemsIn}
+use Rattle.annex.specs.Allowed.{isOctet, headersOf, itemsIn}
 use Rattle.annex.specs.Reading.{recordOf}
 use Rattle.annex.specs.Editing.{Edit, newHeader, editingOf}
 use Rattle.annex.specs.Editing.Edit.{Replacing, Appending, Removing}

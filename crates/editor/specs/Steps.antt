@@ -10,12 +10,12 @@ use lib.Seq.{take-take, length-take-le}
 use borrow.Author.Tests.{ltb-false, eqb-false}
 use Rattle.annex.specs.Answers.{repeated-name, transfer-over, no-room, absent, refuse, andThen}
 use Rattle.annex.specs.Units.{nameOf}
-use Rattle.annex.specs.Heads.{among, transfer-data, most-transfer-octets, oftenOf}
+use Rattle.annex.specs.Heads.{among, transfer-data, most-transfer-octets}
 use Rattle.annex.specs.Layout.{layoutItems, layout}
-use Rattle.annex.specs.Allowed.{every, isOctet, timesIn, headersOf, itemsIn, namesOf}
+use Rattle.annex.specs.Allowed.{every, isOctet, headersOf, itemsIn}
 use Rattle.annex.specs.Reading.{verdictOf, recordOf}
 use Rattle.annex.specs.Finding.{foundAnswer, transferFound}
-use Rattle.annex.specs.Editing.{Edit, newHeader, present, newHead, newContents, editRefusal, recordEditing, editingOf}
+use Rattle.annex.specs.Editing.{Edit, newHeader, newHead, newContents, editRefusal, recordEditing, editingOf}
 use Rattle.annex.specs.Editing.Edit.{Replacing, Appending, Removing}
 use Rattle.annex.specs.Promises.{EditPromise}
 use Rattle.annex.specs.declared.Answer.{Answer}

@@ -1,6 +1,7 @@
 // Editing in place: a transfer parameter of the message in a buffer's first n octets is replaced, appended or removed. Each step is
 // accepted before the next one runs, and nothing is written before the last.
 mod steps;
+
 use annex::Answer;
 use annex::Common;
 use annex::Found;
@@ -17,12 +18,21 @@ ghost use Rattle.editor.specs.Splicing.{Placed, SplicePromise};
 
 // The last step: 14, then 15, or new in the place of the octets from index from to before to. They lie in the transfer data, which stands
 // from index start to before end, C5's length octet right before it.
-fn splice_in(buffer: &mut [u8], n: usize, start: usize, end: usize, from: usize, to: usize, new: &[u8]) -> Answer
+fn splice_in(
+    buffer: &mut [u8],
+    n: usize,
+    start: usize,
+    end: usize,
+    from: usize,
+    to: usize,
+    new: &[u8],
+) -> Answer
     requires { ⌜ Placed (now buffer) n start end from to ⌝ }
     ensures { λ r. ⌜ SplicePromise (now (buffer .entry)) n start end from to (now (new .entry)) r (now (buffer .exit)) ⌝ }
 {
     let old = to - from;
-    let length = end - start - old + new.len();
+    let was = end - start;
+    let length = was - old + new.len();
     if Transfer::MOST_OCTETS < length {
         return Answer::Refused(Answer::TRANSFER_OVER, 0);
     }

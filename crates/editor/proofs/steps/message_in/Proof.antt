@@ -1,6 +1,5 @@
 -- `message_in` meets its contract: its test is that of the definition, and what it reads is the first n octets.
 use mathlib.Core.Path.{sym}
-use native.Mathlib.Omega.{arith}
 use borrow.Author.Needs.{needs}
 use borrow.Author.Tests.{lt-ltb, le-ltb}
 use lib.Seq.{length-take-le}

@@ -1,5 +1,5 @@
 -- `new_contents` meets its contract: the length is that of the length rule, and the part handed on is the contents.
-use mathlib.Core.Path.{_≡_, sym, _∙_}
+use mathlib.Core.Path.{_≡_}
 use borrow.Author.Needs.{needs}
 use borrow.Author.Tests.{eq-eqb, ne-eqb}
 use mathlib.Core.List.{_∷_}
