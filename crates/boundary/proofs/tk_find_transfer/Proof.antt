@@ -1,0 +1,12 @@
+-- `tk_find_transfer` meets its contract: the part's length and the answer are those that finding promises.
+use borrow.Author.Needs.{needs}
+use Rattle.boundary.proofs.tk_find_transfer.Statement.{statement}
+use Rattle.boundary.proofs.tk_find_transfer.Tie as tie
+
+returns : tie.Need-returns
+returns c =
+    let a = c .before in
+    rw (← a .find-transfer-answer .ensures, ← a .before .find-transfer .ensures) (c .pack-stretch .ensures)
+
+pub tk-find-transfer-spec : {M : Type 1} → statement M
+tk-find-transfer-spec = tie.close (tie.spec (λ c κs. search needs) (λ c κs. search needs) (λ c κs. search needs) returns)

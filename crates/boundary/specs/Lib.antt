@@ -1,0 +1,2 @@
+-- What the functions for Rust and C promise, over the promises of the functions that they call.
+pub mod Packed

@@ -1,0 +1,109 @@
+// The codec for Rust and C: numbers and lent octets alone. An answer is one number: the refusal's number times 2^32, the place times 2^16, and
+// the value; number 0 where accepted.
+use annex::Answer;
+use annex::Class;
+use annex::ClassAnswer;
+use classes::class_of;
+use editor::append;
+use editor::remove;
+use editor::replace;
+use reader::finding::find_common;
+use reader::finding::find_common_answer;
+use reader::finding::find_transfer;
+use reader::finding::find_transfer_answer;
+ghost use mathlib.Core.Path.{_≡_};
+ghost use Rattle.annex.specs.Answers.{classValueOf};
+ghost use Rattle.annex.specs.Finding.{commonFound, transferFound, findAnswer, findPart};
+ghost use Rattle.annex.specs.Editing.{Edit.Replacing, Edit.Appending, Edit.Removing, editingOf, bufferOf};
+ghost use Rattle.annex.specs.Classes.{classOf};
+ghost use Rattle.boundary.specs.Packed.{packed, packedAnswer, packedLength, packedStretch, packedClass};
+
+fn pack(number: u8, place: usize, value: usize) -> u64
+    ensures { λ r. ⌜ r ≡ packed number place value ⌝ }
+{
+    let upper = number as u64 * 4294967296;
+    let middle = (place % 65536) as u64 * 65536;
+    upper + middle + (value % 65536) as u64
+}
+
+fn pack_stretch(a: Answer, len: usize) -> u64
+    ensures { λ r. ⌜ r ≡ packedLength a len ⌝ }
+{
+    match a {
+        Answer::Accepted(s) => pack(0, s, len),
+        Answer::Refused(k, p) => pack(k, p, 0),
+    }
+}
+
+fn pack_answer(a: Answer) -> u64
+    ensures { λ r. ⌜ r ≡ packedAnswer a ⌝ }
+{
+    match a {
+        Answer::Accepted(n) => pack(0, 0, n),
+        Answer::Refused(k, p) => pack(k, p, 0),
+    }
+}
+
+fn class_value(c: Class) -> usize
+    ensures { λ r. ⌜ r ≡ classValueOf c ⌝ }
+{
+    match c {
+        Class::Named => 0,
+        Class::HeldBack => 1,
+        Class::Spare => 2,
+    }
+}
+
+// The contents of a common parameter: where they start, and how many octets they have.
+#[no_mangle]
+pub extern "C" fn tk_find_common(message: &[u8], header: u8) -> u64
+    ensures { λ r. ⌜ r ≡ packedStretch (findAnswer (now (message .entry)) (commonFound header (now (message .entry)))) (findPart (now (message .entry)) (commonFound header (now (message .entry)))) ⌝ }
+{
+    let part = find_common(message, header);
+    pack_stretch(find_common_answer(message, header), part.len())
+}
+
+// The contents of a transfer parameter.
+#[no_mangle]
+pub extern "C" fn tk_find_transfer(message: &[u8], name: u8) -> u64
+    ensures { λ r. ⌜ r ≡ packedStretch (findAnswer (now (message .entry)) (transferFound name (now (message .entry)))) (findPart (now (message .entry)) (transferFound name (now (message .entry)))) ⌝ }
+{
+    let part = find_transfer(message, name);
+    pack_stretch(find_transfer_answer(message, name), part.len())
+}
+
+// The class of a code value.
+#[no_mangle]
+pub extern "C" fn tk_class(header: u8, octet: u8) -> u64
+    ensures { λ r. ⌜ r ≡ packedClass (classOf header octet) ⌝ }
+{
+    let a = class_of(header, octet);
+    match a {
+        ClassAnswer::Is(c) => pack(0, 0, class_value(c)),
+        ClassAnswer::Refused(k, p) => pack(k, p, 0),
+    }
+}
+
+// The parameter of the new octets in the place of the one with its name, in the message that the buffer's first n octets hold.
+#[no_mangle]
+pub extern "C" fn tk_replace(buffer: &mut [u8], n: usize, new: &[u8]) -> u64
+    ensures { λ r. ⌜ (r ≡ packedAnswer (editingOf (Replacing (now (new .entry))) (now (buffer .entry)) n)) × (now (buffer .exit) ≡ bufferOf (Replacing (now (new .entry))) (now (buffer .entry)) n) ⌝ }
+{
+    pack_answer(replace(buffer, n, new))
+}
+
+// The parameter of the new octets behind the last of C5.
+#[no_mangle]
+pub extern "C" fn tk_append(buffer: &mut [u8], n: usize, new: &[u8]) -> u64
+    ensures { λ r. ⌜ (r ≡ packedAnswer (editingOf (Appending (now (new .entry))) (now (buffer .entry)) n)) × (now (buffer .exit) ≡ bufferOf (Appending (now (new .entry))) (now (buffer .entry)) n) ⌝ }
+{
+    pack_answer(append(buffer, n, new))
+}
+
+// The parameter with this name taken out.
+#[no_mangle]
+pub extern "C" fn tk_remove(buffer: &mut [u8], n: usize, name: u8) -> u64
+    ensures { λ r. ⌜ (r ≡ packedAnswer (editingOf (Removing name) (now (buffer .entry)) n)) × (now (buffer .exit) ≡ bufferOf (Removing name) (now (buffer .entry)) n) ⌝ }
+{
+    pack_answer(remove(buffer, n, name))
+}
