@@ -1,0 +1,183 @@
+-- A record's struct walked along: what it holds from a place of its arrays on.
+use Prim.Native.Nat.{ℕ, suc, _+_, _-_, _≤_, _<_}
+use native.Mathlib.Omega.{arith}
+use mathlib.Core.Path.{_≡_, refl, sym, ap, _∙_}
+use mathlib.Core.Bool.{Bool, true, false, cond}
+use mathlib.Core.List.{List, [], _∷_, _++_, map}
+use lib.Dec.{eqb}
+use lib.ListN.{length, getD, take, drop, length-take, length-map, drop-of-length-le}
+use lib.Seq.{take-suc, drop-cons, drop-drop, take-add, getD-take, length-take-le}
+use Rattle.annex.specs.Heads.{transfer-data, most-transfers}
+use Rattle.annex.specs.Items.{Item, Part}
+use Rattle.annex.specs.Allowed.{ownPart, itemsIn}
+use Rattle.annex.specs.Records.{noCommon, noTransfer, viewItems, lengthsOf, transfersIn, transfersSum, viewParts, commonsIn, view}
+use Rattle.annex.specs.declared.Common.{Common}
+use Rattle.annex.specs.declared.Transfer.{Transfer}
+use Rattle.annex.specs.declared.Record.{Record}
+use Rattle.parameter.specs.Laying.{itemFrom}
+
+-- the common parameter with this head and these transfer parameters; what it does not have is no part of it
+abbrev pub partFrom : Common → List Item → Part
+partFrom c is = ownPart (record { header = c .header; value = c .value; items = is })
+
+-- the heads at a place
+abbrev pub commonAt : Record → ℕ → Common
+commonAt q k = getD (q .common) k noCommon
+
+abbrev pub transferAt : Record → ℕ → Transfer
+transferAt q k = getD (q .transfer) k noTransfer
+
+-- how many values the first k transfer parameters have
+abbrev pub usedAt : Record → ℕ → ℕ
+usedAt q k = lengthsOf (take k (q .transfer))
+
+-- the values of the transfer parameter at the place k, as a part of a slice has them
+abbrev pub ownAt : Record → ℕ → ℕ → List ℕ
+ownAt q k used = take (used + transferAt q k .len - used) (drop used (q .values))
+
+-- the n transfer parameters from the place k on
+abbrev pub itemsAt : Record → ℕ → ℕ → List Item
+itemsAt q k n = viewItems (take n (drop k (q .transfer))) (drop (usedAt q k) (q .values))
+
+-- the common parameters from the place k on, whose transfer parameters start at the place j
+abbrev pub partsAt : Record → ℕ → ℕ → List Part
+partsAt q k j = viewParts (drop k (commonsIn q)) (drop j (q .transfer)) (drop (usedAt q j) (q .values))
+
+-- how many transfer parameters the common parameters from the place k on have
+abbrev pub transfersAt : Record → ℕ → ℕ
+transfersAt q k = transfersSum (drop k (commonsIn q))
+
+-- the first n transfer parameters, and their values, lie within the arrays
+pub record Within (q : Record) (n : ℕ) : Type 0 where
+  pub places : n ≤ most-transfers
+  pub values : usedAt q n ≤ 512
+
+-- an array of structs in a struct: what holds of the struct tells the length of a mapped list
+pub length-mapped : (X Y : Type 0) (g : X → Y) (l : List X) (n : ℕ) → length (map g l) ≡ n → length l ≡ n
+length-mapped X Y g l n p = sym (length-map l g) ∙ p
+
+-- ---- lists of heads
+
+lengths-append : (ts us : List Transfer) → lengthsOf (ts ++ us) ≡ lengthsOf ts + lengthsOf us
+unfolding lengthsOf
+lengths-append [] us = omega arith
+lengths-append (t ∷ ts) us = omega (arith, lengths-append ts us)
+
+lengths-add : (a b : ℕ) (ts : List Transfer) → lengthsOf (take (a + b) ts) ≡ lengthsOf (take a ts) + lengthsOf (take b (drop a ts))
+lengths-add a b ts = rw (take-add a b ts) (lengths-append (take a ts) (take b (drop a ts)))
+
+view-append : (ts us : List Transfer) (vs : List ℕ) → viewItems (ts ++ us) vs ≡ viewItems ts vs ++ viewItems us (drop (lengthsOf ts) vs)
+unfolding viewItems lengthsOf
+view-append [] us vs = refl
+view-append (t ∷ ts) us vs = rw (← drop-drop (lengthsOf ts) (t .len) vs, view-append ts us (drop (t .len) vs))
+
+-- the transfer parameters of all parts
+part-items : (c : Common) (is : List Item) → partFrom c is .items ≡ cond (eqb (c .header) transfer-data) is []
+part-items c is = go (eqb (c .header) transfer-data) refl
+  where
+    go : (b : Bool) → eqb (c .header) transfer-data ≡ b → partFrom c is .items ≡ cond b is []
+    go true e = rw e
+    go false e = rw e
+
+items-in : (cs : List Common) (ts : List Transfer) (vs : List ℕ) → itemsIn (viewParts cs ts vs) ≡ viewItems (take (transfersSum cs) ts) vs
+unfolding viewParts transfersSum viewItems
+items-in [] ts vs = refl
+items-in (c ∷ cs) ts vs =
+    let n = transfersIn c in
+    let rest = items-in cs (drop n ts) (drop (lengthsOf (take n ts)) vs) in
+    rw (take-add n (transfersSum cs) ts, view-append (take n ts) (take (transfersSum cs) (drop n ts)) vs, rest, part-items c (viewItems (take n ts) vs))
+    (ap (λ (is : List Item). is ++ viewItems (take (transfersSum cs) (drop n ts)) (drop (lengthsOf (take n ts)) vs)) (go (eqb (c .header) transfer-data) refl))
+  where
+    go : (b : Bool) → eqb (c .header) transfer-data ≡ b → cond b (viewItems (take (cond b (c .transfers) 0) ts) vs) [] ≡ viewItems (take (cond b (c .transfers) 0) ts) vs
+    go true e = refl
+    go false e = refl
+
+module _ (q : Record) where
+  -- ---- the transfer parameters
+
+  pub used-next : (k : ℕ) → k < length (q .transfer) → usedAt q (k + 1) ≡ usedAt q k + transferAt q k .len
+  unfolding lengthsOf
+  used-next k h =
+      let e : k + 1 ≡ suc k = omega arith in
+      rw (e, take-suc (q .transfer) k noTransfer h)
+      (omega (arith, lengths-append (take k (q .transfer)) (transferAt q k ∷ [])))
+
+  pub items-none : (k : ℕ) → itemsAt q k 0 ≡ []
+  unfolding viewItems
+  items-none k = refl
+
+  pub items-next : (k n : ℕ) → k < length (q .transfer) → itemsAt q k (suc n) ≡ itemFrom (transferAt q k) (take (transferAt q k .len) (drop (usedAt q k) (q .values))) ∷ itemsAt q (k + 1) n
+  unfolding viewItems
+  items-next k n h =
+      let e : k + 1 ≡ suc k = omega arith in
+      rw (used-next k h, e, drop-cons (q .transfer) k noTransfer h, drop-drop (transferAt q k .len) (usedAt q k) (q .values))
+
+  -- one of the first n, for a loop that has used so many values before it: its own values, as a part of a slice has them, and those behind it
+  pub record Turn (k used : ℕ) : Type 0 where
+    pub place : k < most-transfers
+    pub end : used + transferAt q k .len ≤ length (q .values)
+    pub small : used + transferAt q k .len ≤ 512
+    pub next : used + transferAt q k .len ≡ usedAt q (k + 1)
+    pub few : length (ownAt q k used) ≤ 512
+    pub items : (n : ℕ) → itemsAt q k (suc n) ≡ itemFrom (transferAt q k) (ownAt q k used) ∷ itemsAt q (k + 1) n
+
+  -- fewer of them lie within the arrays too
+  pub within-less : (m n : ℕ) → m ≤ n → Within q n → Within q m
+  within-less m n h w =
+      let e : m + (n - m) ≡ n = omega arith in
+      let l = rw e at (lengths-add m (n - m) (q .transfer)) in
+      record { places = omega (arith, w .places); values = omega (arith, l, w .values) }
+
+  pub turn : (k n used : ℕ) → length (q .transfer) ≡ 52 → length (q .values) ≡ 512 → Within q n → k < n → used ≡ usedAt q k → Turn k used
+  turn k n used l v w h e =
+      let t = transferAt q k in
+      let next : used + t .len ≡ usedAt q (k + 1) = omega (arith, used-next k (omega (arith, w .places))) in
+      let few : used + t .len ≤ 512 = omega (arith, within-less (k + 1) n (omega arith) w .values) in
+      let same : used + t .len - used ≡ t .len = omega arith in
+      record {
+        place = omega (arith, w .places);
+        end = omega arith;
+        small = few;
+        next = next;
+        few = omega (arith, length-take (used + t .len - used) (drop used (q .values)));
+        items = λ m. rw (same, e) (items-next k m (omega (arith, w .places)));
+      }
+
+  -- ---- the common parameters
+
+  pub parts-start : view q ≡ partsAt q 0 0
+  unfolding view lengthsOf
+  parts-start = refl
+
+  pub items-all : itemsIn (view q) ≡ itemsAt q 0 (transfersSum (commonsIn q))
+  unfolding view lengthsOf
+  items-all = items-in (commonsIn q) (q .transfer) (q .values)
+
+  module _ (k : ℕ) (h : q .commons ≤ k) where
+    commons-end : drop k (commonsIn q) ≡ []
+    commons-end = drop-of-length-le (commonsIn q) {i = k} (omega (arith, length-take (q .commons) (q .common)))
+
+    pub transfers-end : transfersAt q k ≡ 0
+    unfolding transfersSum
+    transfers-end = rw commons-end
+
+    pub parts-end : (j : ℕ) → partsAt q k j ≡ []
+    unfolding viewParts
+    parts-end j = rw commons-end
+
+  module _ (k : ℕ) (h : k < q .commons) (l : q .commons ≤ length (q .common)) where
+    commons-next : drop k (commonsIn q) ≡ commonAt q k ∷ drop (k + 1) (commonsIn q)
+    commons-next =
+        let e : k + 1 ≡ suc k = omega arith in
+        let n : length (commonsIn q) ≡ q .commons = length-take-le (q .commons) (q .common) l in
+        rw (e, ← getD-take (q .commons) (q .common) k noCommon h) (drop-cons (commonsIn q) k noCommon (omega arith))
+
+    pub transfers-next : transfersAt q k ≡ transfersIn (commonAt q k) + transfersAt q (k + 1)
+    unfolding transfersSum
+    transfers-next = rw commons-next
+
+    pub parts-next : (j : ℕ) → partsAt q k j ≡ partFrom (commonAt q k) (itemsAt q j (transfersIn (commonAt q k))) ∷ partsAt q (k + 1) (j + transfersIn (commonAt q k))
+    unfolding viewParts
+    parts-next j =
+        let n = transfersIn (commonAt q k) in
+        rw (commons-next, lengths-add j n (q .transfer), ← drop-drop n j (q .transfer), ← drop-drop (lengthsOf (take n (drop j (q .transfer)))) (usedAt q j) (q .values))

@@ -1,0 +1,2 @@
+// Writing a record: what refuses it, and its octets in lent room.
+pub mod limits;
