@@ -4,10 +4,11 @@ use native.Mathlib.Omega.{arith}
 use mathlib.Core.Path.{_≡_, refl, sym, ap, _∙_}
 use mathlib.Core.Bool.{Bool, true, false, cond}
 use mathlib.Core.List.{List, [], _∷_, _++_, map}
+use borrow.Author.Tests.{eq-eqb, ne-eqb}
 use lib.Dec.{eqb}
 use lib.ListN.{length, getD, take, drop, length-take, length-map, drop-of-length-le}
-use lib.Seq.{take-suc, drop-cons, drop-drop, take-add, getD-take, length-take-le}
-use Rattle.annex.specs.Heads.{transfer-data, most-transfers}
+use lib.Seq.{take-all, take-suc, drop-cons, drop-drop, take-add, getD-take, length-take-le}
+use Rattle.annex.specs.Heads.{transfer-data, most-commons, most-transfers}
 use Rattle.annex.specs.Items.{Item, Part}
 use Rattle.annex.specs.Allowed.{ownPart, itemsIn}
 use Rattle.annex.specs.Records.{noCommon, noTransfer, viewItems, lengthsOf, transfersIn, transfersSum, viewParts, commonsIn, view}
@@ -51,6 +52,11 @@ transfersAt q k = transfersSum (drop k (commonsIn q))
 pub record Within (q : Record) (n : ℕ) : Type 0 where
   pub places : n ≤ most-transfers
   pub values : usedAt q n ≤ 512
+
+-- a struct whose counts and lengths stay within its arrays, as facts
+pub record Whole (q : Record) : Type 0 where
+  pub commons : q .commons ≤ most-commons
+  pub within : Within q (transfersSum (commonsIn q))
 
 -- an array of structs in a struct: what holds of the struct tells the length of a mapped list
 pub length-mapped : (X Y : Type 0) (g : X → Y) (l : List X) (n : ℕ) → length (map g l) ≡ n → length l ≡ n
@@ -101,6 +107,10 @@ module _ (q : Record) where
       let e : k + 1 ≡ suc k = omega arith in
       rw (e, take-suc (q .transfer) k noTransfer h)
       (omega (arith, lengths-append (take k (q .transfer)) (transferAt q k ∷ [])))
+
+  -- past the last there are no more
+  pub used-all : (k n : ℕ) → length (q .transfer) ≤ k → length (q .transfer) ≤ n → usedAt q k ≡ usedAt q n
+  used-all k n h l = ap lengthsOf (take-all k (q .transfer) h ∙ sym (take-all n (q .transfer) l))
 
   pub items-none : (k : ℕ) → itemsAt q k 0 ≡ []
   unfolding viewItems
@@ -181,3 +191,25 @@ module _ (q : Record) where
     parts-next j =
         let n = transfersIn (commonAt q k) in
         rw (commons-next, lengths-add j n (q .transfer), ← drop-drop n j (q .transfer), ← drop-drop (lengthsOf (take n (drop j (q .transfer)))) (usedAt q j) (q .values))
+
+    -- for a loop that has passed j transfer parameters before it: a common parameter that is no C5, and a C5
+    pub record PlainTurn (j : ℕ) : Type 0 where
+      pub sum : j + transfersAt q (k + 1) ≡ transfersSum (commonsIn q)
+      pub parts : partsAt q k j ≡ partFrom (commonAt q k) [] ∷ partsAt q (k + 1) j
+
+    pub plain-turn : (j : ℕ) → j + transfersAt q k ≡ transfersSum (commonsIn q) → (commonAt q k .header ≡ transfer-data → ⊥) → PlainTurn j
+    plain-turn j s u =
+        let none : transfersIn (commonAt q k) ≡ 0 = rw (ne-eqb (commonAt q k .header) transfer-data u) in
+        let same : j + 0 ≡ j = omega arith in
+        record { sum = omega (arith, transfers-next); parts = rw (none, same, items-none j) at (parts-next j) }
+
+    pub record DataTurn (j : ℕ) : Type 0 where
+      pub sum : j + commonAt q k .transfers + transfersAt q (k + 1) ≡ transfersSum (commonsIn q)
+      pub within : Within q (j + commonAt q k .transfers)
+      pub parts : partsAt q k j ≡ partFrom (commonAt q k) (itemsAt q j (commonAt q k .transfers)) ∷ partsAt q (k + 1) (j + commonAt q k .transfers)
+
+    pub data-turn : (j : ℕ) → Whole q → j + transfersAt q k ≡ transfersSum (commonsIn q) → commonAt q k .header ≡ transfer-data → DataTurn j
+    data-turn j w s e =
+        let all : transfersIn (commonAt q k) ≡ commonAt q k .transfers = rw (eq-eqb (commonAt q k .header) transfer-data e) in
+        let sum : j + commonAt q k .transfers + transfersAt q (k + 1) ≡ transfersSum (commonsIn q) = omega (arith, transfers-next) in
+        record { sum = sum; within = within-less (j + commonAt q k .transfers) (transfersSum (commonsIn q)) (omega arith) (w .within); parts = rw all at (parts-next j) }

@@ -2,33 +2,31 @@
 use Prim.Native.Nat.{ℕ, suc, _+_, _≤_}
 use native.Mathlib.Omega.{arith}
 use mathlib.Core.Path.{_≡_, refl, ap}
-use mathlib.Core.Bool.{Bool, true, not, _&&_, _||_}
+use mathlib.Core.Bool.{Bool, true, false, not, _&&_, _||_}
 use mathlib.Core.List.{List, [], _∷_}
-use borrow.Author.Tests.{leb-true, le-ltb}
+use borrow.Author.Tests.{leb-true, le-ltb, not-false}
 use lib.Dec.{leb, ltb}
 use lib.ListN.{length, take, drop, length-take, length-drop}
+use Rattle.annex.specs.Answers.{over-limits, refuse}
 use Rattle.annex.specs.Heads.{most-commons, most-transfers, most-transfer-octets}
 use Rattle.annex.specs.Items.{Item, Holding, heldAs, contentsBy, contentsOf}
 use Rattle.annex.specs.Items.Holding.{AsContents, AsDigits, AsNumber, AsGeneric}
 use Rattle.annex.specs.Allowed.{contentsSum}
 use Rattle.annex.specs.Records.{viewItems, lengthsOf, transfersSum, viewParts, commonsIn, isWhole, view}
-use Rattle.annex.specs.Writing.{overLimits}
+use Rattle.annex.specs.Walk.{unseen}
+use Rattle.annex.specs.Writing.{overLimits, partsWriting, recordWriting, structWriting}
+use Rattle.annex.specs.declared.Answer.the-variants.{Refused}
 use Rattle.annex.specs.declared.Common.{Common}
 use Rattle.annex.specs.declared.Transfer.{Transfer}
 use Rattle.annex.specs.declared.Record.{Record}
 use Rattle.annex.specs.declared.Alphabet.the-variants.{Dialled, Numbered}
-use Rattle.laws.specs.Bools.{and-left, and-right}
+use Rattle.laws.specs.Bools.{and-left, and-right, or-left, or-right}
 use Rattle.laws.specs.Joined.{length-packed}
-use Rattle.writer.specs.Along.{usedAt, itemsAt, Within, items-all}
+use Rattle.writer.specs.Along.{usedAt, itemsAt, Whole, items-all}
 
 -- both reasons for which a record is refused with 1
 abbrev pub isOver : Record → Bool
 isOver q = not (isWhole q) || overLimits (view q)
-
--- a struct whose counts and lengths stay within its arrays, as facts
-pub record Whole (q : Record) : Type 0 where
-  pub commons : q .commons ≤ most-commons
-  pub within : Within q (transfersSum (commonsIn q))
 
 pub told-whole : (q : Record) → isWhole q ≡ true → Whole q
 unfolding isWhole
@@ -73,3 +71,21 @@ contents-most i = go (heldAs i)
     go (AsDigits m) = omega (arith, length-packed Dialled (i .values))
     go AsNumber = omega (arith, length-packed Numbered (i .values))
     go AsGeneric = omega (arith, length-packed Numbered (drop 1 (i .values)), length-drop 1 (i .values))
+
+-- what is over is refused with 1, and what is not is refused by its parts
+pub over-refused : (q : Record) → isOver q ≡ true → structWriting q ≡ Refused over-limits 0
+unfolding structWriting recordWriting
+over-refused q e = go (isWhole q) (overLimits (view q)) e
+  where
+    go : (b o : Bool) → not b || o ≡ true → refuse (not b) over-limits 0 (refuse o over-limits 0 (partsWriting unseen 0 (view q))) ≡ Refused over-limits 0
+    go true true e = refl
+    go true false e = absurd (let z : _≡_ {A = ℕ} 0 1 = cc in omega arith)
+    go false o e = refl
+
+pub under-whole : (q : Record) → isOver q ≡ false → Whole q
+under-whole q e = told-whole q (not-false (isWhole q) (or-left (not (isWhole q)) (overLimits (view q)) e))
+
+pub under-parts : (q : Record) → isOver q ≡ false → structWriting q ≡ partsWriting unseen 0 (view q)
+unfolding structWriting recordWriting
+under-parts q e =
+    rw (or-left (not (isWhole q)) (overLimits (view q)) e, or-right (not (isWhole q)) (overLimits (view q)) e)

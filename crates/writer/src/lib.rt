@@ -1,2 +1,3 @@
 // Writing a record: what refuses it, and its octets in lent room.
 pub mod limits;
+pub mod refusing;

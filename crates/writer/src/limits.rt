@@ -38,13 +38,15 @@ fn transfers_sum(q: Record) -> usize
 }
 
 // How many values the first n transfer parameters have together.
-fn values_before(q: Record, n: usize) -> usize
-    requires { ⌜ n ≤ 52 ⌝ }
+pub fn values_before(q: Record, n: usize) -> usize
     ensures { λ r. ⌜ r ≡ usedAt q n ⌝ }
 {
     let mut sum: usize = 0;
     let mut k: usize = 0;
-    while k < n {
+    while k < Transfer::MOST {
+        if n <= k {
+            return sum;
+        }
         let t = q.transfer[k];
         sum += t.len as usize;
         k += 1;
@@ -53,7 +55,7 @@ fn values_before(q: Record, n: usize) -> usize
 }
 
 // Whether the counts and lengths stay within the arrays.
-pub fn is_whole(q: Record) -> bool
+fn is_whole(q: Record) -> bool
     ensures { λ r. ⌜ r ≡ isWhole q ⌝ }
 {
     if Common::MOST < q.commons as usize {

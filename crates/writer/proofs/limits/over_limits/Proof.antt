@@ -2,7 +2,8 @@
 use mathlib.Core.Path.{sym, _∙_}
 use borrow.Author.Needs.{needs}
 use borrow.Author.Tests.{not-true, not-false}
-use Rattle.writer.specs.Limits.{Whole, told-whole, over-contents}
+use Rattle.writer.specs.Along.{Whole}
+use Rattle.writer.specs.Limits.{told-whole, over-contents}
 use Rattle.writer.proofs.limits.over_limits.Statement.{statement}
 use Rattle.writer.proofs.limits.over_limits.Tie as tie
 

@@ -1,36 +1,43 @@
 -- `values_before` meets its contract. The invariant: the sum is what those before k have.
 use Prim.Native.Nat.{_-_, _*_, _≤_}
 use native.Mathlib.Omega.{arith}
-use mathlib.Core.Path.{_≡_, refl}
+use mathlib.Core.Path.{_≡_, refl, _∙_}
 use borrow.Author.Needs.{needs}
 use lib.ListN.{length}
 use Rattle.annex.specs.Records.{lengthsOf}
-use Rattle.writer.specs.Along.{usedAt, used-next, length-mapped}
+use Rattle.writer.specs.Along.{usedAt, used-next, used-all, length-mapped}
 use Rattle.writer.proofs.limits.values_before.Statement.{statement}
 use Rattle.writer.proofs.limits.values_before.Tie as tie
 
 abbrev Inv-loop : tie.InvT-loop
-Inv-loop n q sum₀ k₀ sum k = (k ≤ n) × (sum ≤ 65535 * k) × (sum ≡ usedAt q k)
+Inv-loop n q sum₀ k₀ sum k = (k ≤ n) × (k ≤ 52) × (sum ≤ 65535 * k) × (sum ≡ usedAt q k)
 
 abbrev μ-loop : tie.MeasureT-loop
-μ-loop n q sum₀ k₀ sum k = n - k
+μ-loop n q sum₀ k₀ sum k = 52 - k
 
 loop-holds : tie.Need-loop-holds Inv-loop μ-loop
 unfolding lengthsOf
-loop-holds c = (omega arith, omega arith, refl)
-
-loop-again : tie.Need-loop-again Inv-loop μ-loop
-loop-again c =
-    let a = c .before .before .before in
-    let q = a .before .args .t1 in
-    let l : length (q .transfer) ≡ 52 = search (needs, length-mapped) in
-    (omega arith, omega arith, omega (arith, used-next q (a .loop .k) (omega arith), a .loop .inv .2))
+loop-holds c = (omega arith, omega arith, omega arith, refl)
 
 returns : tie.Need-returns Inv-loop μ-loop
 returns c =
-    let a = c .before in
+    let a = c .before .before in
     let e : a .loop .k ≡ a .before .args .n = omega arith in
-    rw (← e) (a .loop .inv .2)
+    rw (← e) (a .loop .inv .3)
+
+loop-again : tie.Need-loop-again Inv-loop μ-loop
+loop-again c =
+    let a = c .before .before .before .before in
+    let q = a .before .args .t1 in
+    let l : length (q .transfer) ≡ 52 = search (needs, length-mapped) in
+    (omega arith, omega arith, omega arith, omega (arith, used-next q (a .loop .k) (omega arith), a .loop .inv .3))
+
+returns-2 : tie.Need-returns-2 Inv-loop μ-loop
+returns-2 c =
+    let a = c .before in
+    let q = a .before .args .t1 in
+    let l : length (q .transfer) ≡ 52 = search (needs, length-mapped) in
+    a .loop .inv .3 ∙ used-all q (a .loop .k) (a .before .args .n) (omega arith) (omega arith)
 
 pub values-before-spec : {M : Type 1} → statement M
 values-before-spec =
@@ -39,6 +46,7 @@ values-before-spec =
     Inv-loop
     μ-loop
     loop-holds
+    returns
     (λ c. omega arith)
     (λ c. omega arith)
     (λ c. search needs)
@@ -46,4 +54,4 @@ values-before-spec =
     (λ c. omega arith)
     (λ c. omega arith)
     loop-again
-    returns)
+    returns-2)
