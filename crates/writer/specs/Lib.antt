@@ -2,3 +2,4 @@
 pub mod Along
 pub mod Limits
 pub mod Refusing
+pub mod Laying

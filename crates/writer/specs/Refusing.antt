@@ -126,10 +126,10 @@ headFits c = cond (eqb (c .header) sequence) (isOctet (c .value)) (cond (isCall 
 abbrev pub headLength : ℕ → ℕ
 headLength h = cond (isCall h) 4 2
 
-pub head-most : (h : ℕ) → headLength h ≤ 4
-head-most h = go (isCall h)
+pub head-long : (h : ℕ) → (2 ≤ headLength h) × (headLength h ≤ 4)
+head-long h = go (isCall h)
   where
-    go : (b : Bool) → cond b 4 2 ≤ 4
+    go : (b : Bool) → (2 ≤ cond b 4 2) × (cond b 4 2 ≤ 4)
     go true = omega arith
     go false = omega arith
 
@@ -208,7 +208,7 @@ head-passed times p c n e =
     let e₄ = passed (not (headFits c)) _ p n (Accepted (p + headLength (c .header))) (e₃ .1) in
     let end : Accepted (p + headLength (c .header)) ≡ Accepted n = e₄ .1 in
     let same : p + headLength (c .header) ≡ n = cc in
-    (omega (arith, ltb-false 0 times (e₂ .0)), omega (arith, head-most (c .header)))
+    (omega (arith, ltb-false 0 times (e₂ .0)), omega (arith, head-long (c .header) .1))
 
 -- and what accepted transfer data says
 pub data-passed : (p : ℕ) (is : List Item) (n : ℕ) → dataWriting p is ≡ Accepted n → n ≤ p + 257

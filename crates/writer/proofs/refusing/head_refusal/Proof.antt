@@ -5,7 +5,7 @@ use mathlib.Core.Bool.{true}
 use borrow.Author.Needs.{needs}
 use borrow.Author.Tests.{ne-eqb, lt-ltb, le-ltb, not-true, not-false}
 use Rattle.annex.specs.Heads.{among, commonHeaders}
-use Rattle.writer.specs.Refusing.{head-most}
+use Rattle.writer.specs.Refusing.{head-long}
 use Rattle.writer.proofs.refusing.head_refusal.Statement.{statement}
 use Rattle.writer.proofs.refusing.head_refusal.Tie as tie
 
@@ -42,7 +42,7 @@ returns-5 c =
     rw (common (n .before), le-ltb _ _ (n .if3 .left), ← r .value-right .ensures, not-false (r .value-right .result) (f .before .if4 .left), ← f .value-fits .ensures, not-true (f .value-fits .result) (c .if5 .taken))
 
 add-end : tie.Need-add-end
-add-end c = omega (arith, c .head-len .ensures, head-most (c .before .before .before .before .before .before .before .before .before .args .c .header))
+add-end c = omega (arith, c .head-len .ensures, head-long (c .before .before .before .before .before .before .before .before .before .args .c .header) .1)
 
 returns-6 : tie.Need-returns-6
 returns-6 c =

@@ -1,0 +1,37 @@
+-- The octets of a common parameter, as the code lays it out: by its head alone, or a C5 with its transfer parameters.
+use Prim.Native.Nat.{ℕ, suc}
+use mathlib.Core.Path.{_≡_, refl}
+use mathlib.Core.Bool.{Bool, true, false, cond}
+use mathlib.Core.List.{List, [], _∷_}
+use borrow.Author.Tests.{ne-eqb}
+use lib.ListN.{length}
+use Rattle.annex.specs.Heads.{transfer-data, isCall}
+use Rattle.annex.specs.Items.{Item}
+use Rattle.annex.specs.Layout.{layoutItems, callOctets, dataOctets, layoutPart}
+use Rattle.annex.specs.declared.Common.{Common}
+use Rattle.writer.specs.Along.{partFrom}
+use Rattle.writer.specs.Refusing.{headLength}
+
+-- one that is no C5
+abbrev pub headOctets : Common → List ℕ
+headOctets c = c .header ∷ cond (isCall (c .header)) (callOctets (c .value)) (c .value ∷ [])
+
+-- C5
+abbrev pub dataLaid : List Item → List ℕ
+dataLaid is = transfer-data ∷ dataOctets (layoutItems is)
+
+pub length-head : (c : Common) → length (headOctets c) ≡ headLength (c .header)
+length-head c = go (isCall (c .header))
+  where
+    go : (b : Bool) → suc (length (cond b (callOctets (c .value)) (c .value ∷ []))) ≡ cond b 4 2
+    go true = refl
+    go false = refl
+
+module _ (c : Common) (is : List Item) where
+  pub plain-laid : (c .header ≡ transfer-data → ⊥) → layoutPart (partFrom c is) ≡ headOctets c
+  unfolding layoutPart
+  plain-laid u = rw (ne-eqb (c .header) transfer-data u, ne-eqb (c .header) transfer-data u)
+
+  pub data-laid : c .header ≡ transfer-data → layoutPart (partFrom c is) ≡ dataLaid is
+  unfolding layoutPart
+  data-laid e = rw e
