@@ -131,7 +131,7 @@ fn count_of(s: &[u8]) -> usize
 }
 
 // A parameter that holds its contents.
-fn open_contents(
+pub fn open_contents(
     header: u8,
     s: &[u8],
     values: &mut [u8; Transfer::MOST_VALUES],

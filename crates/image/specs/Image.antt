@@ -1,0 +1,136 @@
+-- A record's image as octets, for calls from Rust and C: the values of a record one after the other, and before what is counted its count.
+use Prim.Native.Nat.{ℕ, zero, suc, _+_, _*_, _/_, _%_}
+use mathlib.Core.Bool.{Bool, cond, _&&_}
+use mathlib.Core.List.{List, [], _∷_, _++_}
+use lib.Dec.{eqb, leb}
+use lib.ListN.{length, getD, take, drop}
+use Rattle.annex.specs.Answers.{over-limits}
+use Rattle.annex.specs.Heads.{transfer-data, most-commons, most-transfers}
+use Rattle.annex.specs.Items.{Item, Part}
+use Rattle.annex.specs.Allowed.{itemsIn}
+use Rattle.annex.specs.Records.{headOf, commonHeadOf, rawItem, valuesOf, pack}
+use Rattle.annex.specs.declared.Common.{Common}
+use Rattle.annex.specs.declared.Transfer.{Transfer}
+use Rattle.annex.specs.declared.Answer.the-variants.{Accepted, Refused}
+use Rattle.image.specs.declared.reading.Imaged.{Imaged}
+
+-- ---- from a record to its image
+
+-- a number in two octets and in four, least first
+abbrev pub twoOctets : ℕ → List ℕ
+twoOctets n = n % 256 ∷ n / 256 % 256 ∷ []
+
+abbrev pub fourOctets : ℕ → List ℕ
+fourOctets n = n % 256 ∷ n / 256 % 256 ∷ n / 65536 % 256 ∷ n / 16777216 % 256 ∷ []
+
+-- the head of a transfer parameter: header, marks, fields, count of values
+abbrev pub imageHead : Transfer → List ℕ
+imageHead t =
+    t .header ∷ t .notification ∷ t .verification ∷ t .dialling ∷ t .«number_type» ∷ t .incomplete ∷ t .plan ∷ t .presentation ∷ t .screening ∷ twoOctets (t .len)
+
+-- a transfer parameter: its head, then its values
+unfoldable pub imageItem : Item → List ℕ
+imageItem i = imageHead (headOf i) ++ i .values
+
+unfoldable pub imageItems : List Item → List ℕ
+imageItems [] = []
+imageItems (i ∷ is) = imageItem i ++ imageItems is
+
+-- the head of a common parameter: header, value, count of transfer parameters
+abbrev pub imageCommon : Common → List ℕ
+imageCommon c = c .header ∷ (fourOctets (c .value) ++ (c .transfers ∷ []))
+
+-- a common parameter: its head, then its transfer parameters; only a C5 has any
+unfoldable pub imagePart : Part → List ℕ
+imagePart p = imageCommon (commonHeadOf p) ++ imageItems (p .items)
+
+unfoldable pub imageParts : List Part → List ℕ
+imageParts [] = []
+imageParts (p ∷ ps) = imagePart p ++ imageParts ps
+
+-- a record: the count of its common parameters, then these
+unfoldable pub imageOf : List Part → List ℕ
+imageOf r = length r ∷ imageParts r
+
+-- ---- from an image to a record
+
+-- so many parameters at the front of octets, with how many octets they take; or the octets are too short for them
+pub data Front (A : Type 0) : Type 0 where
+  Taken : List A → ℕ → Front A
+  Short : Front A
+
+-- x, which takes n octets, before them
+abbrev pub more : {A : Type 0} → A → ℕ → Front A → Front A
+more x n (Taken xs k) = Taken (x ∷ xs) (n + k)
+more x n Short = Short
+
+-- the transfer parameter at the front of octets; its fields are taken as they stand
+abbrev pub headAt : List ℕ → Transfer
+headAt s =
+    record {
+      header = getD s 0 0;
+      notification = getD s 1 0;
+      verification = getD s 2 0;
+      dialling = getD s 3 0;
+      «number_type» = getD s 4 0;
+      incomplete = getD s 5 0;
+      plan = getD s 6 0;
+      presentation = getD s 7 0;
+      screening = getD s 8 0;
+      len = getD s 9 0 + 256 * getD s 10 0;
+    }
+
+abbrev pub itemAt : List ℕ → Item
+itemAt s = rawItem (headAt s) (take (headAt s .len) (drop 11 s))
+
+-- and the octets that it takes
+abbrev pub itemSize : List ℕ → ℕ
+itemSize s = 11 + headAt s .len
+
+-- n of them
+unfoldable pub itemsAt : ℕ → List ℕ → Front Item
+itemsAt zero s = Taken [] 0
+itemsAt (suc n) s =
+    cond (leb (itemSize s) (length s)) (more (itemAt s) (itemSize s) (itemsAt n (drop (itemSize s) s))) Short
+
+-- the common parameter at the front of octets; where it is no C5 its count is not looked at
+abbrev pub commonAt : List ℕ → Common
+commonAt s =
+    record {
+      header = getD s 0 0;
+      value = getD s 1 0 + 256 * getD s 2 0 + 65536 * getD s 3 0 + 16777216 * getD s 4 0;
+      transfers = cond (eqb (getD s 0 0) transfer-data) (getD s 5 0) 0;
+    }
+
+abbrev pub partAt : List ℕ → List Item → Part
+partAt s is = record { header = commonAt s .header; value = commonAt s .value; items = is }
+
+-- the head s with these transfer parameters behind it, and what follows them
+abbrev pub partThen : List ℕ → Front Item → (ℕ → Front Part) → Front Part
+partThen s (Taken is k) rest = more (partAt s is) (6 + k) (rest (6 + k))
+partThen s Short rest = Short
+
+-- n of them
+unfoldable pub partsAt : ℕ → List ℕ → Front Part
+partsAt zero s = Taken [] 0
+partsAt (suc n) s =
+    cond (leb 6 (length s)) (partThen s (itemsAt (commonAt s .transfers) (drop 6 s)) (λ k. partsAt n (drop k s))) Short
+
+-- no record: 1 at 0, and the empty struct
+abbrev pub noImage : Imaged
+noImage = record { answer = Refused over-limits 0; held = pack [] }
+
+-- the limits of the struct
+unfoldable pub isWithin : List Part → Bool
+isWithin r =
+    leb (length r) most-commons && (leb (length (itemsIn r)) most-transfers && leb (length (valuesOf (itemsIn r))) 512)
+
+-- the parameters of n octets: a record where they take all octets and are within the limits
+abbrev pub imagedBy : ℕ → Front Part → Imaged
+imagedBy n (Taken r k) = cond (eqb k n && isWithin r) (record { answer = Accepted (length r); held = pack r }) noImage
+imagedBy n Short = noImage
+
+-- the record of an image: the count of its common parameters comes first
+unfoldable pub imagedOf : List ℕ → Imaged
+imagedOf [] = noImage
+imagedOf (n ∷ s) = imagedBy (length s) (partsAt n s)

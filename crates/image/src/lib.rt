@@ -1,0 +1,2 @@
+// A record's image as octets, for calls from Rust and C.
+pub mod reading;
