@@ -4,9 +4,9 @@ use native.Mathlib.Omega.{arith}
 use mathlib.Core.Path.{_≡_, refl, sym, ap, _∙_}
 use mathlib.Core.Bool.{true, false}
 use mathlib.Core.List.{List, [], _∷_, _++_, map-append, append-nil, append-assoc}
+use borrow.Rule.Slice.PartMut.{putMid}
 use lib.ListN.{length, take, drop, set, length-append, length-drop}
 use lib.Seq.{sets, take-length, drop-length}
-use borrow.Rule.Slice.PartMut.{putMid}
 use Rattle.annex.specs.Heads.{transfer-data, isCall}
 use Rattle.annex.specs.Layout.{dataOctets}
 use Rattle.annex.specs.declared.Common.{Common}
@@ -16,16 +16,6 @@ use Rattle.laws.specs.Stores.{sets-snoc}
 use Rattle.parameter.specs.Laying.{lowOctets, atFront, length-low}
 use Rattle.parameter.proofs.Written.{written-length, written-then}
 use Rattle.writer.specs.Laying.{headOctets}
-
--- of the octets `whole`, those `left` are still to be written, from the place `at` of the room on; w is what it held at first
-pub record Laid (w room whole left : List ℕ) (at : ℕ) : Type 0 where
-  pub done : List ℕ
-  pub out : at ≡ length done
-  pub parts : whole ≡ done ++ left
-  pub so-far : room ≡ atFront done w
-
-pub laid-start : (w whole : List ℕ) → Laid w w whole whole 0
-laid-start w whole = record { done = []; out = refl; parts = refl; so-far = refl }
 
 -- what is written, as a run of stores
 pub stored : (w xs : List ℕ) → length xs ≤ length w → atFront xs w ≡ sets w 0 (lowOctets xs)
@@ -48,7 +38,7 @@ module _ (c : Common) (octet : c .header < 256) where
   pub low-plain : isCall (c .header) ≡ false → lowOctets (headOctets c) ≡ c .header ∷ c .value % 256 ∷ []
   low-plain e = rw (e, same)
 
--- C5: its parameters written from the third octet on, then its header and its length octet
+-- C5: its parameters written from the third octet on, then its header and its length octet. Two octets of room stay there for those
 pub two-kept : (room ys : List ℕ) (k x : ℕ) → 2 ≤ length room → 1 < length (set (putMid 2 k room ys) 0 x)
 two-kept [] ys k x h = absurd (omega arith)
 two-kept (a ∷ []) ys k x h = absurd (omega arith)
@@ -61,6 +51,18 @@ data-stored (a ∷ b ∷ w) xs ys n h e f =
     let k : suc (suc (length w)) - 2 ≡ length w = omega arith in
     let g : ys ≡ atFront xs w = rw (k, take-length w) at f in
     rw (k, drop-length w, append-nil ys, e, g)
+
+-- ---- turn by turn
+
+-- of the octets `whole`, those `left` are still to be written, from the place `at` of the room on; w is what it held at first
+pub record Laid (w room whole left : List ℕ) (at : ℕ) : Type 0 where
+  pub done : List ℕ
+  pub out : at ≡ length done
+  pub parts : whole ≡ done ++ left
+  pub so-far : room ≡ atFront done w
+
+pub laid-start : (w whole : List ℕ) → Laid w w whole whole 0
+laid-start w whole = record { done = []; out = refl; parts = refl; so-far = refl }
 
 module _ {w room whole left : List ℕ} {at : ℕ} (y : Laid w room whole left at) (fits : length whole ≤ length w) where
   length-all : length whole ≡ at + length left

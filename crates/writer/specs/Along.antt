@@ -112,11 +112,14 @@ module _ (q : Record) where
   pub used-all : (k n : ℕ) → length (q .transfer) ≤ k → length (q .transfer) ≤ n → usedAt q k ≡ usedAt q n
   used-all k n h l = ap lengthsOf (take-all k (q .transfer) h ∙ sym (take-all n (q .transfer) l))
 
-  pub items-none : (k : ℕ) → itemsAt q k 0 ≡ []
+  items-none : (k : ℕ) → itemsAt q k 0 ≡ []
   unfolding viewItems
   items-none k = refl
 
-  pub items-next : (k n : ℕ) → k < length (q .transfer) → itemsAt q k (suc n) ≡ itemFrom (transferAt q k) (take (transferAt q k .len) (drop (usedAt q k) (q .values))) ∷ itemsAt q (k + 1) n
+  pub items-end : (k end : ℕ) → end ≤ k → itemsAt q k (end - k) ≡ []
+  items-end k end h = let e : end - k ≡ 0 = omega arith in rw e (items-none k)
+
+  items-next : (k n : ℕ) → k < length (q .transfer) → itemsAt q k (suc n) ≡ itemFrom (transferAt q k) (take (transferAt q k .len) (drop (usedAt q k) (q .values))) ∷ itemsAt q (k + 1) n
   unfolding viewItems
   items-next k n h =
       let e : k + 1 ≡ suc k = omega arith in
@@ -129,7 +132,7 @@ module _ (q : Record) where
     pub small : used + transferAt q k .len ≤ 512
     pub next : used + transferAt q k .len ≡ usedAt q (k + 1)
     pub few : length (ownAt q k used) ≤ 512
-    pub items : (n : ℕ) → itemsAt q k (suc n) ≡ itemFrom (transferAt q k) (ownAt q k used) ∷ itemsAt q (k + 1) n
+    pub items : (end : ℕ) → k < end → itemsAt q k (end - k) ≡ itemFrom (transferAt q k) (ownAt q k used) ∷ itemsAt q (k + 1) (end - (k + 1))
 
   -- fewer of them lie within the arrays too
   pub within-less : (m n : ℕ) → m ≤ n → Within q n → Within q m
@@ -150,7 +153,9 @@ module _ (q : Record) where
         small = few;
         next = next;
         few = omega (arith, length-take (used + t .len - used) (drop used (q .values)));
-        items = λ m. rw (same, e) (items-next k m (omega (arith, w .places)));
+        items = λ end o.
+            let more : end - k ≡ suc (end - (k + 1)) = omega arith in
+            rw (more, same, e) (items-next k (end - (k + 1)) (omega (arith, w .places)));
       }
 
   -- ---- the common parameters

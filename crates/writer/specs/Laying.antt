@@ -1,5 +1,6 @@
 -- The octets of a common parameter, as the code lays it out: by its head alone, or a C5 with its transfer parameters.
-use Prim.Native.Nat.{ℕ, suc}
+use Prim.Native.Nat.{ℕ, suc, _≤_}
+use native.Mathlib.Omega.{arith}
 use mathlib.Core.Path.{_≡_, refl}
 use mathlib.Core.Bool.{Bool, true, false, cond}
 use mathlib.Core.List.{List, [], _∷_}
@@ -10,7 +11,17 @@ use Rattle.annex.specs.Items.{Item}
 use Rattle.annex.specs.Layout.{layoutItems, callOctets, dataOctets, layoutPart}
 use Rattle.annex.specs.declared.Common.{Common}
 use Rattle.writer.specs.Along.{partFrom}
-use Rattle.writer.specs.Refusing.{headLength}
+
+-- how many octets it takes, its transfer parameters aside
+abbrev pub headLength : ℕ → ℕ
+headLength h = cond (isCall h) 4 2
+
+pub head-long : (h : ℕ) → (2 ≤ headLength h) × (headLength h ≤ 4)
+head-long h = go (isCall h)
+  where
+    go : (b : Bool) → (2 ≤ cond b 4 2) × (cond b 4 2 ≤ 4)
+    go true = omega arith
+    go false = omega arith
 
 -- one that is no C5
 abbrev pub headOctets : Common → List ℕ

@@ -1,18 +1,18 @@
 -- The steps of refusing a record, as the code takes them: a transfer parameter is judged at place 0, and a common parameter without its
 -- transfer parameters first.
-use Prim.Native.Nat.{ℕ, suc, _+_, _-_, _≤_, _<_}
+use Prim.Native.Nat.{ℕ, _+_, _-_, _≤_, _<_}
 use native.Mathlib.Omega.{arith}
 use mathlib.Core.Path.{_≡_, refl, sym, ap, _∙_}
 use mathlib.Core.Bool.{Bool, true, false, cond, not, _&&_}
 use mathlib.Core.List.{List, [], _∷_}
-use borrow.Author.Tests.{ltb-true, ltb-false, eq-eqb, ne-eqb, eqb-true, leb-false, not-false}
+use borrow.Author.Tests.{ltb-true, ltb-false, eq-eqb, ne-eqb, eqb-true, eqb-false, leb-false, not-false}
 use lib.Dec.{eqb, leb, ltb}
 use lib.ListN.{length, length-append}
 use Rattle.annex.specs.Answers.{unlisted, repeated, not-allowed, missing, bad-form, transfer-over, refuse, andThen}
 use Rattle.annex.specs.Units.{nameOf, extentOf}
 use Rattle.annex.specs.Heads.{among, commonHeaders, user-class, signal-kind, signalKinds, sequence, transfer-data, isCall, call-numbers, most-transfer-octets, nameUsed, pliRight, oftenOf}
 use Rattle.annex.specs.Items.{Item, Part}
-use Rattle.annex.specs.Layout.{layoutItem, layoutItems, callOctets, layoutPart}
+use Rattle.annex.specs.Layout.{layoutItem, layoutItems, layoutPart}
 use Rattle.annex.specs.Allowed.{every, isOctet, lengthRight, formRight, digitsRight, valueRight, valueFits}
 use Rattle.annex.specs.Walk.{Seen, unseen, timesSeen, counted}
 use Rattle.annex.specs.Reading.{octetAllowed}
@@ -25,6 +25,7 @@ use Rattle.laws.specs.Steps.{passed, then-passed, PlaceTo, accepted-place, refu
 use Rattle.laws.specs.Places.{farther, item-from}
 use Rattle.laws.specs.Laid.{length-layout, lead-small, length-small}
 use Rattle.writer.specs.Along.{partFrom}
+use Rattle.writer.specs.Laying.{headLength, head-long, length-head, plain-laid}
 
 -- ---- a transfer parameter
 
@@ -122,17 +123,6 @@ octet-over h v o u = rw (ne-eqb h user-class u, among-over signalKinds refl v o)
 abbrev pub headFits : Common → Bool
 headFits c = cond (eqb (c .header) sequence) (isOctet (c .value)) (cond (isCall (c .header)) (ltb (c .value) call-numbers) true)
 
--- how many octets it takes, its transfer parameters aside
-abbrev pub headLength : ℕ → ℕ
-headLength h = cond (isCall h) 4 2
-
-pub head-long : (h : ℕ) → (2 ≤ headLength h) × (headLength h ≤ 4)
-head-long h = go (isCall h)
-  where
-    go : (b : Bool) → (2 ≤ cond b 4 2) × (cond b 4 2 ≤ 4)
-    go true = omega arith
-    go false = omega arith
-
 module _ (c : Common) (is : List Item) where
   pub part-header : partFrom c is .header ≡ c .header
   part-header = go (eqb (c .header) transfer-data) refl
@@ -171,14 +161,6 @@ headThen times p c a =
 abbrev pub headWriting : ℕ → ℕ → Common → Answer
 headWriting times p c = headThen times p c (Accepted (p + headLength (c .header)))
 
-plain-length : (c : Common) (is : List Item) → eqb (c .header) transfer-data ≡ false → length (layoutPart (partFrom c is)) ≡ headLength (c .header)
-unfolding layoutPart
-plain-length c is e = rw (e, e) (go (isCall (c .header)))
-  where
-    go : (b : Bool) → suc (length (cond b (callOctets (c .value)) (c .value ∷ []))) ≡ cond b 4 2
-    go true = refl
-    go false = refl
-
 part-checked : (times p : ℕ) (c : Common) (is : List Item) → partWriting times p (partFrom c is) ≡ headThen times p c (cond (eqb (c .header) transfer-data) (dataWriting p is) (Accepted (p + headLength (c .header))))
 unfolding partWriting
 part-checked times p c is =
@@ -186,7 +168,7 @@ part-checked times p c is =
   where
     go : (b : Bool) → eqb (c .header) transfer-data ≡ b → cond b (dataWriting p (partFrom c is .items)) (Accepted (p + length (layoutPart (partFrom c is)))) ≡ cond b (dataWriting p is) (Accepted (p + headLength (c .header)))
     go true e = rw e
-    go false e = ap (λ n. Accepted (p + n)) (plain-length c is e)
+    go false e = ap (λ n. Accepted (p + n)) (ap (λ (l : List ℕ). length l) (plain-laid c is (eqb-false (c .header) transfer-data e)) ∙ length-head c)
 
 refuse-then : (b : Bool) (k p : ℕ) (a : Answer) (f : ℕ → Answer) → andThen (refuse b k p a) f ≡ refuse b k p (andThen a f)
 refuse-then true k p a f = refl

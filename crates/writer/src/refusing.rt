@@ -17,7 +17,8 @@ ghost use Rattle.annex.specs.Records.{view};
 ghost use Rattle.annex.specs.Walk.{unseen};
 ghost use Rattle.annex.specs.Writing.{itemsWriting, dataWriting, partsWriting, structWriting};
 ghost use Rattle.writer.specs.Along.{itemsAt, Within, Whole};
-ghost use Rattle.writer.specs.Refusing.{placedAt, headFits, headLength, headWriting, endWriting};
+ghost use Rattle.writer.specs.Laying.{headLength};
+ghost use Rattle.writer.specs.Refusing.{placedAt, headFits, headWriting, endWriting};
 
 // A refusal, told at the place p.
 fn placed(a: Answer, p: usize) -> Answer

@@ -60,9 +60,10 @@ fn put_data(q: Record, first: usize, n: usize, room: &mut [u8]) -> usize
         × (now (room .exit) ≡ atFront (dataLaid (itemsAt q first n)) (now (room .entry))) ⌝ }
 {
     let len = put_items(q, first, n, &mut room[2..]);
+    let whole = len + 2;
     room[0] = Common::TRANSFER_DATA;
     room[1] = (len % 256) as u8;
-    len + 2
+    whole
 }
 
 // Lays out a common parameter that is no C5. A call number stands with its least octet first.
@@ -72,11 +73,13 @@ fn put_head(c: Common, room: &mut [u8])
 {
     let value = c.value;
     room[0] = c.header;
-    room[1] = (value % 256) as u8;
     if is_call(c.header) {
+        room[1] = (value % 256) as u8;
         room[2] = (value / 256 % 256) as u8;
         room[3] = (value / 65536 % 256) as u8;
+        return;
     }
+    room[1] = (value % 256) as u8;
 }
 
 // Lays out a record within its limits: its common parameters in their order, then the end mark.

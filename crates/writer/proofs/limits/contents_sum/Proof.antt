@@ -1,5 +1,5 @@
 -- `contents_sum` meets its contract. The invariant: the sum so far, and what the contents of those from k on come to, are the whole.
-use Prim.Native.Nat.{suc, _+_, _-_, _*_, _≤_}
+use Prim.Native.Nat.{_+_, _-_, _*_, _≤_}
 use native.Mathlib.Omega.{arith}
 use mathlib.Core.Path.{_≡_, refl, ap}
 use borrow.Author.Needs.{needs}
@@ -8,7 +8,7 @@ use Rattle.annex.specs.Allowed.{contentsSum}
 use Rattle.annex.specs.Records.{rawItem, lengthsOf}
 use Rattle.laws.specs.Laid.{own-values}
 use Rattle.parameter.specs.Laying.{itemFrom}
-use Rattle.writer.specs.Along.{transferAt, ownAt, usedAt, itemsAt, Turn, turn, items-none, length-mapped}
+use Rattle.writer.specs.Along.{transferAt, ownAt, usedAt, itemsAt, Turn, turn, items-end, length-mapped}
 use Rattle.writer.specs.Limits.{contents-most}
 use Rattle.writer.proofs.limits.contents_sum.Statement.{statement}
 use Rattle.writer.proofs.limits.contents_sum.Tie as tie
@@ -75,16 +75,14 @@ loop-again c =
     let n = st .args .n in
     let k = a .loop .k in
     let h = here i in
-    let e : n - k ≡ suc (n - (k + 1)) = omega arith in
-    let s = rw (e, h .items (n - (k + 1))) at (a .loop .inv .3) in
+    let s = rw (h .items n (i .loop-test .taken)) at (a .loop .inv .3) in
     (omega arith, h .next, omega (arith, len-is c), omega (arith, s, c .contents-len .ensures))
 
 returns : tie.Need-returns Inv-loop μ-loop
 returns c =
     let a = c .before in
     let st = a .before .before in
-    let e : st .args .n - a .loop .k ≡ 0 = omega arith in
-    let s = rw (e, items-none (st .args .t1) (a .loop .k)) at (a .loop .inv .3) in
+    let s = rw (items-end (st .args .t1) (a .loop .k) (st .args .n) (c .loop-test .left)) at (a .loop .inv .3) in
     omega (arith, s)
 
 pub contents-sum-spec : {M : Type 1} → statement M

@@ -5,7 +5,7 @@ use mathlib.Core.Bool.{true}
 use borrow.Author.Needs.{needs}
 use borrow.Author.Tests.{ne-eqb, lt-ltb, le-ltb, not-true, not-false}
 use Rattle.annex.specs.Heads.{among, commonHeaders}
-use Rattle.writer.specs.Refusing.{head-long}
+use Rattle.writer.specs.Laying.{head-long}
 use Rattle.writer.proofs.refusing.head_refusal.Statement.{statement}
 use Rattle.writer.proofs.refusing.head_refusal.Tie as tie
 

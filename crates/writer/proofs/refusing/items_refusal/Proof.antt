@@ -3,7 +3,6 @@
 use Prim.Native.Nat.{suc, _+_, _-_, _*_, _≤_}
 use native.Mathlib.Omega.{arith}
 use mathlib.Core.Path.{_≡_, sym, _∙_}
-use mathlib.Core.List.{_∷_}
 use borrow.Author.Needs.{needs}
 use lib.ListN.{length}
 use Rattle.annex.specs.Heads.{oftenOf}
@@ -13,7 +12,7 @@ use Rattle.annex.specs.Walk.{unseen, timesSeen}
 use Rattle.annex.specs.Writing.{itemsWriting}
 use Rattle.laws.specs.Laid.{own-header}
 use Rattle.parameter.specs.Laying.{itemFrom}
-use Rattle.writer.specs.Along.{transferAt, ownAt, usedAt, itemsAt, Turn, turn, items-none, length-mapped}
+use Rattle.writer.specs.Along.{transferAt, ownAt, usedAt, itemsAt, Turn, turn, items-end, length-mapped}
 use Rattle.writer.specs.Refusing.{ItemPassed, item-passed, items-refused, items-accepted, items-over}
 use Rattle.writer.proofs.refusing.items_refusal.Statement.{statement}
 use Rattle.writer.proofs.refusing.items_refusal.Tie as tie
@@ -72,26 +71,13 @@ header-is c =
     let q = a .before .before .before .args .t1 in
     own-header (rawItem (transferAt q (a .loop .k)) (ownAt q (a .loop .k) (a .loop .used)))
 
--- the parameters from k on
-left-is : (c : tie.In-loop Inv-loop μ-loop) →
-    let a = c .before in
-    let st = a .before .before .before in
-    let end = st .args .first + st .args .n in
-    itemsAt (st .args .t1) (a .loop .k) (end - a .loop .k) ≡ itemAt c ∷ itemsAt (st .args .t1) (a .loop .k + 1) (end - (a .loop .k + 1))
-left-is c =
-    let a = c .before in
-    let st = a .before .before .before in
-    let end = st .args .first + st .args .n in
-    let e : end - a .loop .k ≡ suc (end - (a .loop .k + 1)) = omega arith in
-    rw e (here c .items (end - (a .loop .k + 1)))
-
 returns : tie.Need-returns Inv-loop μ-loop
 returns c =
     let r = c .before .before .before in
     let i = r .before .before .before .before .before .before in
     let a = i .before in
     let e = c .before .enum-told .given .1 in
-    c .placed .ensures ∙ rw e (sym (a .loop .inv .4 ∙ rw (left-is i)
+    c .placed .ensures ∙ rw e (sym (a .loop .inv .4 ∙ rw (here i .items _ (i .loop-test .taken))
     (items-refused (a .loop .seen) (a .loop .at) _ (itemAt i) _ _ (header-is i) (sym (r .refusal .ensures)) _ _ e)))
 
 -- what an accepted one says
@@ -126,7 +112,7 @@ loop-again c =
       omega arith,
       here i .next,
       omega (arith, taken c .behind, taken c .short, e, a .loop .inv .3),
-      a .loop .inv .4 ∙ rw (left-is i)
+      a .loop .inv .4 ∙ rw (here i .items _ (i .loop-test .taken))
           (items-accepted (a .loop .seen) (a .loop .at) _ (itemAt i) _ _ (header-is i) (sym (r .refusal .ensures)) _ (c .before .a .given .1)),
     )
 
@@ -134,8 +120,7 @@ returns-2 : tie.Need-returns-2 Inv-loop μ-loop
 returns-2 c =
     let a = c .before in
     let st = a .before .before .before in
-    let e : st .args .first + st .args .n - a .loop .k ≡ 0 = omega arith in
-    sym (a .loop .inv .4 ∙ rw (e, items-none (st .args .t1) (a .loop .k), items-over (a .loop .seen) (a .loop .at)))
+    sym (a .loop .inv .4 ∙ rw (items-end (st .args .t1) (a .loop .k) (st .args .first + st .args .n) (c .loop-test .left), items-over (a .loop .seen) (a .loop .at)))
 
 pub items-refusal-spec : {M : Type 1} → statement M
 items-refusal-spec =

@@ -36,7 +36,7 @@ put-data-spec =
     (λ c κs. search needs)
     (λ c. search needs)
     (λ c. search needs)
-    slice-write-room-2
     (λ c. search needs)
+    slice-write-room-2
     (λ c. search needs)
     returns)

@@ -1,5 +1,5 @@
 -- `put_items` meets its contract. The invariant is `Laid`: the parameters before k stand at the front of the room.
-use Prim.Native.Nat.{suc, _+_, _-_, _≤_}
+use Prim.Native.Nat.{_+_, _-_, _≤_}
 use native.Mathlib.Omega.{arith}
 use mathlib.Core.Path.{_≡_, _∙_}
 use mathlib.Core.List.{[], _++_}
@@ -9,7 +9,7 @@ use lib.ListN.{length, take, drop}
 use Rattle.annex.specs.Items.{Item}
 use Rattle.annex.specs.Layout.{layoutItem, layoutItems}
 use Rattle.parameter.specs.Laying.{itemFrom, atFront}
-use Rattle.writer.specs.Along.{transferAt, ownAt, usedAt, itemsAt, Turn, turn, items-none, length-mapped}
+use Rattle.writer.specs.Along.{transferAt, ownAt, usedAt, itemsAt, Turn, turn, items-end, length-mapped}
 use Rattle.writer.proofs.Rooms.{Laid, laid-start, laid-length, laid-at, laid-count, laid-end, laid-fits, laid-room, laid-turn}
 use Rattle.writer.proofs.writing.put_items.Statement.{statement}
 use Rattle.writer.proofs.writing.put_items.Tie as tie
@@ -60,8 +60,7 @@ left-is c =
     let a = c .before in
     let st = a .before .before .before .before in
     let end = st .args .first + st .args .n in
-    let e : end - a .loop .k ≡ suc (end - (a .loop .k + 1)) = omega arith in
-    rw (e, here c .items (end - (a .loop .k + 1)))
+    rw (here c .items end (c .loop-test .taken))
 
 mul-t : tie.Need-mul-t Inv-loop μ-loop
 mul-t c = omega (arith, here c .place)
@@ -130,8 +129,7 @@ unfolding layoutItems
 returns c =
     let a = c .before in
     let st = a .before .before .before .before in
-    let e : st .args .first + st .args .n - a .loop .k ≡ 0 = omega arith in
-    let none : layoutItems (itemsAt (st .args .t1) (a .loop .k) (st .args .first + st .args .n - a .loop .k)) ≡ [] = rw (e, items-none (st .args .t1) (a .loop .k)) in
+    let none : layoutItems (itemsAt (st .args .t1) (a .loop .k) (st .args .first + st .args .n - a .loop .k)) ≡ [] = rw (items-end (st .args .t1) (a .loop .k) (st .args .first + st .args .n) (c .loop-test .left)) in
     (laid-count (a .loop .inv .3) (st .pre .1) none, laid-end (a .loop .inv .3) (st .pre .1) none)
 
 pub put-items-spec : {M : Type 1} → statement M

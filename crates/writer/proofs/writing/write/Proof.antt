@@ -3,23 +3,23 @@ use Prim.Native.Nat.{ℕ, _+_, _<_}
 use native.Mathlib.Omega.{arith}
 use mathlib.Core.Path.{_≡_, sym, _∙_}
 use mathlib.Core.List.{_++_}
+use mir.Syntax.{w8}
 use borrow.Author.Needs.{needs, elem-fits-field}
 use borrow.Author.Tests.{lt-ltb}
-use mir.Syntax.{w8}
 use lib.ListN.{length, getD, drop}
 use Rattle.annex.specs.Layout.{layout}
 use Rattle.annex.specs.Records.{view}
 use Rattle.annex.specs.Writing.{structWriting, writingOf, writtenOf}
 use Rattle.annex.specs.declared.Answer.the-variants.{Accepted}
-use Rattle.theorems.specs.Writings.{StructWritten, struct-written, with-room, room-after}
-use Rattle.parameter.specs.Laying.{atFront, low-octets}
-use Rattle.writer.specs.Limits.{told-whole}
-use Rattle.theorems.specs.Views.{FitsStruct, OctetCommon, OctetTransfer}
 use Rattle.annex.proofs.Common.{the-field as common-field}
 use Rattle.annex.proofs.Transfer.{the-field as transfer-field}
+use Rattle.theorems.specs.Writings.{StructWritten, struct-written, with-room, room-after}
+use Rattle.theorems.specs.Views.{FitsStruct, OctetCommon, OctetTransfer}
+use Rattle.parameter.specs.Laying.{atFront, low-octets}
 use Rattle.reader.proofs.Octets.{octets-every}
-use Rattle.writer.proofs.Fields.{each-element}
+use Rattle.writer.specs.Limits.{told-whole}
 use Rattle.writer.specs.Along.{length-mapped}
+use Rattle.writer.proofs.Fields.{each-element}
 use Rattle.writer.proofs.writing.write.Statement.{statement}
 use Rattle.writer.proofs.writing.write.Tie as tie
 
