@@ -25,9 +25,8 @@ use Rattle.annex.specs.Reading.{
   openCommon,
   recordOf,
 }
-use Rattle.annex.specs.Records.{readBy, readingOf}
 use Rattle.annex.specs.Editing.{Edit, editRefusal, replaced, removed, editedItems, edited, recordEditing, editingOf, bufferOf}
-use Rattle.annex.specs.Editing.Edit.{Replacing, Appending, Removing}
+use Rattle.annex.specs.Editing.Edit.{Replacing}
 use Rattle.annex.specs.declared.Answer.{Answer}
 use Rattle.annex.specs.declared.Answer.the-variants.{Accepted, Refused}
 

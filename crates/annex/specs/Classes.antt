@@ -1,6 +1,6 @@
 -- Classes of code values: document 01, "Classes of code values", and refusals 17 and 12, in that order.
 use Prim.Native.Nat.{ℕ, _/_, _%_}
-use mathlib.Core.Bool.{Bool, true, false, cond, _&&_, _||_}
+use mathlib.Core.Bool.{Bool, false, cond, _&&_, _||_}
 use mathlib.Core.List.{List, [], _∷_}
 use lib.Dec.{eqb, leb}
 use Rattle.annex.specs.Answers.{bad-form, no-class-list}

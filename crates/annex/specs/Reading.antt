@@ -1,10 +1,10 @@
 -- Reading: document 01, "Refusal numbers and their order", Reading: the tests of a transfer parameter, of a common parameter and of the end
 -- mark, each in the order of their numbers, over the message from left to right; and the record of an accepted message.
-use Prim.Native.Nat.{ℕ, zero, suc, _+_, _-_, _*_}
-use mathlib.Core.Bool.{Bool, true, false, cond, not, _&&_, _||_}
+use Prim.Native.Nat.{ℕ, _+_, _*_}
+use mathlib.Core.Bool.{Bool, true, cond, not, _&&_, _||_}
 use mathlib.Core.List.{List, [], _∷_, map}
 use lib.Dec.{eqb, ltb, leb}
-use lib.ListN.{length, getD, take, drop}
+use lib.ListN.{length, getD, take}
 use Rattle.annex.specs.Answers.{
   over-limits,
   unlisted,

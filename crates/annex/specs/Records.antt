@@ -1,10 +1,10 @@
 -- The record as a struct, and as the sequence of values that it stands for: document 01, "Writing". Two structs that stand for the same values
 -- are the same record; in a struct handed out all room that is not used is zero.
-use Prim.Native.Nat.{ℕ, zero, suc, _+_, _-_, _/_, _%_}
-use mathlib.Core.Bool.{Bool, true, false, cond, _&&_}
+use Prim.Native.Nat.{ℕ, _+_, _-_, _/_, _%_}
+use mathlib.Core.Bool.{Bool, cond, _&&_}
 use mathlib.Core.List.{List, [], _∷_, _++_, map}
 use lib.Dec.{eqb, leb}
-use lib.ListN.{length, getD, take, drop, replicate}
+use lib.ListN.{length, take, drop, replicate}
 use Rattle.annex.specs.Heads.{transfer-data, most-commons, most-transfers}
 use Rattle.annex.specs.Items.{Item, Part, ownOf}
 use Rattle.annex.specs.Allowed.{itemsIn, ownPart}

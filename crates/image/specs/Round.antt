@@ -1,13 +1,13 @@
 -- The image of a record, read, is the record: each part of it is read from where it stands.
-use Prim.Native.Nat.{ℕ, suc, _+_, _*_, _/_, _%_, _≤_, _<_}
+use Prim.Native.Nat.{ℕ, _+_, _*_, _/_, _%_, _≤_, _<_}
 use native.Mathlib.Nat.{div-div-eq-div-mul}
 use native.Mathlib.Omega.{arith}
 use mathlib.Core.Path.{_≡_, refl, sym, ap, _∙_}
-use mathlib.Core.Bool.{Bool, true, false, cond, _&&_}
+use mathlib.Core.Bool.{Bool, true, false, cond}
 use mathlib.Core.List.{List, [], _∷_, _++_, append-assoc, append-nil}
 use borrow.Author.Tests.{eq-eqb, le-leb, ltb-true}
 use lib.Dec.{eqb, leb}
-use lib.ListN.{length, take, drop, length-append}
+use lib.ListN.{length, drop, length-append}
 use lib.Seq.{take-append-seam, drop-append-seam}
 use Rattle.annex.specs.Heads.{transfer-data, most-commons, most-transfers, call-numbers}
 use Rattle.annex.specs.Items.{Item, Part}
@@ -19,8 +19,8 @@ use Rattle.theorems.specs.Lists.{each-left, each-right, each-so}
 use Rattle.theorems.specs.Commons.{Kind, kind, AllowedPart}
 use Rattle.theorems.specs.Commons.Kind.{octet, call, many}
 use Rattle.theorems.specs.Records.{plain-items, allowed-parts, Within, allowed-within}
-use Rattle.image.specs.Image.{imageItem, imageItems, imagePart, imageParts, imageOf, Front, more, headAt, itemAt, itemSize, itemsAt, commonAt, partAt, partsAt, isWithin, imagedOf}
-use Rattle.image.specs.Image.Front.{Taken, Short}
+use Rattle.image.specs.Image.{imageItem, imageItems, imagePart, imageParts, imageOf, itemAt, itemSize, itemsAt, commonAt, partAt, partsAt, isWithin, imagedOf}
+use Rattle.image.specs.Image.Front.{Taken}
 
 -- ---- a transfer parameter, octets behind it
 

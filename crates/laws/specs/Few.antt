@@ -1,7 +1,7 @@
 -- Laws of how many there are: a name that may stand only so often bounds what is listed. Hence at most 52 parameters in transfer data,
 -- and at most 59 rows of a message.
 use mathlib.Core.Path.{_≡_, refl, _∙_}
-use mathlib.Core.Bool.{Bool, true, false, cond, _||_}
+use mathlib.Core.Bool.{Bool, true, false, cond}
 use mathlib.Core.List.{List, [], _∷_}
 use Prim.Native.Nat.{ℕ, zero, suc, _+_, _-_, _%_, _≤_, _<_}
 use native.Mathlib.Omega.{arith}
@@ -10,14 +10,12 @@ use lib.Dec.{eqb, leb}
 use lib.ListN.{length, getD, set, take, length-set, length-append, length-map}
 use Rattle.annex.specs.Units.{nameOf}
 use Rattle.annex.specs.Heads.{among, listedHeaders, transfer-data, nameUsed, oftenOf, most-transfers}
-use Rattle.annex.specs.Allowed.{every}
 use Rattle.annex.specs.Walk.{Seen, unseen, timesSeen, counted, Par, Step, byStep, walk, listing}
 use Rattle.annex.specs.Reading.{transferStep, transfersOf, commonStep, commonsOf, dataIn}
 use Rattle.annex.specs.Spans.{transferRows, innerRows, commonRows, rowsOf}
 use Rattle.annex.specs.declared.Answer.{Answer}
 use Rattle.annex.specs.declared.Answer.the-variants.{Accepted, Refused}
 use Rattle.laws.specs.Members.{among-every}
-use Rattle.laws.specs.Bools.{and-left, and-right}
 use Rattle.laws.specs.Steps.{transfer-taken, common-taken}
 use Rattle.laws.specs.Rows.{sumOf, parAt, transfer-rows}
 

@@ -1,13 +1,13 @@
 -- Filling a record's struct: what it is to become of what it holds and of what is still to come.
-use mathlib.Core.Path.{_≡_, refl, sym, ap, _∙_}
+use mathlib.Core.Path.{_≡_, refl, ap, _∙_}
 use mathlib.Core.Bool.{Bool, true, false, cond}
 use mathlib.Core.List.{List, [], _∷_, _++_, map, append-assoc}
-use Prim.Native.Nat.{ℕ, zero, suc, _+_, _-_, _≤_, _<_}
+use Prim.Native.Nat.{ℕ, zero, suc, _+_, _-_, _≤_}
 use native.Mathlib.Nat.{add-zero}
 use native.Mathlib.Omega.{arith}
 use lib.Dec.{eqb}
 use borrow.Author.Tests.{eqb-true}
-use lib.ListN.{length, getD, take, drop, set, replicate, length-append, length-map, length-replicate}
+use lib.ListN.{length, getD, drop, set, replicate, length-map, length-replicate}
 use lib.Seq.{sets, sets-eq}
 use Rattle.annex.specs.Heads.{transfer-data, isCall}
 use Rattle.annex.specs.Items.{Item, Part}
@@ -17,7 +17,6 @@ use Rattle.annex.specs.Reading.{callNumber, openTransfer, dataIn, openCommon, t
 use Rattle.annex.specs.Records.{octetHead, callHead, dataHead, noCommon, noTransfer, pad, headOf, commonHeadOf, valuesOf, pack}
 use Rattle.annex.specs.declared.Common.{Common}
 use Rattle.annex.specs.declared.Record.{Record}
-use Rattle.laws.specs.Plain.{pars, transferSize}
 
 -- the struct q, of whose transfer places k and of whose values `used` are taken, with these parameters of C5 put in
 abbrev pub withItems : Record → List Item → ℕ → ℕ → Record

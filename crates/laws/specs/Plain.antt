@@ -7,35 +7,18 @@ use Prim.Native.Nat.{ℕ, zero, suc, _+_, _-_, _≤_, _<_}
 use native.Mathlib.Nat.{add-zero}
 use native.Mathlib.Numerals.{add-one}
 use native.Mathlib.Omega.{arith}
-use borrow.Author.Tests.{leb-true, le-leb, lt-leb, eqb-true, eqb-false}
+use borrow.Author.Tests.{leb-true, le-leb, lt-leb}
 use lib.Dec.{leb, eqb, ltb}
-use lib.ListN.{length, getD, take, drop, length-drop, length-take, drop-of-length-le}
-use lib.Seq.{drop-cons, drop-drop, drop-nil, length-take-le}
-use Rattle.annex.specs.Units.{afterOf, leadOf, extentOf, commonExtentOf, contentsIn}
+use lib.ListN.{length, getD, take, drop, length-drop, drop-of-length-le}
+use lib.Seq.{drop-cons, drop-drop, length-take-le}
+use Rattle.annex.specs.Units.{afterOf, extentOf, commonExtentOf, contentsIn}
 use Rattle.annex.specs.Answers.{over-limits}
 use Rattle.annex.specs.Heads.{end-mark, transfer-data, most-octets}
 use Rattle.annex.specs.Allowed.{Each}
 use Rattle.annex.specs.Walk.{Seen, unseen, counted, Par, Step, byStep, walk, judging, listing}
-use Rattle.annex.specs.Reading.{
-  transferStep,
-  transfersVerdict,
-  transfersOf,
-  commonForm,
-  endOf,
-  dataOf,
-  commonOf,
-  commonStep,
-  commonClose,
-  messageVerdict,
-  verdictOf,
-  wholeIn,
-  commonsOf,
-  dataIn,
-}
+use Rattle.annex.specs.Reading.{transferStep, transfersVerdict, transfersOf, endOf, dataOf, commonStep, commonClose, messageVerdict, verdictOf, wholeIn, commonsOf, dataIn}
 use Rattle.annex.specs.declared.Answer.{Answer}
 use Rattle.annex.specs.declared.Answer.the-variants.{Accepted, Refused}
-use Rattle.annex.specs.declared.Extent.{Extent}
-use Rattle.annex.specs.declared.Extent.the-variants.{Fixed, CountOctet, LengthOctet}
 use Rattle.laws.specs.Steps.{passed, transfer-taken, common-taken, common-formed, common-within, data-taken}
 
 -- how many octets after a header are its own, of the octets after it

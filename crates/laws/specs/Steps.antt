@@ -1,10 +1,10 @@
 -- Laws of the steps of reading: what an accepted step says, and that its octets, and a refusal's place, lie within what it was handed.
-use mathlib.Core.Path.{_≡_, refl, sym, ap, _∙_}
+use mathlib.Core.Path.{_≡_, refl, sym, _∙_}
 use mathlib.Core.Bool.{Bool, true, false, cond, not}
 use mathlib.Core.List.{List, [], _∷_}
 use Prim.Native.Nat.{ℕ, zero, suc, _+_, _-_, _≤_, _<_}
 use native.Mathlib.Omega.{arith}
-use borrow.Author.Tests.{ltb-false, leb-false, eqb-true, not-false, lt-ltb}
+use borrow.Author.Tests.{ltb-false, leb-false, not-false}
 use lib.Dec.{eqb, ltb, leb}
 use lib.ListN.{length, getD, take, drop, length-drop, length-take}
 use Rattle.laws.specs.Parts.{from-to}

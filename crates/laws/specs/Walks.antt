@@ -1,5 +1,5 @@
 -- Laws of a walk: one turn, at a header and at an index of the whole list. They hold of any step, close, stop and more.
-use mathlib.Core.Path.{_≡_, refl, sym, ap, _∙_}
+use mathlib.Core.Path.{_≡_, ap, _∙_}
 use mathlib.Core.List.{List, [], _∷_}
 use Prim.Native.Nat.{ℕ, zero, suc, _+_, _≤_, _<_}
 use native.Mathlib.Nat.{add-zero}
@@ -7,8 +7,7 @@ use native.Mathlib.Numerals.{add-one}
 use native.Mathlib.Omega.{arith}
 use lib.ListN.{length, getD, take, drop, drop-of-length-le}
 use lib.Seq.{drop-cons, drop-drop}
-use Rattle.annex.specs.Walk.{Seen, counted, Par, Step, Walker, walk}
-use Rattle.annex.specs.declared.Answer.{Answer}
+use Rattle.annex.specs.Walk.{Seen, counted, Walker, walk}
 use Rattle.annex.specs.declared.Answer.the-variants.{Accepted, Refused}
 
 module _ {R : Type 0} (r : Walker R) where

@@ -1,15 +1,15 @@
 -- The turns of `fill`: what the struct is to become of the whole message, it becomes of the parameters from i on, for which there is room.
 use Prim.Native.Nat.{ℕ, _≤_, _<_, _+_, _-_}
 use native.Mathlib.Omega.{arith}
-use mathlib.Core.Path.{_≡_, refl, sym, ap, _∙_}
-use mathlib.Core.List.{List, [], _∷_, _++_, map}
-use lib.ListN.{length, getD, set, drop, length-append}
+use mathlib.Core.Path.{_≡_, sym, ap, _∙_}
+use mathlib.Core.List.{List, [], _∷_, map}
+use lib.ListN.{length, getD, set, length-append}
 use Rattle.annex.specs.Units.{afterOf, commonExtentOf}
-use Rattle.annex.specs.Heads.{end-mark, transfer-data}
-use Rattle.annex.specs.Items.{Item, Part}
+use Rattle.annex.specs.Heads.{end-mark}
+use Rattle.annex.specs.Items.{Part}
 use Rattle.annex.specs.Allowed.{Each, every, isOctet, itemsIn}
 use Rattle.annex.specs.Walk.{Par}
-use Rattle.annex.specs.Reading.{verdictOf, commonsOf, openCommon, withoutEnd, dataIn, recordOf}
+use Rattle.annex.specs.Reading.{verdictOf, commonsOf, openCommon, withoutEnd, recordOf}
 use Rattle.annex.specs.Records.{valuesOf, commonHeadOf, pack}
 use Rattle.annex.specs.declared.Common.{Common}
 use Rattle.annex.specs.declared.Record.{Record}
@@ -18,18 +18,7 @@ use mathlib.Core.Bool.{true}
 use Rattle.laws.specs.Plain.{InnerSound, commons-plain, commons-inner}
 use Rattle.laws.specs.Filling.{withItems, withParts, emptyRecord, filled-whole, filled-none, part-put, values-append}
 use Rattle.theorems.specs.Messages.{read-within}
-use Rattle.reader.specs.Filling.{
-  itemsFrom,
-  parsAt,
-  partsAt,
-  parAt,
-  parts-end,
-  pars-mark,
-  parts-mark,
-  parts-cut,
-  pars-more,
-  parts-more,
-}
+use Rattle.reader.specs.Filling.{parsAt, partsAt, parAt, pars-mark, parts-mark, pars-more, parts-more}
 
 pub record Filling (m : List ℕ) (q : Record) (transfers used i : ℕ) : Type 0 where
   pub inside : i ≤ length m

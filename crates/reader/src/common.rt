@@ -2,10 +2,10 @@
 use annex::Answer;
 use annex::Common;
 use annex::Signal;
+use parameter::contents::octet_at;
 use parameter::units::common_extent_of;
 use parameter::units::octets_after;
 ghost use mathlib.Core.Path.{_≡_};
-ghost use lib.ListN.{getD};
 ghost use Rattle.annex.specs.Heads.{among, listedHeaders, signalKinds};
 ghost use Rattle.annex.specs.Reading.{octetAllowed, commonForm, endOf};
 
@@ -58,16 +58,6 @@ pub fn octet_allowed(header: u8, octet: u8) -> bool
     }
 }
 
-// The first octet, or 0.
-pub fn first(xs: &[u8]) -> u8
-    ensures { λ r. ⌜ r ≡ getD (now (xs .entry)) 0 0 ⌝ }
-{
-    if xs.len() == 0 {
-        return 0;
-    }
-    xs[0]
-}
-
 // 2 to 5 of a common parameter whose name stood so many times before; xs are the octets after its header.
 pub fn common_form(times: u8, header: u8, xs: &[u8]) -> Answer
     ensures { λ r. ⌜ r ≡ commonForm times header (now (xs .entry)) ⌝ }
@@ -78,7 +68,7 @@ pub fn common_form(times: u8, header: u8, xs: &[u8]) -> Answer
     if 0 < times {
         return Answer::Refused(Answer::REPEATED, 0);
     }
-    let x = first(xs);
+    let x = octet_at(xs, 0);
     let n = octets_after(common_extent_of(header), x);
     if xs.len() < n {
         return Answer::Refused(Answer::CUT_SHORT, 0);

@@ -1,10 +1,10 @@
 // Finding contents: reading's refusals first, then 16; what is found is a part of the caller's own message.
-use super::common::first;
 use super::verdict::verdict;
 use annex::Answer;
 use annex::Common;
 use annex::Extent;
 use annex::Found;
+use parameter::contents::octet_at;
 use parameter::units::common_extent_of;
 use parameter::units::extent_of;
 use parameter::units::lead;
@@ -22,7 +22,7 @@ ghost use Rattle.laws.specs.Finding.{contentsAfter, commonSearch, transferSearc
 fn contents_after(e: Extent, xs: &[u8]) -> Found
     ensures { λ r. ⌜ r ≡ contentsAfter e (now (xs .entry)) ⌝ }
 {
-    let n = octets_after(e, first(xs));
+    let n = octets_after(e, octet_at(xs, 0));
     if xs.len() < n {
         return Found::Nowhere;
     }

@@ -1,10 +1,10 @@
 // The rows of a listing: one to a parameter, in order of offset, those of a C5 right after its own. One walk serves the count and row k.
-use super::common::first;
 use super::verdict::verdict;
 use annex::Answer;
 use annex::Common;
 use annex::Extent;
 use annex::Row;
+use parameter::contents::octet_at;
 use parameter::units::common_extent_of;
 use parameter::units::extent_of;
 use parameter::units::lead;
@@ -62,7 +62,7 @@ fn seek_transfers(t: &[u8], s: usize, k: usize) -> Sought
         let h = t[i];
         let from = i + 1;
         let e = extent_of(h);
-        let n = octets_after(e, first(&t[from..]));
+        let n = octets_after(e, octet_at(&t[from..], 0));
         if left == 0 {
             return Sought::Here(row(e, s + i, h, n));
         }
@@ -95,7 +95,7 @@ fn seek(m: &[u8], k: usize) -> Sought
         let h = m[i];
         let from = i + 1;
         let e = common_extent_of(h);
-        let n = octets_after(e, first(&m[from..]));
+        let n = octets_after(e, octet_at(&m[from..], 0));
         let end = from + n;
         if left == 0 {
             return Sought::Here(row(e, i, h, n));

@@ -8,7 +8,8 @@ fn case(name: &[u8], message: &[u8]) {
 fn main() {
     accepted();
     common_part();
-    transfer_data();
+    transfer_headers();
+    transfer_contents();
 }
 
 fn accepted() {
@@ -62,7 +63,7 @@ fn common_part() {
     );
 }
 
-fn transfer_data() {
+fn transfer_headers() {
     case(b"8: an unused name", b"\x01\x01\x06\x11\xc5\x01\x08\x00");
     case(b"9: another PLI", b"\x01\x01\x06\x11\xc5\x02\x81\x01\x00");
     case(
@@ -78,6 +79,9 @@ fn transfer_data() {
         b"11: half-octets counted, not octets",
         b"\x01\x01\x06\x11\xc5\x03\x90\x04\x21\x00",
     );
+}
+
+fn transfer_contents() {
     case(
         b"12: a zero bit set",
         b"\x01\x01\x06\x11\xc5\x02\x41\x02\x00",

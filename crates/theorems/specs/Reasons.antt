@@ -2,7 +2,7 @@
 -- has passed them all, and with all passed it is accepted.
 use Prim.Native.Nat.{ℕ, _≤_, _<_}
 use native.Mathlib.Omega.{arith}
-use mathlib.Core.Path.{_≡_, refl, sym, _∙_}
+use mathlib.Core.Path.{_≡_, sym, _∙_}
 use mathlib.Core.Bool.{Bool, true, false, not}
 use mathlib.Core.List.{List}
 use mathlib.Core.Logic.{_↔_}
@@ -10,7 +10,7 @@ use borrow.Author.Tests.{eqb-true, eqb-false, eq-eqb, ne-eqb, leb-false, lt-leb,
 use lib.Dec.{eqb, leb, ltb}
 use lib.ListN.{length, getD, take}
 use lib.Seq.{length-take-le}
-use Rattle.annex.specs.Answers.{repeated-name, transfer-over, no-room, absent, refuse, andThen}
+use Rattle.annex.specs.Answers.{repeated-name, transfer-over, no-room, absent, refuse}
 use Rattle.annex.specs.Units.{nameOf, afterOf, extentOf, contentsIn}
 use Rattle.annex.specs.Heads.{among, transfer-data, most-transfer-octets, nameUsed, pliRight, oftenOf}
 use Rattle.annex.specs.Contents.{faultOf}
@@ -20,8 +20,7 @@ use Rattle.annex.specs.Allowed.{timesIn, headersOf, itemsIn, namesOf}
 use Rattle.annex.specs.Reading.{verdictOf, recordOf}
 use Rattle.annex.specs.Editing.{Edit, newHeader, newAfter, present, newHead, newContents, editRefusal, edited, recordEditing, editingOf}
 use Rattle.annex.specs.Editing.Edit.{Replacing, Appending, Removing}
-use Rattle.annex.specs.declared.Answer.{Answer}
-use Rattle.annex.specs.declared.Answer.the-variants.{Accepted, Refused}
+use Rattle.annex.specs.declared.Answer.the-variants.{Accepted}
 use Rattle.annex.specs.declared.Fault.the-variants.{Sound}
 use Rattle.laws.specs.Steps.{passed, then-passed, sounded}
 use Rattle.theorems.specs.Lengths.{Long}

@@ -9,9 +9,7 @@ use lib.Dec.{eqb}
 use lib.ListN.{length, take, drop, replicate, length-append, length-map}
 use lib.Seq.{take-append-seam, drop-append-seam, take-at, drop-at}
 use Rattle.annex.specs.Heads.{transfer-data, most-commons, most-transfers}
-use Rattle.annex.specs.Items.{Item, Part, Holding, heldAs, ownBy, ownOf}
-use Rattle.annex.specs.Items.Holding.{AsContents, AsDigits, AsNumber, AsGeneric}
-use Rattle.annex.specs.Heads.Marks.{Unmarked, Notified, Verified, Typed}
+use Rattle.annex.specs.Items.{Item, Part}
 use Rattle.annex.specs.Allowed.{every, Each, isOctet, HeldItem, HeldPart, Held, ownPart, itemsIn}
 use Rattle.annex.specs.Records.{noCommon, noTransfer, pad, headOf, commonHeadOf, valuesOf, pack, rawItem, viewItems, lengthsOf, transfersIn, transfersSum, viewParts, commonsIn, isWhole, view}
 use Rattle.annex.specs.declared.Common.{Common}

@@ -1,16 +1,16 @@
 -- Wrong programs that the promises shut out, each with the input at which it breaks one: those that document 01 names under "How tight each
 -- promise is", and two for every other public function. The listing's stand in crate rows, the classes' in crate classes.
-use Prim.Native.Nat.{ℕ, _+_}
+use Prim.Native.Nat.{ℕ}
 use native.Mathlib.Omega.{arith}
-use mathlib.Core.Path.{_≡_, refl, ap, sym, _∙_}
+use mathlib.Core.Path.{_≡_, refl, ap, _∙_}
 use mathlib.Core.List.{List, [], _∷_, _++_}
-use lib.ListN.{length, getD, drop, replicate}
+use lib.ListN.{length, getD, replicate}
 use Rattle.annex.specs.Answers.{numberOf, placeOf, givenOf}
 use Rattle.annex.specs.Units.{afterOf, leadOf, commonExtentOf, extentOf}
 use Rattle.annex.specs.Heads.{nameUsed, pliRight, oftenOf, zeroesOf, formOf}
 use Rattle.annex.specs.Digits.{halves, joined, digitOf, codeOf, isCode, halvesFault, digitsFault, digitsOf, packed}
 use Rattle.annex.specs.Contents.{numberFault, callingFault, genericFault, dialledFault, twoFault, faultOf}
-use Rattle.annex.specs.Items.{Item, Part, holdingOf, itemOf, contentsOf, ownOf, plainItem, markedItem}
+use Rattle.annex.specs.Items.{holdingOf, itemOf, contentsOf, ownOf}
 use Rattle.annex.specs.Layout.{layoutItem, layoutItems, layoutPart, layout}
 use Rattle.annex.specs.Allowed.{lengthRight, formRight, digitsRight, valueRight, valueFits}
 use Rattle.annex.specs.Walk.{walk}

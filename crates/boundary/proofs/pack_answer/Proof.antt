@@ -1,5 +1,4 @@
 -- `pack_answer` meets its contract: its arms are the cases of the definition.
-use mathlib.Core.Path.{_≡_, _∙_}
 use borrow.Author.Needs.{needs}
 use Rattle.boundary.proofs.pack_answer.Statement.{statement}
 use Rattle.boundary.proofs.pack_answer.Tie as tie

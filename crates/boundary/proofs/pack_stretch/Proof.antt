@@ -1,5 +1,4 @@
 -- `pack_stretch` meets its contract: its arms are the cases of the definition.
-use mathlib.Core.Path.{_≡_, _∙_}
 use borrow.Author.Needs.{needs}
 use Rattle.boundary.proofs.pack_stretch.Statement.{statement}
 use Rattle.boundary.proofs.pack_stretch.Tie as tie

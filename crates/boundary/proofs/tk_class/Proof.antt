@@ -1,5 +1,4 @@
 -- `tk_class` meets its contract: its arms are the cases of the definition.
-use mathlib.Core.Path.{_≡_, _∙_}
 use borrow.Author.Needs.{needs}
 use Rattle.boundary.proofs.tk_class.Statement.{statement}
 use Rattle.boundary.proofs.tk_class.Tie as tie

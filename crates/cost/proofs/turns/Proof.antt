@@ -1,8 +1,7 @@
 -- `turns` is safe and ends: the turns that are left fall, and the message keeps its length.
 use Prim.Native.Nat.{_≤_, _-_}
-use mathlib.Core.Path.{_≡_, _∙_}
+use mathlib.Core.Path.{_≡_}
 use lib.ListN.{length}
-use native.Mathlib.Omega.{arith}
 use borrow.Author.Needs.{needs}
 use Rattle.cost.proofs.turns.Statement.{statement}
 use Rattle.cost.proofs.turns.Tie as tie

@@ -36,7 +36,7 @@ use denote.Builtin.{u8, usize}
 use denote.Ref.{RefT, now}
 use denote.Slice.{sliceTy, sliceVal, slice-vals, MutSlice, ShrSlice, Room, heres, codedHoleys, at-slice, mut-slice-tells, shr-slice-tells, mut-slice-lawful, shr-slice-lawful, shr-slice-copy}
 use denote.Lend.{Held}
-use denote.Index.{place, place-is, row, elem-out, elem-put, opens-slice, closes-slice}
+use denote.Index.{place-is, row, elem-out, elem-put, opens-slice, closes-slice}
 use denote.Signature.{plain}
 use denote.Steps.{only, owned, peeks, heard, nothing}
 use denote.Enum.Laws as EL

@@ -3,7 +3,6 @@ use Prim.Native.Nat.{ℕ, _+_, _/_, _%_}
 use mathlib.Core.Path.{_≡_, ap}
 use native.Mathlib.Omega.{arith}
 use borrow.Author.Needs.{needs}
-use Rattle.annex.specs.declared.Octets.{Octets}
 use Rattle.annex.proofs.HalfOctets.octets.Statement.{statement}
 use Rattle.annex.proofs.HalfOctets.octets.Tie as tie
 

@@ -2,7 +2,6 @@
 use native.Mathlib.Omega.{arith}
 use borrow.Author.Needs.{needs}
 use borrow.Author.Tests.{eq-eqb, ne-eqb}
-use lib.ListN.{getD}
 use Rattle.annex.specs.Heads.{transfer-data}
 use Rattle.image.proofs.reading.common_head.Statement.{statement}
 use Rattle.image.proofs.reading.common_head.Tie as tie

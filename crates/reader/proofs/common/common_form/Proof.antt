@@ -1,10 +1,9 @@
 -- `common_form` meets its contract: its tests are those of the definition, in their order.
-use Prim.Native.Nat.{ℕ}
 use mathlib.Core.Path.{_≡_}
 use mathlib.Core.Bool.{not}
 use denote.Ref.{now}
 use lib.Dec.{ltb}
-use lib.ListN.{length, getD}
+use lib.ListN.{length}
 use borrow.Author.Needs.{needs}
 use borrow.Author.Tests.{lt-ltb, le-ltb}
 use Rattle.annex.specs.Answers.{refuse, cut-short, not-allowed}
@@ -26,11 +25,11 @@ so-far : (c : tie.After-octets-after) →
     let a = c .before .before .before .before .before .before .before .args in
     let n = c .octets-after .result in
     commonForm (a .times) (a .header) (now (a .xs))
-    ≡ refuse (ltb (length (now (a .xs))) n) cut-short 0 (refuse (not (octetAllowed (a .header) (c .before .before .first .result))) not-allowed 0 (Accepted n))
+    ≡ refuse (ltb (length (now (a .xs))) n) cut-short 0 (refuse (not (octetAllowed (a .header) (c .before .before .octet-at .result))) not-allowed 0 (Accepted n))
 unfolding commonForm
 so-far c =
     let f = c .before .before in
-    rw (← f .before .before .before .listed .ensures, f .before .before .if1 .left, le-ltb _ _ (f .before .if2 .left), ← f .first .ensures, ← c .before .common-extent-of .ensures, ← c .octets-after .ensures)
+    rw (← f .before .before .before .listed .ensures, f .before .before .if1 .left, le-ltb _ _ (f .before .if2 .left), ← f .octet-at .ensures, ← c .before .common-extent-of .ensures, ← c .octets-after .ensures)
 
 returns-3 : tie.Need-returns-3
 returns-3 c = rw (so-far (c .before), lt-ltb _ _ (c .if3 .taken))

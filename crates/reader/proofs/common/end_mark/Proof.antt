@@ -1,5 +1,4 @@
 -- `end_mark` meets its contract: its tests are those of the definition, in their order.
-use borrow.Author.Needs.{needs}
 use borrow.Author.Tests.{lt-ltb, le-ltb}
 use Rattle.annex.specs.Reading.{endOf}
 use Rattle.reader.proofs.common.end_mark.Statement.{statement}

@@ -9,13 +9,13 @@ returns : tie.Need-returns
 unfolding contentsAfter
 returns c =
     let n = c .before in
-    rw (← n .before .first .ensures, ← n .octets-after .ensures, lt-leb _ _ (c .if1 .taken))
+    rw (← n .before .octet-at .ensures, ← n .octets-after .ensures, lt-leb _ _ (c .if1 .taken))
 
 returns-2 : tie.Need-returns-2
 unfolding contentsAfter
 returns-2 c =
     let n = c .before .before in
-    rw (← n .before .first .ensures, ← n .octets-after .ensures, le-leb _ _ (c .before .if1 .left), c .lead .ensures)
+    rw (← n .before .octet-at .ensures, ← n .octets-after .ensures, le-leb _ _ (c .before .if1 .left), c .lead .ensures)
 
 pub contents-after-spec : {M : Type 1} → statement M
 contents-after-spec =

@@ -1,20 +1,19 @@
 -- `fill` meets its contract. The invariant is `Filling`: what the struct is to become of the whole message, it becomes of the parameters
 -- from i on, for which there is room.
 use Prim.Native.Nat.{ℕ, _≤_, _<_, _+_, _-_}
-use mathlib.Core.Path.{_≡_, refl, sym, ap, _∙_}
+use mathlib.Core.Path.{_≡_, sym, ap, _∙_}
 use mathlib.Core.Logic.{⊎-elim}
-use mathlib.Core.List.{List, [], _∷_}
+use mathlib.Core.List.{[]}
 use denote.Ref.{now}
 use borrow.Author.Needs.{needs}
 use native.Mathlib.Omega.{arith}
 use lib.ListN.{length, getD, take, drop}
 use Rattle.annex.specs.Units.{afterOf, commonExtentOf}
 use Rattle.annex.specs.Items.{Part}
-use Rattle.annex.specs.Reading.{openCommon, dataIn}
+use Rattle.annex.specs.Reading.{openCommon}
 use Rattle.annex.specs.Records.{valuesOf, commonHeadOf}
-use Rattle.annex.specs.declared.Common.{Common}
 use Rattle.annex.specs.declared.Record.{Record}
-use Rattle.laws.specs.Filling.{withItems, partHead, head-opened}
+use Rattle.laws.specs.Filling.{withItems, head-opened}
 use Rattle.reader.proofs.Octets.{octets-every}
 use Rattle.reader.specs.Filling.{itemsFrom, partsAt, parAt, filledWith, parts-end, parts-cut, own-part, data-is, data-items, other-items}
 use Rattle.reader.specs.declared.reading.Filled.{Filled}

@@ -1,9 +1,7 @@
 -- `read` meets its contract: the verdict decides, as in the definition.
-use mathlib.Core.Path.{_≡_, refl, sym, ap, _∙_}
-use denote.Ref.{now}
+use mathlib.Core.Path.{sym, ap, _∙_}
 use borrow.Author.Needs.{needs}
-use Rattle.annex.specs.Reading.{verdictOf}
-use Rattle.annex.specs.Records.{readBy, readingOf}
+use Rattle.annex.specs.Records.{readingOf}
 use Rattle.annex.specs.declared.Answer.the-variants.{Accepted}
 use Rattle.laws.specs.Filling.{empty-packed}
 use Rattle.theorems.specs.Messages.{message-read}

@@ -39,7 +39,7 @@ told : (c : tie.After-octets-after Inv-loop μ-loop) →
     let l = c .before .before .before .before .before .before in
     let m = now (l .before .before .args .m) in
     c .octets-after .result ≡ commonSize (getD m (l .loop .i) 0) (drop (l .loop .i + 1) m)
-told c = rw (c .octets-after .ensures, c .before .first .ensures, c .before .before .before .common-extent-of .ensures, to-end)
+told c = rw (c .octets-after .ensures, c .before .octet-at .ensures, c .before .before .before .common-extent-of .ensures, to-end)
 
 turned : (c : tie.After-octets-after Inv-loop μ-loop) →
     let l = c .before .before .before .before .before .before in

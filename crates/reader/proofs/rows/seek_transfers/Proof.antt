@@ -33,7 +33,7 @@ told : (c : tie.After-octets-after Inv-loop μ-loop) →
     let l = c .before .before .before .before .before .before in
     let t = now (l .before .before .args .t) in
     c .octets-after .result ≡ transferSize (getD t (l .loop .i) 0) (drop (l .loop .i + 1) t)
-told c = rw (c .octets-after .ensures, c .before .first .ensures, c .before .before .before .extent-of .ensures, to-end)
+told c = rw (c .octets-after .ensures, c .before .octet-at .ensures, c .before .before .before .extent-of .ensures, to-end)
 
 turned : (c : tie.After-octets-after Inv-loop μ-loop) →
     let l = c .before .before .before .before .before .before in

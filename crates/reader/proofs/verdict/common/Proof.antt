@@ -1,15 +1,13 @@
 -- `common` meets its contract: what follows 2 to 5 goes by the header, as in the definition.
-use Prim.Native.Nat.{ℕ, _+_, _≤_}
-use mathlib.Core.Path.{_≡_, refl, sym, _∙_}
+use mathlib.Core.Path.{_≡_, sym, _∙_}
 use denote.Ref.{now}
 use native.Mathlib.Omega.{arith}
 use borrow.Author.Needs.{needs}
-use borrow.Author.Tests.{eq-eqb, ne-eqb}
-use lib.ListN.{length}
+use borrow.Author.Tests.{ne-eqb}
 use Rattle.annex.specs.Units.{afterOf, commonExtentOf}
 use Rattle.annex.specs.Reading.{commonForm}
 use Rattle.annex.specs.declared.Answer.the-variants.{Accepted}
-use Rattle.laws.specs.Steps.{FormTaken, form-taken, common-formed, common-refused}
+use Rattle.laws.specs.Steps.{form-taken, common-formed, common-refused}
 use Rattle.reader.proofs.verdict.common.Statement.{statement}
 use Rattle.reader.proofs.verdict.common.Tie as tie
 

@@ -1,5 +1,5 @@
 -- `message` meets its contract. The invariant: the walk of the whole is the walk from i on, with what has been seen.
-use Prim.Native.Nat.{_≤_, _<_, _+_, _-_, _%_}
+use Prim.Native.Nat.{_≤_, _+_, _-_}
 use mathlib.Core.Path.{_≡_, refl, sym, _∙_}
 use denote.Ref.{now}
 use borrow.Author.Needs.{needs}
@@ -9,7 +9,6 @@ use lib.ListN.{length, getD, drop, length-drop, length-take}
 use Rattle.annex.specs.Walk.{Walker, walk, judging}
 use Rattle.annex.specs.Reading.{messageVerdict, commonStep, commonClose}
 use Rattle.annex.specs.declared.Answer.{Answer}
-use Rattle.annex.specs.declared.Answer.the-variants.{Accepted}
 use Rattle.laws.specs.Parts.{to-end}
 use Rattle.laws.specs.Walks.{walk-end, walk-refused, walk-accepted}
 use Rattle.laws.specs.Steps.{common-place, common-within, common-taken}

@@ -1,5 +1,4 @@
 -- `shift` meets its contract: its arms are the cases of the definition.
-use Prim.Native.Nat.{_+_, _<_}
 use native.Mathlib.Omega.{arith}
 use borrow.Author.Needs.{needs}
 use Rattle.reader.proofs.verdict.shift.Statement.{statement}

@@ -1,9 +1,8 @@
 -- `transfer_data` meets its contract: the part that it hands on is what the definition reads.
-use Prim.Native.Nat.{_+_, _≤_}
-use mathlib.Core.Path.{_≡_, sym, _∙_}
+use mathlib.Core.Path.{sym, _∙_}
 use native.Mathlib.Omega.{arith}
 use borrow.Author.Needs.{needs}
-use lib.ListN.{length, length-take, length-drop}
+use lib.ListN.{length-take, length-drop}
 use Rattle.laws.specs.Steps.{transfers-place, data-told}
 use Rattle.reader.proofs.verdict.transfer_data.Statement.{statement}
 use Rattle.reader.proofs.verdict.transfer_data.Tie as tie

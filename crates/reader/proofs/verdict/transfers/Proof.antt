@@ -1,6 +1,6 @@
 -- `transfers` meets its contract. The invariant: the walk of the whole is the walk from i on, with what has been seen.
-use Prim.Native.Nat.{_≤_, _<_, _+_, _-_, _%_}
-use mathlib.Core.Path.{_≡_, refl, sym, ap, _∙_}
+use Prim.Native.Nat.{_≤_, _+_, _-_, _%_}
+use mathlib.Core.Path.{_≡_, refl, sym, _∙_}
 use denote.Ref.{now}
 use borrow.Author.Needs.{needs}
 use native.Mathlib.Omega.{arith}

@@ -1,5 +1,5 @@
 -- `write` meets its contract: what is accepted is laid out, and for that its numbers are octets; else the room stays.
-use Prim.Native.Nat.{ℕ, _+_, _<_}
+use Prim.Native.Nat.{ℕ, _<_}
 use native.Mathlib.Omega.{arith}
 use mathlib.Core.Path.{_≡_, sym, _∙_}
 use mathlib.Core.List.{_++_}
