@@ -1,0 +1,140 @@
+//! Digits in half-octets: the two codings, first digit in the low half.
+
+/// The octets that hold `half_octets` half-octets: half as many, rounded up.
+/// PLI 10 counts in half-octets and PLI 11 in octets; this is the one way from
+/// the first to the second.
+pub(crate) const fn octets_for(half_octets: usize) -> usize {
+    half_octets.div_ceil(2)
+}
+
+/// The highest digit value, that of `#`.
+pub(crate) const HIGHEST: u8 = 11;
+
+/// One way of coding the digits 0 to 9, `*` and `#` in half-octets.
+pub(crate) struct Coding {
+    /// The code of each digit value: 0 to 9, 10 for `*`, 11 for `#`.
+    code: [u8; 12],
+    /// The digit value of each code; of a spare code nothing that counts.
+    digit: [u8; 16],
+    /// Bit `c` tells that code `c` is a digit's, not spare.
+    listed: u16,
+}
+
+/// The coding under PLI 10: zero is 10, and code 0 is spare.
+pub(crate) static DIALLED: Coding = Coding::new([10, 1, 2, 3, 4, 5, 6, 7, 8, 9, 11, 12]);
+
+/// The coding in the numbers of D7, DC and DA: zero is 0, and code 10 is spare.
+pub(crate) static NUMBER: Coding = Coding::new([0, 1, 2, 3, 4, 5, 6, 7, 8, 9, 11, 12]);
+
+impl Coding {
+    const fn new(code: [u8; 12]) -> Self {
+        let mut digit = [0; 16];
+        let mut listed = 0;
+        let mut value = 0;
+        while value < code.len() {
+            digit[code[value] as usize] = value as u8;
+            listed |= 1 << code[value];
+            value += 1;
+        }
+        Coding {
+            code,
+            digit,
+            listed,
+        }
+    }
+
+    /// Whether `octets` hold digits only, the last high half being 0 where the
+    /// count of digits is `odd`.
+    pub(crate) fn accepts(&self, octets: &[u8], odd: bool) -> bool {
+        let (pairs, last) = match octets.split_last() {
+            Some((&last, pairs)) if odd => (pairs, Some(last)),
+            _ => (octets, None),
+        };
+        let pairs_listed = pairs.iter().fold(1, |all, &octet| {
+            all & (self.listed >> (octet & 0x0F)) & (self.listed >> (octet >> 4))
+        });
+        pairs_listed & 1 == 1 && last.is_none_or(|octet| octet < 0x10 && self.lists(octet))
+    }
+
+    fn lists(&self, code: u8) -> bool {
+        self.listed >> code & 1 == 1
+    }
+
+    /// Appends the first `count` digits of accepted `octets` to `values`.
+    pub(crate) fn decode(&self, octets: &[u8], count: usize, values: &mut Vec<u8>) {
+        let digit = |code: u8| self.digit[usize::from(code & 0x0F)];
+        for &octet in &octets[..count / 2] {
+            values.extend_from_slice(&[digit(octet), digit(octet >> 4)]);
+        }
+        if count % 2 == 1 {
+            values.push(digit(octets[count / 2]));
+        }
+    }
+
+    /// Lays `digits`, none over [`HIGHEST`], into the front of `octets`.
+    pub(crate) fn encode(&self, digits: &[u8], octets: &mut [u8]) {
+        let code = |digit: u8| self.code[usize::from(digit)];
+        for (octet, pair) in octets.iter_mut().zip(digits.chunks(2)) {
+            *octet = match *pair {
+                [low, high] => code(low) | code(high) << 4,
+                _ => code(pair[0]),
+            };
+        }
+    }
+}
+
+/// Whether all values are digits.
+pub(crate) fn all_digits(values: &[u8]) -> bool {
+    values.iter().all(|&value| value <= HIGHEST)
+}
+
+#[cfg(test)]
+mod tests {
+    use super::*;
+
+    #[test]
+    fn half_octets_round_up() {
+        let octets: Vec<usize> = (0..6).map(octets_for).collect();
+        assert_eq!(octets, [0, 1, 1, 2, 2, 3]);
+    }
+
+    #[test]
+    fn spare_codes() {
+        let spare =
+            |coding: &Coding| -> Vec<u8> { (0..16).filter(|&c| !coding.lists(c)).collect() };
+        assert_eq!(spare(&DIALLED), [0, 13, 14, 15]);
+        assert_eq!(spare(&NUMBER), [10, 13, 14, 15]);
+    }
+
+    #[test]
+    fn zero_differs_between_the_codings() {
+        let mut octet = [0];
+        DIALLED.encode(&[0], &mut octet);
+        assert_eq!(octet, [0x0A]);
+        NUMBER.encode(&[0], &mut octet);
+        assert_eq!(octet, [0x00]);
+    }
+
+    #[test]
+    fn all_digits_return() {
+        let digits: Vec<u8> = (0..12).chain([7]).collect();
+        for coding in [&DIALLED, &NUMBER] {
+            let mut octets = [0; 7];
+            coding.encode(&digits, &mut octets);
+            assert!(coding.accepts(&octets, true));
+            let mut values = Vec::new();
+            coding.decode(&octets, digits.len(), &mut values);
+            assert_eq!(values, digits);
+        }
+    }
+
+    #[test]
+    fn low_half_is_first_and_filler_is_zero() {
+        let mut values = Vec::new();
+        DIALLED.decode(&[0x21, 0x03], 3, &mut values);
+        assert_eq!(values, [1, 2, 3]);
+        assert!(DIALLED.accepts(&[0x21, 0x03], true));
+        assert!(!DIALLED.accepts(&[0x21, 0x13], true));
+        assert!(!DIALLED.accepts(&[0x21, 0x03], false));
+    }
+}

@@ -1,0 +1,106 @@
+//! The number in D7, DC and DA with 06: two octets of fields, then digits.
+
+use crate::digits::{octets_for, NUMBER};
+use crate::record::Transfer;
+use crate::refusal::Refusal;
+use crate::transfer::formed;
+
+/// Octet 1: the count of digits is odd.
+const ODD: u8 = 0x80;
+/// The presentation under which DC holds no number.
+const WITHHELD: u8 = 2;
+
+/// Tries 12 and 13 on a number.
+pub(crate) fn check(octets: &[u8]) -> Result<(), u8> {
+    let [first, _, digits @ ..] = octets else {
+        return Err(Refusal::BAD_FORM);
+    };
+    let odd = first & ODD != 0;
+    formed(!(odd && digits.is_empty()))?;
+    NUMBER
+        .accepts(digits, odd)
+        .then_some(())
+        .ok_or(Refusal::SPARE_DIGIT)
+}
+
+/// The same for DC, which with presentation 2 holds nothing but its screening.
+pub(crate) fn check_calling(octets: &[u8]) -> Result<(), u8> {
+    match octets {
+        [first, second, digits @ ..] if second >> 2 & 0x03 == WITHHELD => {
+            formed(*first == 0 && second & 0xF0 == 0 && digits.is_empty())
+        }
+        _ => check(octets),
+    }
+}
+
+/// Takes the fields and digits of a checked number into `parameter`.
+pub(crate) fn take(octets: &[u8], parameter: &mut Transfer) {
+    let (first, second, digits) = (octets[0], octets[1], &octets[2..]);
+    parameter.number_type = first & 0x7F;
+    parameter.incomplete = second >> 7;
+    parameter.plan = second >> 4 & 0x07;
+    parameter.presentation = second >> 2 & 0x03;
+    parameter.screening = second & 0x03;
+    let count = 2 * digits.len() - usize::from(first & ODD != 0);
+    parameter.values.reserve_exact(count);
+    NUMBER.decode(digits, count, &mut parameter.values);
+}
+
+/// Whether the fields of `parameter` fit their bits.
+pub(crate) fn fits(parameter: &Transfer) -> bool {
+    parameter.number_type <= 0x7F
+        && parameter.incomplete <= 1
+        && parameter.plan <= 7
+        && parameter.presentation <= 3
+        && parameter.screening <= 3
+}
+
+/// Whether DC may hold what it holds: with presentation 2 its type, incomplete
+/// mark and plan are 0, and there are no digits.
+pub(crate) fn calling_formed(parameter: &Transfer) -> bool {
+    parameter.presentation != WITHHELD
+        || (parameter.number_type == 0
+            && parameter.incomplete == 0
+            && parameter.plan == 0
+            && parameter.values.is_empty())
+}
+
+/// Lays the fields of `parameter` and `digits`, all of them checked, into the
+/// front of `octets`.
+pub(crate) fn lay(parameter: &Transfer, digits: &[u8], octets: &mut [u8]) {
+    let odd = if digits.len() % 2 == 1 { ODD } else { 0 };
+    octets[0] = odd | parameter.number_type;
+    octets[1] = parameter.incomplete << 7
+        | parameter.plan << 4
+        | parameter.presentation << 2
+        | parameter.screening;
+    NUMBER.encode(digits, &mut octets[2..2 + octets_for(digits.len())]);
+}
+
+#[cfg(test)]
+mod tests {
+    use super::*;
+
+    #[test]
+    fn forms() {
+        assert_eq!(check(&[]), Err(12));
+        assert_eq!(check(&[0x03]), Err(12));
+        assert_eq!(check(&[0x03, 0x11]), Ok(()));
+        assert_eq!(check(&[0x83, 0x11]), Err(12));
+        assert_eq!(check(&[0x83, 0x11, 0x00]), Ok(()));
+        assert_eq!(check(&[0x83, 0x11, 0x10]), Err(13));
+        assert_eq!(check(&[0x03, 0x11, 0x0A]), Err(13));
+        assert_eq!(check(&[0x03, 0x11, 0xCB]), Ok(()));
+    }
+
+    #[test]
+    fn withheld() {
+        assert_eq!(check(&[0x01, 0x88]), Ok(()));
+        assert_eq!(check_calling(&[0x00, 0x0B]), Ok(()));
+        assert_eq!(check_calling(&[0x01, 0x0B]), Err(12));
+        assert_eq!(check_calling(&[0x80, 0x0B, 0x01]), Err(12));
+        assert_eq!(check_calling(&[0x00, 0x1B]), Err(12));
+        assert_eq!(check_calling(&[0x00, 0x0B, 0x11]), Err(12));
+        assert_eq!(check_calling(&[0x00, 0x07, 0x11]), Ok(()));
+    }
+}

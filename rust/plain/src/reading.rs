@@ -1,0 +1,222 @@
+//! Reading: one walk over a message, left to right, that checks everything.
+
+use crate::common::{self, Seen, END_MARK, MESSAGE_LIMIT, TRANSFER_DATA};
+use crate::digits::DIALLED;
+use crate::number;
+use crate::record::{Common, Record, Transfer};
+use crate::refusal::Refusal;
+use crate::transfer::{self, digit_count, Held, Names, NAME_COUNT};
+use std::ops::Range;
+
+/// A parameter that the walk has checked, inside the walked message.
+#[derive(Clone, Copy)]
+pub(crate) struct Parameter<'m> {
+    /// The offset of the header.
+    pub(crate) offset: usize,
+    /// The header.
+    pub(crate) header: u8,
+    /// The offset of the contents.
+    pub(crate) start: usize,
+    /// The contents.
+    pub(crate) contents: &'m [u8],
+}
+
+impl Parameter<'_> {
+    /// Where the contents stand.
+    pub(crate) fn contents_range(&self) -> Range<usize> {
+        self.start..self.start + self.contents.len()
+    }
+
+    /// Where the whole parameter stands.
+    pub(crate) fn range(&self) -> Range<usize> {
+        self.offset..self.start + self.contents.len()
+    }
+}
+
+/// What is told of a message while it is walked. The message may still turn
+/// out to be refused.
+pub(crate) trait Visitor {
+    /// A common parameter; C5 before its transfer parameters are checked.
+    fn common(&mut self, parameter: Parameter<'_>);
+    /// A transfer parameter.
+    fn transfer(&mut self, parameter: Parameter<'_>);
+    /// The end mark.
+    fn end(&mut self, _offset: usize) {}
+}
+
+/// Walks the message in the reader's order and tells `visitor` what stands in it.
+pub(crate) fn walk<V: Visitor>(message: &[u8], visitor: &mut V) -> Result<(), Refusal> {
+    if message.is_empty() || message.len() > MESSAGE_LIMIT {
+        return Err(Refusal::new(Refusal::LIMITS, 0));
+    }
+    let mut seen = Seen::default();
+    let mut offset = 0;
+    loop {
+        match message.get(offset) {
+            None => return Err(Refusal::new(Refusal::MESSAGE_CUT, offset)),
+            Some(&END_MARK) => break,
+            Some(&header) => offset = walk_common(message, offset, header, &mut seen, visitor)?,
+        }
+    }
+    if !seen.complete() {
+        return Err(Refusal::new(Refusal::MISSING, offset));
+    }
+    if offset + 1 < message.len() {
+        return Err(Refusal::new(Refusal::AFTER_END, offset + 1));
+    }
+    visitor.end(offset);
+    Ok(())
+}
+
+/// Walks the common parameter at `offset`; gives the offset behind it.
+fn walk_common<V: Visitor>(
+    message: &[u8],
+    offset: usize,
+    header: u8,
+    seen: &mut Seen,
+    visitor: &mut V,
+) -> Result<usize, Refusal> {
+    let refusal = |number| Refusal::new(number, offset);
+    if !common::is_listed(header) {
+        return Err(refusal(Refusal::UNLISTED));
+    }
+    if !seen.enter(header) {
+        return Err(refusal(Refusal::COMMON_REPEATED));
+    }
+    let range = common::contents_at(message, offset).ok_or(refusal(Refusal::MESSAGE_CUT))?;
+    let parameter = Parameter {
+        offset,
+        header,
+        start: range.start,
+        contents: &message[range.clone()],
+    };
+    if header == TRANSFER_DATA {
+        visitor.common(parameter);
+        walk_transfer_data(parameter, visitor)?;
+    } else {
+        if !common::allows(header, parameter.contents[0]) {
+            return Err(refusal(Refusal::NOT_ALLOWED));
+        }
+        visitor.common(parameter);
+    }
+    Ok(range.end)
+}
+
+/// Walks the transfer parameters inside `data`.
+fn walk_transfer_data<V: Visitor>(data: Parameter<'_>, visitor: &mut V) -> Result<(), Refusal> {
+    let mut names = Names::default();
+    let mut rest = data.contents;
+    let mut offset = data.start;
+    while let Some(&header) = rest.first() {
+        let contents =
+            check_transfer(rest, &mut names).map_err(|number| Refusal::new(number, offset))?;
+        let end = contents.end;
+        visitor.transfer(Parameter {
+            offset,
+            header,
+            start: offset + contents.start,
+            contents: &rest[contents],
+        });
+        rest = &rest[end..];
+        offset += end;
+    }
+    Ok(())
+}
+
+/// Tries 8 to 13 on the transfer parameter that begins `octets`; gives where
+/// its contents stand.
+fn check_transfer(octets: &[u8], names: &mut Names) -> Result<Range<usize>, u8> {
+    let header = octets[0];
+    let layout = transfer::check_header(header)?;
+    names.enter(header)?;
+    let contents = transfer::contents_of(octets).ok_or(Refusal::CONTENTS_CUT)?;
+    transfer::check_contents(layout, &octets[contents.clone()])?;
+    Ok(contents)
+}
+
+/// A visitor that wants to know nothing.
+struct Nothing;
+
+impl Visitor for Nothing {
+    fn common(&mut self, _: Parameter<'_>) {}
+    fn transfer(&mut self, _: Parameter<'_>) {}
+}
+
+/// Whether reading accepts the message, or its refusal: 1 to 13.
+pub fn verdict(message: &[u8]) -> Result<(), Refusal> {
+    walk(message, &mut Nothing)
+}
+
+impl Visitor for Record {
+    fn common(&mut self, parameter: Parameter<'_>) {
+        self.common.push(hold_common(parameter));
+    }
+
+    fn transfer(&mut self, parameter: Parameter<'_>) {
+        if let Some(data) = self.common.last_mut() {
+            data.transfers.push(hold_transfer(parameter));
+        }
+    }
+}
+
+/// The record of a message, or reading's refusal: 1 to 13.
+///
+/// Fields that a parameter does not have are 0 in it.
+pub fn read(message: &[u8]) -> Result<Record, Refusal> {
+    let mut record = Record {
+        common: Vec::with_capacity(common::COMMON_LIMIT),
+    };
+    walk(message, &mut record)?;
+    Ok(record)
+}
+
+/// A common parameter as the record holds it; C5 without its parameters yet.
+fn hold_common(parameter: Parameter<'_>) -> Common {
+    let (value, expected) = match (parameter.header, parameter.contents) {
+        (TRANSFER_DATA, data) => (0, NAME_COUNT.min(data.len() / 2)),
+        (_, &[low, middle, high]) => (u32::from_le_bytes([low, middle, high, 0]), 0),
+        (_, octets) => (u32::from(octets[0]), 0),
+    };
+    Common {
+        header: parameter.header,
+        value,
+        transfers: Vec::with_capacity(expected),
+    }
+}
+
+/// A transfer parameter as the record holds it.
+fn hold_transfer(parameter: Parameter<'_>) -> Transfer {
+    let contents = parameter.contents;
+    let mut held = Transfer {
+        header: parameter.header,
+        ..Transfer::default()
+    };
+    match Held::of(parameter.header, contents.first().copied()) {
+        Held::Octets => held.values = contents.to_vec(),
+        Held::Digits => hold_digits(contents, &mut held),
+        Held::Number => number::take(contents, &mut held),
+        Held::Generic => {
+            held.values.reserve_exact(1 + 2 * (contents.len() - 3));
+            held.values.push(contents[0]);
+            number::take(&contents[1..], &mut held);
+        }
+    }
+    held
+}
+
+/// Takes the marks and digits of checked contents under PLI 10.
+fn hold_digits(contents: &[u8], held: &mut Transfer) {
+    let upper = contents[0] >> 6;
+    match held.header {
+        0x90 | 0x95 => held.notification = upper >> 1,
+        0x91 => {
+            held.notification = upper >> 1;
+            held.verification = upper & 1;
+        }
+        0x98 => held.dialling = upper,
+        _ => {}
+    }
+    let count = digit_count(contents[0]);
+    held.values.reserve_exact(count);
+    DIALLED.decode(&contents[1..], count, &mut held.values);
+}

@@ -1,0 +1,133 @@
+//! The record: a message as a sequence of values.
+
+use crate::common::{COMMON_LIMIT, TRANSFER_DATA};
+use crate::digits::octets_for;
+use crate::transfer::{Held, DATA_LIMIT, NAME_COUNT};
+
+/// A message's common parameters in their order, without the end mark.
+#[derive(Clone, Debug, Default, PartialEq, Eq)]
+pub struct Record {
+    /// The common parameters, at most 6.
+    pub common: Vec<Common>,
+}
+
+/// One common parameter.
+#[derive(Clone, Debug, Default, PartialEq, Eq)]
+pub struct Common {
+    /// The header octet.
+    pub header: u8,
+    /// The call number of 82 and 83, the octet of 01, 04 and 06; C5 has none:
+    /// it is not looked at, and 0 where a record is handed out.
+    pub value: u32,
+    /// The transfer parameters of C5, in their order; the others have none.
+    pub transfers: Vec<Transfer>,
+}
+
+/// One transfer parameter.
+///
+/// Which fields it has, and what its values are, is decided by the header (for
+/// DA by its first value too). Fields that it does not have are not looked at,
+/// and are 0 where a record is handed out.
+#[derive(Clone, Debug, Default, PartialEq, Eq)]
+pub struct Transfer {
+    /// The header octet: PLI and name.
+    pub header: u8,
+    /// The notification mark of 90, 91 and 95: 0 or 1.
+    pub notification: u8,
+    /// The verification mark of 91: 0 or 1.
+    pub verification: u8,
+    /// The type of the dialled digits, 98: 0 to 3.
+    pub dialling: u8,
+    /// The number type of D7, DC and DA with 06: 0 to 127.
+    pub number_type: u8,
+    /// The incomplete mark of D7, DC and DA with 06: 0 or 1.
+    pub incomplete: u8,
+    /// The plan of D7, DC and DA with 06: 0 to 7.
+    pub plan: u8,
+    /// The presentation of D7, DC and DA with 06: 0 to 3.
+    pub presentation: u8,
+    /// The screening of D7, DC and DA with 06: 0 to 3.
+    pub screening: u8,
+    /// Digits, first digit first (0 to 9, 10 for `*`, 11 for `#`), under PLI
+    /// 10, D7 and DC; for DA with 06 that octet, then digits; otherwise the
+    /// contents.
+    pub values: Vec<u8>,
+}
+
+impl Record {
+    /// Whether the record is within its limits: at most 6 common parameters,
+    /// and in all its C5 together at most 52 transfer parameters, whose
+    /// contents, laid out, come to at most 255 octets.
+    pub fn within_limits(&self) -> bool {
+        if self.common.len() > COMMON_LIMIT {
+            return false;
+        }
+        let mut count = 0;
+        let mut octets = 0;
+        for data in self.common.iter().filter(|c| c.header == TRANSFER_DATA) {
+            count += data.transfers.len();
+            if count > NAME_COUNT {
+                return false;
+            }
+            octets += data
+                .transfers
+                .iter()
+                .map(Transfer::contents_len)
+                .sum::<usize>();
+        }
+        octets <= DATA_LIMIT
+    }
+}
+
+impl Transfer {
+    /// How many octets the contents come to, laid out.
+    pub fn contents_len(&self) -> usize {
+        let count = self.values.len();
+        match self.held() {
+            Held::Octets => count,
+            Held::Digits => 1 + octets_for(count),
+            Held::Number => 2 + octets_for(count),
+            Held::Generic => 3 + octets_for(count - 1),
+        }
+    }
+
+    /// How this parameter is held.
+    pub(crate) fn held(&self) -> Held {
+        Held::of(self.header, self.values.first().copied())
+    }
+
+    /// The eight fields in the order of their declaration, with 0 for those
+    /// that this parameter does not have.
+    pub(crate) fn fields(&self) -> [u8; 8] {
+        match (self.held(), self.header) {
+            (Held::Digits, 0x90 | 0x95) => [self.notification, 0, 0, 0, 0, 0, 0, 0],
+            (Held::Digits, 0x91) => [self.notification, self.verification, 0, 0, 0, 0, 0, 0],
+            (Held::Digits, 0x98) => [0, 0, self.dialling, 0, 0, 0, 0, 0],
+            (Held::Digits | Held::Octets, _) => [0; 8],
+            (Held::Number | Held::Generic, _) => [
+                0,
+                0,
+                0,
+                self.number_type,
+                self.incomplete,
+                self.plan,
+                self.presentation,
+                self.screening,
+            ],
+        }
+    }
+
+    /// Sets all eight fields, in the order of their declaration.
+    pub(crate) fn set_fields(&mut self, fields: [u8; 8]) {
+        [
+            self.notification,
+            self.verification,
+            self.dialling,
+            self.number_type,
+            self.incomplete,
+            self.plan,
+            self.presentation,
+            self.screening,
+        ] = fields;
+    }
+}
