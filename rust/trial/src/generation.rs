@@ -1,0 +1,229 @@
+//! One input after another.
+
+use crate::input::{Input, Kind, KINDS};
+use crate::messages::{message, sound_draft, sound_message, Size};
+use crate::parameters::{shuffled_names, sound, spoilt_somehow};
+use crate::records;
+use crate::rng::Rng;
+
+/// The input at `index` under `seed`.
+pub fn input_at(seed: u64, index: u64) -> Input {
+    generate(&mut Rng::nth(seed, index))
+}
+
+/// An input of any kind.
+pub fn generate(rng: &mut Rng) -> Input {
+    // Read, write, rows, the two finds, class, replace, append, remove.
+    let kind = KINDS[rng.weighted(&[22, 26, 8, 6, 8, 4, 11, 9, 6])];
+    match kind {
+        Kind::Read => read(rng),
+        Kind::Write => write(rng),
+        Kind::Rows => rows(rng),
+        Kind::FindCommon => find_common(rng),
+        Kind::FindTransfer => find_transfer(rng),
+        Kind::Class => class(rng),
+        Kind::Replace => {
+            let Edit { buffer, n, new } = edit(rng, kind);
+            Input::Replace { buffer, n, new }
+        }
+        Kind::Append => {
+            let Edit { buffer, n, new } = edit(rng, kind);
+            Input::Append { buffer, n, new }
+        }
+        Kind::Remove => remove(rng),
+    }
+}
+
+/// Memory to lend where `needed` octets would do: more, just so many, or too few.
+fn lent(rng: &mut Rng, needed: usize) -> Vec<u8> {
+    let len = match rng.weighted(&[4, 4, 1, 1]) {
+        0 => needed + rng.between(1, 40),
+        1 => needed,
+        2 => needed.saturating_sub(1),
+        _ => rng.between(0, needed),
+    };
+    rng.octets(len)
+}
+
+fn read(rng: &mut Rng) -> Input {
+    let message = message(rng);
+    let needed = plain::read(&message).map_or(0, |record| plain::image(&record).len());
+    let image = lent(rng, needed);
+    Input::Read { message, image }
+}
+
+fn write(rng: &mut Rng) -> Input {
+    let image = records::image(rng);
+    let written = plain::from_image(&image).and_then(|record| plain::write(&record, &mut [0; 272]));
+    let room = lent(rng, written.unwrap_or(0));
+    Input::Write { image, room }
+}
+
+fn rows(rng: &mut Rng) -> Input {
+    let message = message(rng);
+    let needed = plain::rows(&message).map_or(0, |rows| 5 * rows.len());
+    let table = lent(rng, needed);
+    Input::Rows { message, table }
+}
+
+fn find_common(rng: &mut Rng) -> Input {
+    let message = message(rng);
+    let header = match rng.below(8) {
+        0 => rng.octet(),
+        1 => 0x00,
+        _ => rng.pick(&[0x01, 0x06, 0x82, 0x83, 0x04, 0xC5, 0xC5]),
+    };
+    Input::FindCommon { message, header }
+}
+
+/// The names that stand in a message, none if reading refuses it.
+fn names_in(message: &[u8]) -> Vec<u8> {
+    let data = plain::find_common(message, 0xC5).unwrap_or(0..0);
+    let rows = plain::rows(message).unwrap_or_default();
+    rows.iter()
+        .filter(|row| data.contains(&row.offset.into()))
+        .map(|row| row.header & 0x3F)
+        .collect()
+}
+
+/// A name, as a rule one that stands in the message.
+fn name_for(rng: &mut Rng, message: &[u8]) -> u8 {
+    let names = names_in(message);
+    match rng.below(6) {
+        0 => rng.octet(),
+        1 => rng.octet() & 0x3F,
+        _ if names.is_empty() => rng.octet() & 0x3F,
+        2 => rng.pick(&names) | rng.pick(&[0x40, 0x80, 0xC0]),
+        _ => rng.pick(&names),
+    }
+}
+
+fn find_transfer(rng: &mut Rng) -> Input {
+    let message = message(rng);
+    let name = name_for(rng, &message);
+    Input::FindTransfer { message, name }
+}
+
+fn class(rng: &mut Rng) -> Input {
+    const LISTED: [u8; 14] = [
+        0x42, 0x46, 0x52, 0x67, 0x68, 0x6E, 0x6F, 0x75, 0x79, 0x7A, 0x7C, 0x7E, 0xD7, 0xDC,
+    ];
+    let header = match rng.below(5) {
+        0 => rng.octet(),
+        _ => rng.pick(&LISTED),
+    };
+    let octet = match rng.below(2) {
+        0 => rng.octet(),
+        _ => rng.octet() & 0x0F,
+    };
+    Input::Class { header, octet }
+}
+
+/// The arguments of a replacement or an appending.
+struct Edit {
+    buffer: Vec<u8>,
+    n: u16,
+    new: Vec<u8>,
+}
+
+/// A message to edit: as a rule one that reading accepts.
+fn edited_message(rng: &mut Rng) -> Vec<u8> {
+    match rng.weighted(&[6, 1, 1, 4]) {
+        0 => sound_message(rng),
+        1 => sound_draft(rng, Size::Near).octets(),
+        2 => sound_draft(rng, Size::Full).octets(),
+        _ => message(rng),
+    }
+}
+
+/// The message's length, as a rule the right one.
+fn length_for(rng: &mut Rng, message: &[u8], buffer: &[u8]) -> u16 {
+    let n = match rng.weighted(&[20, 1, 1, 1, 1]) {
+        0 => message.len(),
+        1 => rng.between(0, message.len()),
+        2 => rng.between(message.len(), buffer.len()),
+        3 => buffer.len() + rng.between(1, 3),
+        _ => rng.pick(&[0, buffer.len(), message.len() + 1, 273, 0xFFFF]),
+    };
+    n as u16
+}
+
+/// A buffer with the message in front, and as many octets past it.
+fn buffer_of(rng: &mut Rng, message: &[u8], past: usize) -> Vec<u8> {
+    [message, &rng.octets(past)].concat()
+}
+
+fn edit(rng: &mut Rng, kind: Kind) -> Edit {
+    let message = edited_message(rng);
+    let new = new_parameter(rng, kind, &message);
+    let growth = growth(kind, &message, &new);
+    let past = match rng.below(6) {
+        0 => 0,
+        1 | 2 => growth,
+        3 => growth.saturating_sub(1),
+        _ => rng.between(0, 60),
+    };
+    let buffer = buffer_of(rng, &message, past);
+    let n = length_for(rng, &message, &buffer);
+    Edit { buffer, n, new }
+}
+
+/// By how many octets the edit makes the message longer; 0 where it does not.
+fn growth(kind: Kind, message: &[u8], new: &[u8]) -> usize {
+    let mut buffer = [message, new].concat();
+    let n = message.len();
+    let edited = match kind {
+        Kind::Replace => plain::replace(&mut buffer, n, new),
+        _ => plain::append(&mut buffer, n, new),
+    };
+    edited.unwrap_or(n).saturating_sub(n)
+}
+
+/// A new parameter for the message: as a rule sound, and of a name that stands
+/// there if it is to be replaced, or does not if it is to be appended.
+fn new_parameter(rng: &mut Rng, kind: Kind, message: &[u8]) -> Vec<u8> {
+    let names = names_in(message);
+    let wanted = |name: &u8| names.contains(name) == (kind == Kind::Replace);
+    match rng.weighted(&[14, 5, 3, 1, 1]) {
+        0 => {
+            let all = shuffled_names(rng);
+            let name = all.iter().copied().find(wanted).unwrap_or(all[0]);
+            let room = rng.pick(&[6, 12, 12, 257]);
+            sound(rng, name, room)
+        }
+        1 => spoilt_of(rng, |new| wanted(&(new[0] & 0x3F))),
+        2 => {
+            let name = rng.octet() & 0x3F;
+            sound(rng, name, 24)
+        }
+        3 => vec![],
+        _ => {
+            let len = rng.below(6);
+            rng.octets(len)
+        }
+    }
+}
+
+/// A spoilt parameter, with luck a fitting one.
+fn spoilt_of(rng: &mut Rng, fitting: impl Fn(&[u8]) -> bool) -> Vec<u8> {
+    let mut new = spoilt_somehow(rng);
+    for _ in 0..8 {
+        if fitting(&new) {
+            break;
+        }
+        new = spoilt_somehow(rng);
+    }
+    new
+}
+
+fn remove(rng: &mut Rng) -> Input {
+    let message = edited_message(rng);
+    let name = name_for(rng, &message);
+    let past = match rng.below(3) {
+        0 => 0,
+        _ => rng.between(0, 60),
+    };
+    let buffer = buffer_of(rng, &message, past);
+    let n = length_for(rng, &message, &buffer);
+    Input::Remove { buffer, n, name }
+}

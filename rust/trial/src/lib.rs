@@ -1,0 +1,31 @@
+//! Many inputs for a codec of service control messages, by seed, and what the
+//! plain codec answers to them.
+//!
+//! An [`Input`] is one call of any kind with all its arguments; [`generate`]
+//! makes one, [`answer`] puts it to the plain codec and gives the [`Outcome`].
+//! Both have a form in octets, [`Input::request`] and [`Outcome::octets`], so
+//! that another program can be fed the same inputs and its outcomes compared.
+//!
+//! ```
+//! let input = trial::input_at(1, 0);
+//! let request = input.request();
+//! assert_eq!(trial::Input::from_request(&request), Some((input, request.len())));
+//! ```
+
+#![forbid(unsafe_code)]
+#![warn(missing_docs)]
+
+pub mod coverage;
+pub mod generation;
+pub mod input;
+pub mod messages;
+pub mod outcome;
+pub mod parameters;
+pub mod records;
+pub mod rng;
+
+pub use coverage::Coverage;
+pub use generation::{generate, input_at};
+pub use input::{Input, Kind};
+pub use outcome::{answer, Outcome};
+pub use rng::Rng;

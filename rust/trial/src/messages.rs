@@ -1,0 +1,418 @@
+//! Messages: sound ones, short to full, and damaged ones.
+
+use crate::parameters::{self, shortest, shuffled_names, sound};
+use crate::rng::Rng;
+use plain::common::{is_signal_kind, MESSAGE_LIMIT};
+use plain::transfer::{layout_of, Layout, DATA_LIMIT};
+
+/// A message taken apart.
+#[derive(Clone, Debug, PartialEq, Eq)]
+pub struct Draft {
+    /// The parts before the end mark.
+    pub parts: Vec<Part>,
+    /// The end mark, and what may stand after it.
+    pub end: Vec<u8>,
+}
+
+/// A part of a message.
+#[derive(Clone, Debug, PartialEq, Eq)]
+pub enum Part {
+    /// A common parameter in octets.
+    Common(Vec<u8>),
+    /// Transfer data.
+    Data {
+        /// Its parameters in octets.
+        parameters: Vec<Vec<u8>>,
+        /// What the length octet tells too much; too little if negative.
+        excess: i8,
+    },
+}
+
+/// How large the transfer data is to be.
+#[derive(Clone, Copy, Debug, PartialEq, Eq)]
+pub enum Size {
+    /// A few parameters.
+    Short,
+    /// Many parameters, up to all 52 names.
+    Crowd,
+    /// A few octets short of 255.
+    Near,
+    /// 255 octets, and all common parameters: 272 octets.
+    Full,
+}
+
+impl Draft {
+    /// The message's octets.
+    pub fn octets(&self) -> Vec<u8> {
+        let mut octets = Vec::with_capacity(MESSAGE_LIMIT);
+        for part in &self.parts {
+            match part {
+                Part::Common(parameter) => octets.extend_from_slice(parameter),
+                Part::Data { parameters, excess } => {
+                    let len = parameters.iter().map(Vec::len).sum::<usize>();
+                    let told = len.min(DATA_LIMIT) as u8;
+                    octets.extend([0xC5, told.wrapping_add_signed(*excess)]);
+                    octets.extend(parameters.iter().flatten());
+                }
+            }
+        }
+        octets.extend_from_slice(&self.end);
+        octets
+    }
+
+    /// The parameters of the transfer data, if there is any.
+    fn data(&mut self) -> Option<(&mut Vec<Vec<u8>>, &mut i8)> {
+        self.parts.iter_mut().find_map(|part| match part {
+            Part::Data { parameters, excess } => Some((parameters, excess)),
+            Part::Common(_) => None,
+        })
+    }
+
+    /// The octets of the common parameter `header`, if there is one.
+    fn common(&mut self, header: u8) -> Option<&mut Vec<u8>> {
+        self.parts.iter_mut().find_map(|part| match part {
+            Part::Common(octets) if octets.first() == Some(&header) => Some(octets),
+            _ => None,
+        })
+    }
+
+    /// Puts a part anywhere before the end mark.
+    fn insert(&mut self, rng: &mut Rng, part: Part) {
+        let at = rng.between(0, self.parts.len());
+        self.parts.insert(at, part);
+    }
+}
+
+/// A size, short as a rule.
+pub fn size(rng: &mut Rng) -> Size {
+    [Size::Short, Size::Crowd, Size::Near, Size::Full][rng.weighted(&[24, 4, 3, 3])]
+}
+
+/// A message that reading accepts, taken apart.
+pub fn sound_draft(rng: &mut Rng, size: Size) -> Draft {
+    let mut parts = Vec::with_capacity(6);
+    for header in [0x01, 0x06, 0x82, 0x83, 0x04] {
+        if size == Size::Full || matches!(header, 0x01 | 0x06) || rng.one_in(2) {
+            parts.push(Part::Common(common(rng, header)));
+        }
+    }
+    if size != Size::Short || rng.below(8) > 0 {
+        parts.push(Part::Data {
+            parameters: data(rng, size),
+            excess: 0,
+        });
+    }
+    rng.shuffle(&mut parts);
+    Draft {
+        parts,
+        end: vec![0x00],
+    }
+}
+
+/// A sound common parameter; of an unlisted header, one as its PLI gives.
+fn common(rng: &mut Rng, header: u8) -> Vec<u8> {
+    let contents = match header {
+        0x01 => vec![0x01],
+        0x06 => vec![signal_kind(rng)],
+        _ if header >> 6 == 3 => {
+            let len = rng.below(4);
+            let mut contents = rng.octets(len);
+            contents.insert(0, len as u8);
+            contents
+        }
+        _ => rng.octets(usize::from(header >> 6) + 1),
+    };
+    [&[header], &contents[..]].concat()
+}
+
+fn signal_kind(rng: &mut Rng) -> u8 {
+    let kinds: Vec<u8> = (0..=255).filter(|&octet| is_signal_kind(octet)).collect();
+    rng.pick(&kinds)
+}
+
+/// Sound transfer parameters of different names, in at most 255 octets.
+fn data(rng: &mut Rng, size: Size) -> Vec<Vec<u8>> {
+    let mut names = shuffled_names(rng);
+    let mut filler = None;
+    let mut left = DATA_LIMIT;
+    match size {
+        Size::Short => names.truncate(rng.below(6)),
+        Size::Crowd if rng.one_in(2) => names.truncate(rng.between(20, 52)),
+        Size::Crowd => {}
+        Size::Near => {
+            filler = Some(fillers(&mut names));
+            left -= rng.between(1, 6);
+        }
+        Size::Full => filler = Some(fillers(&mut names)),
+    }
+    let mut parameters = Vec::new();
+    for name in names {
+        let room = match size {
+            Size::Crowd => shortest(name) + rng.pick(&[0, 0, 1, 3]),
+            _ => left.min(90),
+        };
+        if shortest(name) <= room && room <= left {
+            let parameter = sound(rng, name, room);
+            left -= parameter.len();
+            parameters.push(parameter);
+        }
+    }
+    if let Some([alone, any_length]) = filler {
+        match left {
+            0 => {}
+            1 => parameters.push(vec![alone]),
+            _ => {
+                let contents = rng.octets(left - 2);
+                let head = [0xC0 | any_length, contents.len() as u8];
+                parameters.push([&head, &contents[..]].concat());
+            }
+        }
+        rng.shuffle(&mut parameters);
+    }
+    parameters
+}
+
+/// Takes two names out that can fill what is left: one that can stand alone,
+/// and one whose contents can be of any length.
+fn fillers(names: &mut Vec<u8>) -> [u8; 2] {
+    [Layout::Open, Layout::Carried].map(|layout| {
+        let at = names.iter().position(|&name| layout_of(name) == layout);
+        names.remove(at.expect("a name of this layout"))
+    })
+}
+
+/// A message that reading accepts.
+pub fn sound_message(rng: &mut Rng) -> Vec<u8> {
+    let size = size(rng);
+    sound_draft(rng, size).octets()
+}
+
+/// A message of any kind: sound, damaged, or none at all.
+pub fn message(rng: &mut Rng) -> Vec<u8> {
+    match rng.weighted(&[10, 9, 3, 1]) {
+        0 => sound_message(rng),
+        1 => {
+            let size = size(rng);
+            let mut draft = sound_draft(rng, size);
+            damage(rng, &mut draft);
+            if rng.one_in(5) {
+                damage(rng, &mut draft);
+            }
+            draft.octets()
+        }
+        2 => {
+            let mut octets = sound_message(rng);
+            scratch(rng, &mut octets);
+            if rng.one_in(4) {
+                scratch(rng, &mut octets);
+            }
+            octets
+        }
+        _ => noise(rng),
+    }
+}
+
+/// Damages a message somewhere, keeping most of its build.
+pub fn damage(rng: &mut Rng, draft: &mut Draft) {
+    match rng.weighted(&[6, 2]) {
+        0 if draft.data().is_some() => damage_data(rng, draft),
+        _ => damage_common(rng, draft),
+    }
+}
+
+/// Damages the common part.
+fn damage_common(rng: &mut Rng, draft: &mut Draft) {
+    match rng.below(12) {
+        0 | 1 if !draft.parts.is_empty() => {
+            let again = draft.parts[rng.below(draft.parts.len())].clone();
+            draft.insert(rng, again);
+        }
+        2 => {
+            let header = rng.pick(&[0x01, 0x06, 0x82, 0x83, 0x04, 0xC5]);
+            let again = Part::Common(common(rng, header));
+            draft.insert(rng, again);
+        }
+        3 => {
+            let header = rng.octet();
+            let other = Part::Common(common(rng, header));
+            draft.insert(rng, other);
+        }
+        4 | 5 => {
+            let header = rng.pick(&[0x01, 0x06]);
+            draft.parts.retain(
+                |part| !matches!(part, Part::Common(octets) if octets.first() == Some(&header)),
+            );
+        }
+        6 => {
+            let value = rng.octet();
+            let header = rng.pick(&[0x01, 0x06]);
+            if let Some([_, octet]) = draft.common(header).map(Vec::as_mut_slice) {
+                *octet = value;
+            }
+        }
+        7 => {
+            let header = rng.pick(&[0x01, 0x06, 0x82, 0x83, 0x04]);
+            if let Some(octets) = draft.common(header) {
+                octets.pop();
+            }
+        }
+        8 => draft.insert(rng, Part::Common(vec![0x00])),
+        9 => draft.end.clear(),
+        10 => {
+            let len = rng.between(1, 3);
+            let mut more = rng.octets(len);
+            if rng.one_in(3) {
+                more.fill(0);
+            }
+            draft.end.extend(more);
+        }
+        _ => {
+            let keep = rng.between(0, draft.parts.len());
+            draft.parts.truncate(keep);
+            draft.end.clear();
+        }
+    }
+}
+
+/// Damages the transfer data.
+fn damage_data(rng: &mut Rng, draft: &mut Draft) {
+    let Some((parameters, excess)) = draft.data() else {
+        return;
+    };
+    match rng.below(12) {
+        0..=4 => {
+            let spoilt = parameters::spoilt_somehow(rng);
+            put(rng, parameters, spoilt);
+        }
+        5..=7 => {
+            if let Some(again) = same_name_again(rng, parameters) {
+                put(rng, parameters, again);
+            }
+        }
+        8 => *excess = rng.pick(&[-2, -1, -1, 1, 1, 2]),
+        9 => {
+            if let Some(last) = parameters.last_mut() {
+                last.pop();
+            }
+        }
+        10 => {
+            for parameter in parameters.iter_mut().filter(|p| p.first() >= Some(&0x80)) {
+                if rng.one_in(3) && parameter.len() > 1 {
+                    parameter[1] = parameter[1].wrapping_add(rng.pick(&[1, 0xFF]));
+                }
+            }
+        }
+        _ => {
+            if !parameters.is_empty() {
+                let at = rng.below(parameters.len());
+                parameters[at] = parameters::spoilt_somehow(rng);
+            }
+        }
+    }
+}
+
+/// Puts one more parameter among the others; where they fill the transfer
+/// data, in the place of the last.
+fn put(rng: &mut Rng, parameters: &mut Vec<Vec<u8>>, parameter: Vec<u8>) {
+    let mut len = parameters.iter().map(Vec::len).sum::<usize>() + parameter.len();
+    while len > DATA_LIMIT {
+        match parameters.pop() {
+            Some(last) => len -= last.len(),
+            None => break,
+        }
+    }
+    let last = parameters.len();
+    let at = if rng.one_in(3) {
+        last
+    } else {
+        rng.between(0, last)
+    };
+    parameters.insert(at, parameter);
+}
+
+/// A parameter of a name that already stands among `parameters`.
+fn same_name_again(rng: &mut Rng, parameters: &[Vec<u8>]) -> Option<Vec<u8>> {
+    if parameters.is_empty() {
+        return None;
+    }
+    let again = &parameters[rng.below(parameters.len())];
+    let name = again.first()? & 0x3F;
+    Some(if rng.one_in(2) {
+        again.clone()
+    } else {
+        sound(rng, name, 20)
+    })
+}
+
+/// Damages octets without regard to the build.
+pub fn scratch(rng: &mut Rng, octets: &mut Vec<u8>) {
+    if octets.is_empty() {
+        return;
+    }
+    let at = rng.below(octets.len());
+    match rng.below(8) {
+        0 | 1 => octets[at] = rng.octet(),
+        2 => octets[at] ^= 1 << rng.below(8),
+        3 => octets[at] = octets[at].wrapping_add(rng.pick(&[1, 0xFF])),
+        4 => octets.truncate(at),
+        5 => {
+            octets.remove(at);
+        }
+        6 => octets.insert(at, rng.octet()),
+        _ => {
+            let len = rng.between(1, 4);
+            octets.extend(rng.octets(len));
+        }
+    }
+}
+
+/// Octets that are no message, or just too many.
+fn noise(rng: &mut Rng) -> Vec<u8> {
+    const LIKELY: [u8; 14] = [
+        0x00, 0x01, 0x01, 0x01, 0x06, 0x11, 0x04, 0x82, 0xC5, 0x02, 0x41, 0x90, 0xD7, 0x30,
+    ];
+    match rng.below(5) {
+        0 => vec![],
+        1 => {
+            let mut octets = sound_draft(rng, Size::Full).octets();
+            let more = rng.between(1, 40);
+            octets.extend(rng.octets(more));
+            octets
+        }
+        2 => {
+            let len = rng.between(1, 300);
+            rng.octets(len)
+        }
+        3 => {
+            let len = rng.between(1, 12);
+            (0..len).map(|_| rng.pick(&LIKELY)).collect()
+        }
+        _ => {
+            let len = rng.between(1, 12);
+            let mut octets: Vec<u8> = (0..len).map(|_| rng.pick(&LIKELY)).collect();
+            octets.splice(0..0, [0x01, 0x01, 0x06, 0x31]);
+            octets.push(0x00);
+            octets
+        }
+    }
+}
+
+#[cfg(test)]
+mod tests {
+    use super::*;
+
+    #[test]
+    fn sound_ones_are_accepted() {
+        let mut rng = Rng::new(3);
+        let mut most_rows = 0;
+        for _ in 0..2_000 {
+            for size in [Size::Short, Size::Crowd, Size::Near, Size::Full] {
+                let octets = sound_draft(&mut rng, size).octets();
+                assert_eq!(plain::verdict(&octets), Ok(()), "{octets:02X?}");
+                assert!(size != Size::Full || octets.len() == MESSAGE_LIMIT);
+                most_rows = most_rows.max(plain::rows(&octets).map_or(0, |rows| rows.len()));
+            }
+        }
+        assert_eq!(most_rows, plain::listing::ROW_LIMIT);
+    }
+}

@@ -1,0 +1,141 @@
+//! What the plain codec answers to an input, in one form for all kinds.
+
+use crate::input::Input;
+use plain::{Class, Refusal, Row};
+use std::ops::Range;
+
+/// Octets of a row in a lent table: offset (2, least first), header, contents
+/// length (2, least first).
+const ROW_LEN: usize = 5;
+
+/// What came of a call.
+#[derive(Clone, Debug, PartialEq, Eq)]
+pub struct Outcome {
+    /// The answer, packed: number * 2^32 + place * 2^16 + value. The number is
+    /// 0 where the call was accepted.
+    pub packed: u64,
+    /// The lent memory after the call; empty for a call that lends none.
+    pub memory: Vec<u8>,
+}
+
+impl Outcome {
+    /// The refusal number, 0 where the call was accepted.
+    pub fn number(&self) -> u8 {
+        (self.packed >> 32) as u8
+    }
+
+    /// The place of a refusal, or the offset of what was found.
+    pub fn place(&self) -> usize {
+        (self.packed >> 16 & 0xFFFF) as usize
+    }
+
+    /// The value of an accepted call: a length, a count or a class.
+    pub fn value(&self) -> usize {
+        (self.packed & 0xFFFF) as usize
+    }
+
+    /// The outcome in octets: the packed answer (8, least first), then the
+    /// lent memory after the call.
+    pub fn octets(&self) -> Vec<u8> {
+        let mut octets = Vec::with_capacity(8 + self.memory.len());
+        octets.extend(self.packed.to_le_bytes());
+        octets.extend_from_slice(&self.memory);
+        octets
+    }
+
+    fn new(packed: u64, memory: Vec<u8>) -> Self {
+        Outcome { packed, memory }
+    }
+}
+
+/// Packs an answer with a value only.
+fn packed(answer: Result<usize, Refusal>) -> u64 {
+    packed_range(answer.map(|value| 0..value))
+}
+
+/// Packs an answer with a place and a length.
+fn packed_range(answer: Result<Range<usize>, Refusal>) -> u64 {
+    match answer {
+        Ok(range) => (range.start as u64) << 16 | range.len() as u64,
+        Err(refusal) => u64::from(refusal.number) << 32 | (refusal.place as u64) << 16,
+    }
+}
+
+/// Puts the input to the plain codec.
+pub fn answer(input: &Input) -> Outcome {
+    let memory = input.lent().to_vec();
+    match input {
+        Input::Read { message, .. } => read(message, memory),
+        Input::Write { image, .. } => write(image, memory),
+        Input::Rows { message, .. } => rows(message, memory),
+        Input::FindCommon { message, header } => {
+            Outcome::new(packed_range(plain::find_common(message, *header)), memory)
+        }
+        Input::FindTransfer { message, name } => {
+            Outcome::new(packed_range(plain::find_transfer(message, *name)), memory)
+        }
+        Input::Class { header, octet } => Outcome::new(class(*header, *octet), memory),
+        Input::Replace { n, new, .. } => {
+            edited(memory, |buffer| plain::replace(buffer, (*n).into(), new))
+        }
+        Input::Append { n, new, .. } => {
+            edited(memory, |buffer| plain::append(buffer, (*n).into(), new))
+        }
+        Input::Remove { n, name, .. } => {
+            edited(memory, |buffer| plain::remove(buffer, (*n).into(), *name))
+        }
+    }
+}
+
+fn read(message: &[u8], mut memory: Vec<u8>) -> Outcome {
+    let answer = plain::read(message).and_then(|record| {
+        let image = plain::image(&record);
+        memory
+            .get_mut(..image.len())
+            .ok_or(Refusal::new(Refusal::ROOM_SHORT, 0))?
+            .copy_from_slice(&image);
+        Ok(image.len())
+    });
+    Outcome::new(packed(answer), memory)
+}
+
+fn write(image: &[u8], mut memory: Vec<u8>) -> Outcome {
+    let answer = plain::from_image(image).and_then(|record| plain::write(&record, &mut memory));
+    Outcome::new(packed(answer), memory)
+}
+
+fn rows(message: &[u8], mut memory: Vec<u8>) -> Outcome {
+    let mut table: Vec<Row> = memory.chunks_exact(ROW_LEN).map(row_of).collect();
+    let answer = plain::spans(message, &mut table);
+    for (octets, row) in memory.chunks_exact_mut(ROW_LEN).zip(&table) {
+        octets.copy_from_slice(&octets_of(row));
+    }
+    Outcome::new(packed(answer), memory)
+}
+
+fn row_of(octets: &[u8]) -> Row {
+    Row {
+        offset: u16::from_le_bytes([octets[0], octets[1]]),
+        header: octets[2],
+        len: u16::from_le_bytes([octets[3], octets[4]]),
+    }
+}
+
+fn octets_of(row: &Row) -> [u8; ROW_LEN] {
+    let [offset_low, offset_high] = row.offset.to_le_bytes();
+    let [len_low, len_high] = row.len.to_le_bytes();
+    [offset_low, offset_high, row.header, len_low, len_high]
+}
+
+fn class(header: u8, octet: u8) -> u64 {
+    packed(plain::class_of(header, octet).map(|class| match class {
+        Class::Named => 0,
+        Class::HeldBack => 1,
+        Class::Spare => 2,
+    }))
+}
+
+fn edited(mut memory: Vec<u8>, edit: impl FnOnce(&mut [u8]) -> Result<usize, Refusal>) -> Outcome {
+    let answer = edit(&mut memory);
+    Outcome::new(packed(answer), memory)
+}

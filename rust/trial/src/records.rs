@@ -1,0 +1,317 @@
+//! Records and their images: sound, with fields out of range, over the limits.
+
+use crate::messages::{self, sound_draft, Size};
+use crate::parameters::{shuffled_names, sound, spoilt_somehow};
+use crate::rng::Rng;
+use plain::{Common, Record, Transfer};
+
+/// An image of any kind: of a sound record, of a damaged one, or of none.
+pub fn image(rng: &mut Rng) -> Vec<u8> {
+    let mut image = match rng.weighted(&[5, 2, 10, 3]) {
+        0 => raw_image(&sound_record(rng)),
+        1 => {
+            let record = sound_record(rng);
+            noisy_image(rng, &record)
+        }
+        2 => {
+            let mut record = sound_record(rng);
+            damage(rng, &mut record);
+            if rng.one_in(4) {
+                damage(rng, &mut record);
+            }
+            raw_image(&record)
+        }
+        _ => raw_image(&heavy_record(rng)),
+    };
+    if rng.one_in(16) {
+        messages::scratch(rng, &mut image);
+    }
+    image
+}
+
+/// A record that writing accepts, if the room is long enough.
+fn sound_record(rng: &mut Rng) -> Record {
+    let size = messages::size(rng);
+    let message = sound_draft(rng, size).octets();
+    plain::read(&message).unwrap_or_default()
+}
+
+/// How a record holds the transfer parameter in these octets, if it is sound.
+fn held(parameter: &[u8]) -> Option<Transfer> {
+    let head = [0x01, 0x01, 0x06, 0x11, 0xC5, parameter.len() as u8];
+    let message = [&head, parameter, &[0x00]].concat();
+    let record = plain::read(&message).ok()?;
+    record.common.into_iter().last()?.transfers.pop()
+}
+
+/// A record whose transfer data comes near the limits, from below or above.
+fn heavy_record(rng: &mut Rng) -> Record {
+    let target = rng.between(225, 257);
+    let mut octets = 0;
+    let mut transfers = Vec::new();
+    for name in shuffled_names(rng) {
+        let room = rng.between(6, 120);
+        let Some(transfer) = held(&sound(rng, name, room)) else {
+            continue;
+        };
+        if octets + transfer.contents_len() <= target {
+            octets += transfer.contents_len();
+            transfers.push(transfer);
+        }
+        if rng.one_in(30) {
+            break;
+        }
+    }
+    let used = |name: u8| transfers.iter().any(|t| t.header & 0x3F == name);
+    let carried = [0x0C, 0x0D, 0x13, 0x20, 0x38];
+    if let Some(name) = carried.into_iter().find(|&name| !used(name)) {
+        transfers.push(Transfer {
+            header: 0xC0 | name,
+            values: rng.octets(target - octets),
+            ..Transfer::default()
+        });
+    }
+    let mut record = plain::read(&sound_draft(rng, Size::Crowd).octets()).unwrap_or_default();
+    if let Some(data) = data_of(&mut record) {
+        data.transfers = transfers;
+    }
+    record
+}
+
+fn data_of(record: &mut Record) -> Option<&mut Common> {
+    record.common.iter_mut().find(|c| c.header == 0xC5)
+}
+
+/// Damages a record somewhere.
+fn damage(rng: &mut Rng, record: &mut Record) {
+    if rng.below(3) > 0 {
+        if let Some(data) = data_of(record) {
+            return damage_transfers(rng, &mut data.transfers);
+        }
+    }
+    damage_common(rng, record);
+}
+
+fn damage_common(rng: &mut Rng, record: &mut Record) {
+    if record.common.is_empty() {
+        return;
+    }
+    let at = rng.below(record.common.len());
+    match rng.below(10) {
+        0 => record.common[at].header = rng.octet(),
+        1 => record.common[at].header = rng.pick(&[0x00, 0x01, 0x06, 0x82, 0x83, 0x04, 0xC5]),
+        2..=4 => {
+            let parameter = &mut record.common[at];
+            parameter.value = match rng.below(6) {
+                0 => rng.number() as u32,
+                1 => rng.pick(&[0, 0xFF, 0x100, 0x00FF_FFFF, 0x0100_0000, u32::MAX]),
+                2 => parameter.value | 1 << rng.between(8, 31),
+                3 => parameter.value ^ 1 << rng.below(8),
+                _ => rng.octet().into(),
+            };
+        }
+        5 | 6 => {
+            let again = record.common[at].clone();
+            let to = rng.between(0, record.common.len());
+            record.common.insert(to, again);
+        }
+        7 => {
+            record.common.remove(at);
+        }
+        8 => record.common.retain(|c| !matches!(c.header, 0x01 | 0x06)),
+        _ => {
+            let more = record.common.clone();
+            record.common.extend(more);
+        }
+    }
+}
+
+fn damage_transfers(rng: &mut Rng, transfers: &mut Vec<Transfer>) {
+    match rng.below(8) {
+        0 | 1 if !transfers.is_empty() => {
+            let mut again = transfers[rng.below(transfers.len())].clone();
+            if rng.one_in(3) {
+                again.values.clear();
+            }
+            let to = rng.between(0, transfers.len());
+            transfers.insert(to, again);
+        }
+        2 => {
+            let parameter = spoilt_somehow(rng);
+            let to = rng.between(0, transfers.len());
+            transfers.insert(to, as_octets(&parameter));
+        }
+        3 => {
+            let parameter = stranger(rng);
+            let to = rng.between(0, transfers.len());
+            transfers.insert(to, parameter);
+        }
+        4 if rng.one_in(4) => {
+            let header = rng.octet();
+            let bare = Transfer {
+                header,
+                ..Transfer::default()
+            };
+            transfers.resize(rng.between(50, 54), bare);
+        }
+        _ if !transfers.is_empty() => {
+            let at = rng.below(transfers.len());
+            damage_transfer(rng, &mut transfers[at]);
+        }
+        _ => transfers.push(stranger(rng)),
+    }
+}
+
+/// A parameter whose octets after the header, or after the length octet, are
+/// its values whatever they mean.
+fn as_octets(parameter: &[u8]) -> Transfer {
+    let header = parameter[0];
+    let skip = if header >> 6 == 3 { 2 } else { 1 };
+    Transfer {
+        header,
+        values: parameter.get(skip..).unwrap_or(&[]).to_vec(),
+        ..Transfer::default()
+    }
+}
+
+/// A parameter of a name in use, as a rule held soundly but for one damage.
+fn stranger(rng: &mut Rng) -> Transfer {
+    let name = shuffled_names(rng)[0];
+    let mut parameter = held(&sound(rng, name, 12)).unwrap_or_default();
+    damage_transfer(rng, &mut parameter);
+    parameter
+}
+
+fn damage_transfer(rng: &mut Rng, parameter: &mut Transfer) {
+    match rng.below(12) {
+        0 => parameter.header = rng.octet(),
+        1 => parameter.header ^= rng.pick(&[0x40, 0x80, 0xC0]),
+        2..=4 => {
+            let value = match rng.below(3) {
+                0 => rng.octet(),
+                1 => rng.pick(&[0, 1, 2, 3, 4, 7, 8, 127, 128, 255]),
+                _ => rng.octet() & 0x03,
+            };
+            *field(rng, parameter) = value;
+        }
+        5 => {
+            for value in rng.octets(8) {
+                *field(rng, parameter) = value;
+            }
+        }
+        6 => parameter.presentation = 2,
+        7 => {
+            let digit = rng.pick(&[10, 11, 12, 13, 15, 16, 255]);
+            let at = rng.between(0, parameter.values.len());
+            parameter.values.insert(at, digit);
+        }
+        8 => {
+            if !parameter.values.is_empty() {
+                let at = rng.below(parameter.values.len());
+                parameter.values[at] = rng.octet();
+            }
+        }
+        9 => {
+            parameter.values.pop();
+        }
+        10 => parameter.values.push(rng.octet() & 0x0F),
+        _ => {
+            let len = rng.pick(&[0, 1, 2, 3, 5, 62, 63, 64, 65, 127, 128, 253, 254, 255, 256]);
+            let len = len * rng.between(1, 2) + rng.below(2);
+            let value = rng.octet() & 0x0F;
+            parameter.values.resize(len, value);
+        }
+    }
+}
+
+/// One of the eight fields.
+fn field<'t>(rng: &mut Rng, parameter: &'t mut Transfer) -> &'t mut u8 {
+    match rng.below(8) {
+        0 => &mut parameter.notification,
+        1 => &mut parameter.verification,
+        2 => &mut parameter.dialling,
+        3 => &mut parameter.number_type,
+        4 => &mut parameter.incomplete,
+        5 => &mut parameter.plan,
+        6 => &mut parameter.presentation,
+        _ => &mut parameter.screening,
+    }
+}
+
+/// The image with every field as it is, also those a parameter does not have.
+fn raw_image(record: &Record) -> Vec<u8> {
+    let mut octets = vec![record.common.len() as u8];
+    for parameter in &record.common {
+        put_common(&mut octets, parameter, parameter.transfers.len() as u8);
+    }
+    octets
+}
+
+/// The image with any octets where nothing is looked at.
+fn noisy_image(rng: &mut Rng, record: &Record) -> Vec<u8> {
+    let mut octets = vec![record.common.len() as u8];
+    for parameter in &record.common {
+        let mut parameter = parameter.clone();
+        let count = if parameter.header == 0xC5 {
+            parameter.value = rng.number() as u32;
+            for transfer in &mut parameter.transfers {
+                add_noise(rng, transfer);
+            }
+            parameter.transfers.len() as u8
+        } else {
+            rng.octet()
+        };
+        put_common(&mut octets, &parameter, count);
+    }
+    octets
+}
+
+/// Fills the fields that a parameter does not have.
+fn add_noise(rng: &mut Rng, parameter: &mut Transfer) {
+    let noise = rng.number().to_le_bytes();
+    let is_number = matches!(parameter.header, 0xD7 | 0xDC)
+        || parameter.header == 0xDA && parameter.values.first() == Some(&0x06);
+    if !matches!(parameter.header, 0x90 | 0x91 | 0x95) {
+        parameter.notification = noise[0];
+    }
+    if parameter.header != 0x91 {
+        parameter.verification = noise[1];
+    }
+    if parameter.header != 0x98 {
+        parameter.dialling = noise[2];
+    }
+    if !is_number {
+        parameter.number_type = noise[3];
+        parameter.incomplete = noise[4];
+        parameter.plan = noise[5];
+        parameter.presentation = noise[6];
+        parameter.screening = noise[7];
+    }
+}
+
+fn put_common(octets: &mut Vec<u8>, parameter: &Common, count: u8) {
+    octets.push(parameter.header);
+    octets.extend(parameter.value.to_le_bytes());
+    octets.push(count);
+    if parameter.header == 0xC5 {
+        for transfer in &parameter.transfers {
+            put_transfer(octets, transfer);
+        }
+    }
+}
+
+fn put_transfer(octets: &mut Vec<u8>, parameter: &Transfer) {
+    octets.extend([
+        parameter.header,
+        parameter.notification,
+        parameter.verification,
+        parameter.dialling,
+        parameter.number_type,
+        parameter.incomplete,
+        parameter.plan,
+        parameter.presentation,
+        parameter.screening,
+    ]);
+    octets.extend((parameter.values.len() as u16).to_le_bytes());
+    octets.extend_from_slice(&parameter.values);
+}
