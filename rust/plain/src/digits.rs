@@ -14,11 +14,14 @@ pub(crate) const HIGHEST: u8 = 11;
 pub(crate) struct Coding {
     /// The code of each digit value: 0 to 9, 10 for `*`, 11 for `#`.
     code: [u8; 12],
-    /// The digit value of each code; of a spare code nothing that counts.
+    /// The digit value of each code, or [`SPARE`].
     digit: [u8; 16],
-    /// Bit `c` tells that code `c` is a digit's, not spare.
-    listed: u16,
+    /// For each octet, whether both its halves are digits' codes.
+    pair: [bool; 256],
 }
+
+/// Stands where a spare code has no digit value.
+const SPARE: u8 = 0xFF;
 
 /// The coding under PLI 10: zero is 10, and code 0 is spare.
 pub(crate) static DIALLED: Coding = Coding::new([10, 1, 2, 3, 4, 5, 6, 7, 8, 9, 11, 12]);
@@ -28,19 +31,19 @@ pub(crate) static NUMBER: Coding = Coding::new([0, 1, 2, 3, 4, 5, 6, 7, 8, 9, 11
 
 impl Coding {
     const fn new(code: [u8; 12]) -> Self {
-        let mut digit = [0; 16];
-        let mut listed = 0;
+        let mut digit = [SPARE; 16];
         let mut value = 0;
         while value < code.len() {
             digit[code[value] as usize] = value as u8;
-            listed |= 1 << code[value];
             value += 1;
         }
-        Coding {
-            code,
-            digit,
-            listed,
+        let mut pair = [false; 256];
+        let mut octet = 0;
+        while octet < pair.len() {
+            pair[octet] = digit[octet & 0x0F] != SPARE && digit[octet >> 4] != SPARE;
+            octet += 1;
         }
+        Coding { code, digit, pair }
     }
 
     /// Whether `octets` hold digits only, the last high half being 0 where the
@@ -50,42 +53,51 @@ impl Coding {
             Some((&last, pairs)) if odd => (pairs, Some(last)),
             _ => (octets, None),
         };
-        let pairs_listed = pairs.iter().fold(1, |all, &octet| {
-            all & (self.listed >> (octet & 0x0F)) & (self.listed >> (octet >> 4))
-        });
-        pairs_listed & 1 == 1 && last.is_none_or(|octet| octet < 0x10 && self.lists(octet))
+        pairs
+            .iter()
+            .fold(true, |all, &octet| all & self.pair[usize::from(octet)])
+            && last.is_none_or(|octet| octet < 0x10 && self.lists(octet))
     }
 
     fn lists(&self, code: u8) -> bool {
-        self.listed >> code & 1 == 1
+        self.digit[usize::from(code)] != SPARE
     }
 
-    /// Appends the first `count` digits of accepted `octets` to `values`.
+    /// Appends the `count` digits of accepted `octets`, which are as many as
+    /// they take, to `values`.
     pub(crate) fn decode(&self, octets: &[u8], count: usize, values: &mut Vec<u8>) {
         let digit = |code: u8| self.digit[usize::from(code & 0x0F)];
-        for &octet in &octets[..count / 2] {
-            values.extend_from_slice(&[digit(octet), digit(octet >> 4)]);
+        let start = values.len();
+        values.resize(start + count, 0);
+        let mut pairs = values[start..].chunks_exact_mut(2);
+        for (pair, &octet) in pairs.by_ref().zip(octets) {
+            pair[0] = digit(octet);
+            pair[1] = digit(octet >> 4);
         }
-        if count % 2 == 1 {
-            values.push(digit(octets[count / 2]));
+        if let ([last], Some(&octet)) = (pairs.into_remainder(), octets.last()) {
+            *last = digit(octet);
         }
     }
 
-    /// Lays `digits`, none over [`HIGHEST`], into the front of `octets`.
+    /// Lays `digits`, none over [`HIGHEST`], into `octets`, which are as many
+    /// as they take.
     pub(crate) fn encode(&self, digits: &[u8], octets: &mut [u8]) {
         let code = |digit: u8| self.code[usize::from(digit)];
-        for (octet, pair) in octets.iter_mut().zip(digits.chunks(2)) {
-            *octet = match *pair {
-                [low, high] => code(low) | code(high) << 4,
-                _ => code(pair[0]),
-            };
+        let pairs = digits.chunks_exact(2);
+        if let ([last], Some(octet)) = (pairs.remainder(), octets.last_mut()) {
+            *octet = code(*last);
+        }
+        for (octet, pair) in octets.iter_mut().zip(pairs) {
+            *octet = code(pair[0]) | code(pair[1]) << 4;
         }
     }
 }
 
 /// Whether all values are digits.
 pub(crate) fn all_digits(values: &[u8]) -> bool {
-    values.iter().all(|&value| value <= HIGHEST)
+    values
+        .iter()
+        .fold(true, |all, &value| all & (value <= HIGHEST))
 }
 
 #[cfg(test)]

@@ -26,14 +26,11 @@ struct Rows {
 }
 
 impl Rows {
-    /// The rows of a message that reading accepts.
-    fn of(message: &[u8]) -> Result<Self, Refusal> {
-        let mut rows = Rows {
+    fn new() -> Self {
+        Rows {
             rows: [Row::default(); ROW_LIMIT],
             count: 0,
-        };
-        walk(message, &mut rows)?;
-        Ok(rows)
+        }
     }
 
     // A message has at most 272 octets, so an offset or a length fits u16.
@@ -68,7 +65,9 @@ impl Visitor for Rows {
 /// The rows of all parameters in order of offset, the end mark included, or
 /// reading's refusal: 1 to 13.
 pub fn rows(message: &[u8]) -> Result<Vec<Row>, Refusal> {
-    Ok(Rows::of(message)?.as_slice().to_vec())
+    let mut rows = Rows::new();
+    walk(message, &mut rows)?;
+    Ok(rows.as_slice().to_vec())
 }
 
 /// Puts the rows of all parameters into the front of `table` and gives their
@@ -76,7 +75,8 @@ pub fn rows(message: &[u8]) -> Result<Vec<Row>, Refusal> {
 ///
 /// Refused are reading's 1 to 13, then 15 at 0 if the table is too short.
 pub fn spans(message: &[u8], table: &mut [Row]) -> Result<usize, Refusal> {
-    let rows = Rows::of(message)?;
+    let mut rows = Rows::new();
+    walk(message, &mut rows)?;
     let room = table
         .get_mut(..rows.count)
         .ok_or(Refusal::placeless(Refusal::ROOM_SHORT))?;
