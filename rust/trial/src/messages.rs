@@ -337,10 +337,19 @@ fn same_name_again(rng: &mut Rng, parameters: &[Vec<u8>]) -> Option<Vec<u8>> {
     }
     let again = &parameters[rng.below(parameters.len())];
     let name = again.first()? & 0x3F;
-    Some(if rng.one_in(2) {
-        again.clone()
-    } else {
-        sound(rng, name, 20)
+    Some(match rng.below(5) {
+        0 | 1 => again.clone(),
+        2 | 3 => sound(rng, name, 20),
+        _ => {
+            let mut again = again.clone();
+            let last = again.len() - 1;
+            match rng.below(3) {
+                0 => again[0] ^= rng.pick(&[0x40, 0x80, 0xC0]),
+                1 => again[last] ^= rng.octet(),
+                _ => again.truncate(last.max(1)),
+            }
+            again
+        }
     })
 }
 

@@ -16,15 +16,18 @@ pub enum Fault {
     BadForm,
     /// A digit is spare, or the filler is not 0.
     SpareDigit,
+    /// A digit is spare, and something else is wrong, too.
+    Twofold,
 }
 
 /// All faults.
-pub const FAULTS: [Fault; 5] = [
+pub const FAULTS: [Fault; 6] = [
     Fault::UnusedName,
     Fault::WrongPli,
     Fault::WrongLength,
     Fault::BadForm,
     Fault::SpareDigit,
+    Fault::Twofold,
 ];
 
 /// The names whose layout is as wanted.
@@ -198,6 +201,7 @@ pub fn spoilt(rng: &mut Rng, fault: Fault) -> Vec<u8> {
         Fault::WrongLength => wrong_length(rng),
         Fault::BadForm => bad_form(rng),
         Fault::SpareDigit => spare_digit(rng),
+        Fault::Twofold => twofold(rng),
     }
 }
 
@@ -254,7 +258,7 @@ fn bad_form(rng: &mut Rng) -> Vec<u8> {
         }
         Layout::GenericNumber => counted(name, &[]),
         Layout::Four => {
-            let len = rng.pick(&[0, 1, 2, 3, 3, 5, 5, 6, 9]);
+            let len = rng.pick(&[0, 1, 2, 3, 3, 5, 5, 6, 9, 250]);
             counted(name, &rng.octets(len))
         }
         Layout::Two { zero } if rng.one_in(2) => {
@@ -262,7 +266,7 @@ fn bad_form(rng: &mut Rng) -> Vec<u8> {
             counted(name, &[rng.octet(), second])
         }
         Layout::Two { .. } => {
-            let len = rng.pick(&[0, 1, 1, 3, 3, 4]);
+            let len = rng.pick(&[0, 1, 1, 3, 3, 4, 250]);
             counted(name, &rng.octets(len))
         }
         _ => counted(name, &bad_number(rng)),
@@ -281,13 +285,15 @@ fn bad_number(rng: &mut Rng) -> Vec<u8> {
 /// A number with presentation 2 and something that must not stand beside it.
 fn number_not_withheld(rng: &mut Rng) -> Vec<u8> {
     let screening = rng.octet() & 0x03;
-    match rng.below(5) {
-        0 => vec![rng.bit_of(0x7F), 0x08 | screening],
+    match rng.below(6) {
+        0 => vec![rng.bit_of(0xFF), 0x08 | screening],
         1 => vec![0x80, 0x08 | screening, rng.octet() & 0x07],
         2 => vec![0, 0x08 | screening | rng.bit_of(0xF0)],
         3 => vec![0, 0x08 | screening, rng.octet()],
+        4 => vec![0x80, 0x08 | screening],
         _ => {
-            let octets = number(rng, 4);
+            let spare = rng.pick(&[4, 4, 4, 250]);
+            let octets = number(rng, spare);
             let second = octets[1] & !0x0C | 0x08;
             [&[octets[0] | 0x01, second], &octets[2..]].concat()
         }
@@ -302,7 +308,11 @@ fn spare_digit(rng: &mut Rng) -> Vec<u8> {
     } else {
         (NUMBER_CODES, NUMBER_SPARE)
     };
-    let len = 1 + count(rng, 20);
+    let len = match (rng.below(16), is_dialled) {
+        (0, true) => rng.between(50, 63),
+        (0, false) => rng.between(100, 500),
+        _ => 1 + count(rng, 20),
+    };
     let mut codes = codes(rng, &listed, len);
     let filler = len % 2 == 1 && rng.one_in(2);
     if !filler {
@@ -323,6 +333,20 @@ fn spare_digit(rng: &mut Rng) -> Vec<u8> {
         if let Some(last) = octets.last_mut() {
             *last |= (rng.between(1, 15) as u8) << 4;
         }
+    }
+    octets
+}
+
+/// A spare digit beside a set bit, a withheld number or a wrong length.
+fn twofold(rng: &mut Rng) -> Vec<u8> {
+    let mut octets = spare_digit(rng);
+    match octets[0] {
+        _ if rng.one_in(4) => {
+            octets.pop();
+        }
+        0xDC => octets[3] = octets[3] & !0x0C | 0x08,
+        0xD7 | 0xDA => octets[1] = octets[1].wrapping_add(rng.pick(&[1, 0xFF])),
+        _ => octets[1] ^= rng.bit_of(0xC0),
     }
     octets
 }

@@ -71,11 +71,34 @@ fn heavy_record(rng: &mut Rng) -> Record {
             ..Transfer::default()
         });
     }
+    if rng.one_in(4) {
+        let at = rng.below(transfers.len());
+        transfers[at].header ^= rng.pick(&[0x01, 0x40, 0x80, 0xC0, 0xC1]);
+    }
     let mut record = plain::read(&sound_draft(rng, Size::Crowd).octets()).unwrap_or_default();
     if let Some(data) = data_of(&mut record) {
         data.transfers = transfers;
     }
+    if rng.one_in(4) {
+        damage_common(rng, &mut record);
+    }
     record
+}
+
+/// Takes a C5 apart into two.
+fn split_data(rng: &mut Rng, record: &mut Record) {
+    let Some(data) = data_of(record) else {
+        return;
+    };
+    let at = rng.between(0, data.transfers.len());
+    let transfers = data.transfers.split_off(at);
+    let to = rng.between(0, record.common.len());
+    let second = Common {
+        header: 0xC5,
+        value: 0,
+        transfers,
+    };
+    record.common.insert(to, second);
 }
 
 fn data_of(record: &mut Record) -> Option<&mut Common> {
@@ -97,7 +120,7 @@ fn damage_common(rng: &mut Rng, record: &mut Record) {
         return;
     }
     let at = rng.below(record.common.len());
-    match rng.below(10) {
+    match rng.below(11) {
         0 => record.common[at].header = rng.octet(),
         1 => record.common[at].header = rng.pick(&[0x00, 0x01, 0x06, 0x82, 0x83, 0x04, 0xC5]),
         2..=4 => {
@@ -119,6 +142,7 @@ fn damage_common(rng: &mut Rng, record: &mut Record) {
             record.common.remove(at);
         }
         8 => record.common.retain(|c| !matches!(c.header, 0x01 | 0x06)),
+        9 => split_data(rng, record),
         _ => {
             let more = record.common.clone();
             record.common.extend(more);
@@ -127,39 +151,81 @@ fn damage_common(rng: &mut Rng, record: &mut Record) {
 }
 
 fn damage_transfers(rng: &mut Rng, transfers: &mut Vec<Transfer>) {
-    match rng.below(8) {
+    let parameter = match rng.below(10) {
         0 | 1 if !transfers.is_empty() => {
             let mut again = transfers[rng.below(transfers.len())].clone();
             if rng.one_in(3) {
-                again.values.clear();
+                damage_transfer(rng, &mut again);
             }
-            let to = rng.between(0, transfers.len());
-            transfers.insert(to, again);
+            again
         }
-        2 => {
-            let parameter = spoilt_somehow(rng);
-            let to = rng.between(0, transfers.len());
-            transfers.insert(to, as_octets(&parameter));
-        }
-        3 => {
-            let parameter = stranger(rng);
-            let to = rng.between(0, transfers.len());
-            transfers.insert(to, parameter);
-        }
-        4 if rng.one_in(4) => {
+        2 => as_octets(&spoilt_somehow(rng)),
+        3 => stranger(rng),
+        4 => not_withheld(rng),
+        5 => twofold(rng),
+        6 if rng.one_in(3) => {
             let header = rng.octet();
             let bare = Transfer {
                 header,
                 ..Transfer::default()
             };
-            transfers.resize(rng.between(50, 54), bare);
+            transfers.resize(rng.between(50, 53), bare.clone());
+            bare
         }
         _ if !transfers.is_empty() => {
             let at = rng.below(transfers.len());
             damage_transfer(rng, &mut transfers[at]);
+            if rng.one_in(4) {
+                damage_transfer(rng, &mut transfers[at]);
+            }
+            return;
         }
-        _ => transfers.push(stranger(rng)),
+        _ => stranger(rng),
+    };
+    let to = rng.between(0, transfers.len());
+    transfers.insert(to, parameter);
+}
+
+/// DC with presentation 2 and, as a rule, something that must not stand beside it.
+fn not_withheld(rng: &mut Rng) -> Transfer {
+    let mut parameter = Transfer {
+        header: rng.pick(&[0xDC, 0xDC, 0xDC, 0xD7]),
+        presentation: 2,
+        screening: rng.octet() & 0x03,
+        ..Transfer::default()
+    };
+    match rng.below(6) {
+        0 => parameter.number_type = rng.octet() & 0x7F,
+        1 => parameter.incomplete = 1,
+        2 => parameter.plan = rng.octet() & 0x07,
+        3 => parameter.values.push(rng.octet() & 0x0F),
+        4 => *field(rng, &mut parameter) = 0,
+        _ => {}
     }
+    parameter
+}
+
+/// Digits with more than one thing wrong about them.
+fn twofold(rng: &mut Rng) -> Transfer {
+    let header = rng.pick(&[0x90, 0x91, 0x95, 0x98, 0xA3, 0xD7, 0xDC, 0xDA]);
+    let len = rng.pick(&[1, 2, 62, 63, 64, 65]);
+    let mut values: Vec<u8> = (0..len).map(|_| rng.below(12) as u8).collect();
+    if rng.one_in(2) {
+        let at = rng.below(len);
+        values[at] = 12;
+    }
+    if header == 0xDA {
+        values.insert(0, 0x06);
+    }
+    let mut parameter = Transfer {
+        header,
+        values,
+        ..Transfer::default()
+    };
+    for _ in 0..rng.below(4) {
+        *field(rng, &mut parameter) = 2;
+    }
+    parameter
 }
 
 /// A parameter whose octets after the header, or after the length octet, are
