@@ -1,16 +1,20 @@
 -- A record's image as octets, for calls from Rust and C: the values of a record one after the other, and before what is counted its count.
 use Prim.Native.Nat.{ℕ, zero, suc, _+_, _*_, _/_, _%_}
-use mathlib.Core.Bool.{Bool, cond, _&&_}
+use mathlib.Core.Path.{_≡_}
+use mathlib.Core.Bool.{Bool, cond, not, _&&_}
 use mathlib.Core.List.{List, [], _∷_, _++_}
-use lib.Dec.{eqb, leb}
+use lib.Dec.{eqb, leb, ltb}
 use lib.ListN.{length, getD, take, drop}
-use Rattle.annex.specs.Answers.{over-limits}
+use Rattle.annex.specs.Answers.{over-limits, no-room, refuse}
 use Rattle.annex.specs.Heads.{transfer-data, most-commons, most-transfers}
 use Rattle.annex.specs.Items.{Item, Part}
 use Rattle.annex.specs.Allowed.{itemsIn}
-use Rattle.annex.specs.Records.{headOf, commonHeadOf, rawItem, valuesOf, pack}
+use Rattle.annex.specs.Records.{headOf, commonHeadOf, rawItem, valuesOf, pack, isWhole, view}
+use Rattle.annex.specs.Writing.{roomAfter}
 use Rattle.annex.specs.declared.Common.{Common}
 use Rattle.annex.specs.declared.Transfer.{Transfer}
+use Rattle.annex.specs.declared.Record.{Record}
+use Rattle.annex.specs.declared.Answer.{Answer}
 use Rattle.annex.specs.declared.Answer.the-variants.{Accepted, Refused}
 use Rattle.image.specs.declared.reading.Imaged.{Imaged}
 
@@ -51,6 +55,17 @@ imageParts (p ∷ ps) = imagePart p ++ imageParts ps
 -- a record: the count of its common parameters, then these
 unfoldable pub imageOf : List Part → List ℕ
 imageOf r = length r ∷ imageParts r
+
+-- the image of a struct, and so much room for it: 1 where the struct's counts and lengths leave its arrays, 15 where the room is shorter
+unfoldable pub imagingOf : Record → ℕ → Answer
+imagingOf q room =
+    refuse (not (isWhole q)) over-limits 0
+    (refuse (ltb room (length (imageOf (view q)))) no-room 0
+    (Accepted (length (imageOf (view q)))))
+
+-- what the room then holds: the image at its front, octets past it as before; unchanged where refused
+unfoldable pub imagedIn : Record → List ℕ → List ℕ
+imagedIn q room = roomAfter (imagingOf q (length room)) (imageOf (view q)) room
 
 -- ---- from an image to a record
 
@@ -134,3 +149,11 @@ imagedBy n Short = noImage
 unfoldable pub imagedOf : List ℕ → Imaged
 imagedOf [] = noImage
 imagedOf (n ∷ s) = imagedBy (length s) (partsAt n s)
+
+-- ---- the promises
+
+abbrev pub ToImagePromise : Record → List ℕ → Answer → List ℕ → Type 0
+ToImagePromise q room r now = (r ≡ imagingOf q (length room)) × (now ≡ imagedIn q room)
+
+abbrev pub FromImagePromise : List ℕ → Imaged → Type 0
+FromImagePromise m r = r ≡ imagedOf m

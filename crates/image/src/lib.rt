@@ -1,2 +1,3 @@
 // A record's image as octets, for calls from Rust and C.
+pub mod laying;
 pub mod reading;

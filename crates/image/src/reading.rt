@@ -6,9 +6,9 @@ use annex::Transfer;
 use parameter::opening::open_contents;
 use reader::reading::empty;
 ghost use mathlib.Core.Path.{_≡_};
-ghost use Prim.Native.Nat.{ℕ, _≤_};
+ghost use Prim.Native.Nat.{_≤_};
 ghost use lib.ListN.{length};
-ghost use Rattle.image.specs.Image.{headAt, itemSize, itemsAt, commonAt, partsAt, noImage, imagedBy, imagedOf};
+ghost use Rattle.image.specs.Image.{headAt, itemsAt, commonAt, partsAt, noImage, imagedBy, FromImagePromise};
 ghost use Rattle.image.specs.Filling.{fitsAt, unfilled, filledBy};
 
 // What an image gives: accepted with the count of common parameters, and the record; or refused, and the empty record.
@@ -203,7 +203,7 @@ fn fill(s: &[u8], count: usize) -> Imaged
 
 // The record of an image; where it is no whole record, has octets left over or is over the limits, 1 at 0 and the empty record.
 pub fn from_image(image: &[u8]) -> Imaged
-    ensures { λ r. ⌜ r ≡ imagedOf (now (image .entry)) ⌝ }
+    ensures { λ r. ⌜ FromImagePromise (now (image .entry)) r ⌝ }
 {
     if image.len() == 0 {
         return Imaged::refused();

@@ -42,12 +42,12 @@ told-whole q e =
     }
 
 -- as many parts and parameters as there are heads
-length-parts : (cs : List Common) (ts : List Transfer) (vs : List ℕ) → length (viewParts cs ts vs) ≡ length cs
+pub length-parts : (cs : List Common) (ts : List Transfer) (vs : List ℕ) → length (viewParts cs ts vs) ≡ length cs
 unfolding viewParts
 length-parts [] ts vs = refl
 length-parts (c ∷ cs) ts vs = ap suc (length-parts cs _ _)
 
-length-items : (ts : List Transfer) (vs : List ℕ) → length (viewItems ts vs) ≡ length ts
+pub length-items : (ts : List Transfer) (vs : List ℕ) → length (viewItems ts vs) ≡ length ts
 unfolding viewItems
 length-items [] vs = refl
 length-items (t ∷ ts) vs = ap suc (length-items ts _)

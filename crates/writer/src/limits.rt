@@ -1,12 +1,16 @@
 // The limits of a record: its counts and lengths stay within its arrays, and its contents within 255 octets.
+use annex::Answer;
 use annex::Common;
 use annex::Record;
 use annex::Transfer;
 use parameter::laying::contents_len;
 ghost use mathlib.Core.Path.{_≡_};
+ghost use mathlib.Core.Bool.{not};
 ghost use Prim.Native.Nat.{_≤_};
+ghost use Rattle.annex.specs.Answers.{over-limits, refuse};
 ghost use Rattle.annex.specs.Allowed.{contentsSum};
 ghost use Rattle.annex.specs.Records.{transfersIn, transfersSum, commonsIn, isWhole};
+ghost use Rattle.annex.specs.declared.Answer.the-variants.{Accepted};
 ghost use Rattle.writer.specs.Along.{usedAt, itemsAt, Within};
 ghost use Rattle.writer.specs.Limits.{isOver};
 
@@ -66,6 +70,17 @@ fn is_whole(q: Record) -> bool
         return false;
     }
     values_before(q, n) <= Transfer::MOST_VALUES
+}
+
+// How many transfer parameters a record holds, or 1 where its counts and lengths leave its arrays.
+pub fn transfers_held(q: Record) -> Answer
+    ensures { λ r. ⌜ r ≡ refuse (not (isWhole q)) over-limits 0 (Accepted (transfersSum (commonsIn q))) ⌝ }
+{
+    if !is_whole(q) {
+        return Answer::Refused(Answer::OVER_LIMITS, 0);
+    }
+    let n = transfers_sum(q);
+    Answer::Accepted(n)
 }
 
 // How many octets the contents of the first n transfer parameters come to.
