@@ -7,19 +7,22 @@ use mathlib.Core.Bool.{Bool, true, false, cond}
 use mathlib.Core.List.{List, [], _∷_, _++_, append-assoc, append-nil}
 use borrow.Author.Tests.{eq-eqb, le-leb, ltb-true}
 use lib.Dec.{eqb, leb}
-use lib.ListN.{length, drop, length-append}
+use lib.ListN.{length, take, drop, length-append}
 use lib.Seq.{take-append-seam, drop-append-seam}
 use Rattle.annex.specs.Heads.{transfer-data, most-commons, most-transfers, call-numbers}
-use Rattle.annex.specs.Items.{Item, Part}
-use Rattle.annex.specs.Allowed.{Each, itemsIn, valueRight, valueFits, Allowed}
-use Rattle.annex.specs.Reading.{octetAllowed}
-use Rattle.annex.specs.Records.{valuesOf, pack}
+use Rattle.annex.specs.Items.{Item, Part, markedItem}
+use Rattle.annex.specs.Allowed.{Each, every, isOctet, itemsIn, valueRight, valueFits, Allowed}
+use Rattle.annex.specs.Reading.{octetAllowed, verdictOf, recordOf}
+use Rattle.annex.specs.Records.{valuesOf, pack, view, readingOf}
 use Rattle.annex.specs.declared.Answer.the-variants.{Accepted}
 use Rattle.theorems.specs.Lists.{each-left, each-right, each-so}
 use Rattle.theorems.specs.Commons.{Kind, kind, AllowedPart}
 use Rattle.theorems.specs.Commons.Kind.{octet, call, many}
 use Rattle.theorems.specs.Records.{plain-items, allowed-parts, Within, allowed-within}
-use Rattle.image.specs.Image.{imageItem, imageItems, imagePart, imageParts, imageOf, itemAt, itemSize, itemsAt, commonAt, partAt, partsAt, isWithin, imagedOf}
+use Rattle.theorems.specs.Views.{view-pack, whole-pack}
+use Rattle.theorems.specs.Messages.{read-then-laid}
+use Rattle.image.specs.Image.{imageItem, imageItems, imagePart, imageParts, imageOf, imagingOf, imagedIn, itemAt, itemSize, itemsAt, commonAt, partAt, partsAt, noImage, isWithin, imagedOf}
+use Rattle.image.specs.Laying.{imaging-done}
 use Rattle.image.specs.Image.Front.{Taken}
 
 -- ---- a transfer parameter, octets behind it
@@ -135,3 +138,57 @@ imageable p a = record { small = value-small p a (kind (p .header) (a .listed));
 -- so the image of an allowed record gives the record
 pub allowed-back : (r : List Part) → Allowed r → imagedOf (imageOf r) ≡ record { answer = Accepted (length r); held = pack r }
 allowed-back r a = image-back r (allowed-within r a) (each-so AllowedPart Imageable imageable r (allowed-parts r a))
+
+-- ---- a struct handed out
+
+-- the struct of an allowed record: its image is that of the record, which gives the struct again
+pub struct-back : (r : List Part) → Allowed r → (room : List ℕ) → length (imageOf r) ≤ length room → (imagingOf (pack r) (length room) ≡ Accepted (length (imageOf r))) × (imagedIn (pack r) room ≡ imageOf r ++ drop (length (imageOf r)) room) × (imagedOf (imageOf r) ≡ record { answer = Accepted (length r); held = pack r })
+struct-back r a room h =
+    let v = view-pack r (a .held) in
+    let w = whole-pack r (a .held) (allowed-within r a) in
+    let d = rw v at (imaging-done (pack r) room w (rw v h)) in
+    (sym (d .0), sym (d .1), allowed-back r a)
+
+-- so the struct of an accepted message, its image written and read, is the same struct
+pub read-back : (m : List ℕ) → every isOctet m ≡ true → (n : ℕ) → verdictOf m ≡ Accepted n →
+    let q = readingOf m .«record» in
+    imagedOf (imageOf (view q)) ≡ record { answer = Accepted (length (recordOf m)); held = q }
+unfolding readingOf
+read-back m o n e =
+    let a = read-then-laid m o n e .1 in
+    rw (e, view-pack (recordOf m) (a .held)) (allowed-back (recordOf m) a)
+
+-- ---- an example: user class 1, own call number 12345, transfer data with the originating area 1203
+
+abbrev example : List Part
+example =
+    record { header = 0x01; value = 1; items = [] } ∷
+    record { header = 0x83; value = 12345; items = [] } ∷
+    record { header = 0xC5; value = 0; items = markedItem 0x90 0 0 0 (1 ∷ 2 ∷ 0 ∷ 3 ∷ []) ∷ [] } ∷
+    []
+
+abbrev octets : List ℕ
+octets =
+    3 ∷
+    0x01 ∷ 1 ∷ 0 ∷ 0 ∷ 0 ∷ 0 ∷
+    0x83 ∷ 0x39 ∷ 0x30 ∷ 0 ∷ 0 ∷ 0 ∷
+    0xC5 ∷ 0 ∷ 0 ∷ 0 ∷ 0 ∷ 1 ∷
+    0x90 ∷ 0 ∷ 0 ∷ 0 ∷ 0 ∷ 0 ∷ 0 ∷ 0 ∷ 0 ∷ 4 ∷ 0 ∷ 1 ∷ 2 ∷ 0 ∷ 3 ∷
+    []
+
+pub example-image : imageOf example ≡ octets
+unfolding imageItem imageItems imagePart imageParts imageOf
+example-image = refl
+
+pub example-back : imagedOf octets ≡ record { answer = Accepted 3; held = pack example }
+unfolding itemsAt partsAt isWithin imagedOf valuesOf
+example-back = refl
+
+-- an octet left over, or one cut off: no record
+pub example-over : imagedOf (octets ++ 0 ∷ []) ≡ noImage
+unfolding itemsAt partsAt isWithin imagedOf
+example-over = refl
+
+pub example-cut : imagedOf (take 33 octets) ≡ noImage
+unfolding itemsAt partsAt isWithin imagedOf
+example-cut = refl
