@@ -85,14 +85,17 @@ fn message(m: &[u8]) -> Answer
     requires { ⌜ length (now m) ≤ 272 ⌝ }
     ensures { λ r. ⌜ r ≡ messageVerdict (now (m .entry)) ⌝ }
 {
-    let mut seen = [0u8; 64];
+    let mut seen = [0u8; Transfer::NAMES];
     let mut i = 0;
     while i < m.len() {
         let h = m[i];
         let name = (h % 64) as usize;
         let from = i + 1;
         let times = seen[name];
-        let whole = both(0 < seen[1], 0 < seen[6]);
+        let whole = both(
+            0 < seen[Common::USER_CLASS as usize],
+            0 < seen[Common::SIGNAL_KIND as usize],
+        );
         let a = common(times, whole, h, &m[from..]);
         let Answer::Accepted(n) = a else {
             return shift(a, i);
@@ -100,7 +103,7 @@ fn message(m: &[u8]) -> Answer
         seen[name] = times + 1;
         i = from + n;
     }
-    if 0 < seen[0] {
+    if 0 < seen[Common::END_MARK as usize] {
         return Answer::Accepted(i);
     }
     Answer::Refused(Answer::CUT_SHORT, i)

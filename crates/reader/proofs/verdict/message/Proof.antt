@@ -98,6 +98,8 @@ message-spec =
     (λ c. search needs)
     (λ c. search needs)
     (λ c. search needs)
+    (λ c. search needs)
+    (λ c. search needs)
     (λ c κs. search needs)
     (λ c. search needs)
     (λ c. search needs)
@@ -112,6 +114,7 @@ message-spec =
     add-i
     (λ c. search needs)
     loop-again
+    (λ c. search needs)
     (λ c. search needs)
     returns-2
     returns-3)
