@@ -1,4 +1,4 @@
-// The only loops that write into lent octets. Where a request does not fit, nothing is written and the answer is false.
+// Copying, moving and clearing within lent octets. Where a request does not fit, nothing is written and the answer is false.
 ghost use mathlib.Core.Path.{_≡_};
 ghost use mathlib.Core.Bool.{cond, _&&_};
 ghost use Prim.Native.Nat.{_+_, _-_, _≤_};
