@@ -2,11 +2,12 @@
 -- m: the octets of a message; room, table, buffer: lent memory at entry; now: at exit.
 use Prim.Native.Nat.{ℕ}
 use mathlib.Core.Path.{_≡_}
+use mathlib.Core.Bool.{Bool, cond}
 use mathlib.Core.List.{List}
 use lib.ListN.{length}
 use Rattle.annex.specs.Reading.{verdictOf}
 use Rattle.annex.specs.Records.{readingOf}
-use Rattle.annex.specs.Writing.{writingOf, writtenOf}
+use Rattle.annex.specs.Writing.{structWriting, writingOf, writtenOf}
 use Rattle.annex.specs.Finding.{commonFound, transferFound, findAnswer, findPart}
 use Rattle.annex.specs.Spans.{rowAt, spansOf, tableOf}
 use Rattle.annex.specs.Editing.{Edit, editingOf, bufferOf}
@@ -47,8 +48,19 @@ SpansPromise m table r now = (r ≡ spansOf m (length table)) × (now ≡ tableO
 abbrev pub WritePromise : Record → List ℕ → Answer → List ℕ → Type 0
 WritePromise s room r now = (r ≡ writingOf s (length room)) × (now ≡ writtenOf s room)
 
+abbrev pub RecordRefusalPromise : Record → Answer → Type 0
+RecordRefusalPromise s r = r ≡ structWriting s
+
 abbrev pub EditPromise : Edit → List ℕ → ℕ → Answer → List ℕ → Type 0
 EditPromise e buffer n r now = (r ≡ editingOf e buffer n) × (now ≡ bufferOf e buffer n)
 
 abbrev pub ClassPromise : ℕ → ℕ → ClassAnswer → Type 0
 ClassPromise h x r = r ≡ classOf h x
+
+-- The functions that serve these. One answers what the definition named beside it gives;
+abbrev pub Gives : {A : Type 0} → A → A → Type 0
+Gives given r = r ≡ given
+
+-- one that stores says whether the request fits, and where it does not, lent memory stays as it was.
+abbrev pub Stores : Bool → List ℕ → List ℕ → Bool → List ℕ → Type 0
+Stores fits stored before r now = (r ≡ fits) × (now ≡ cond r stored before)

@@ -2,6 +2,7 @@
 // What they mean is said in specs/, which is all that a reader has to believe.
 ghost use mathlib.Core.Path.{_≡_};
 ghost use Prim.Native.Nat.{_+_, _*_, _%_};
+ghost use Rattle.annex.specs.Promises.{Gives};
 ghost use Rattle.annex.specs.Units.{octetsOf};
 ghost use Rattle.annex.specs.Records.{octetHead, callHead, dataHead, carriedHead, dialledHead, numberHead, noCommon, noTransfer};
 
@@ -62,7 +63,7 @@ pub struct Octets(pub usize);
 impl HalfOctets {
     // Two half-octets to an octet, rounded up.
     pub fn octets(self) -> Octets
-        ensures { λ r. ⌜ r ≡ octetsOf self ⌝ }
+        ensures { λ r. ⌜ Gives (octetsOf self) r ⌝ }
     {
         let n = self.0;
         Octets(n / 2 + n % 2)
@@ -122,7 +123,7 @@ impl Common {
     pub const CALL_NUMBER_BELOW: u32 = 0x1000000;
 
     pub fn none() -> Common
-        ensures { λ r. ⌜ r ≡ noCommon ⌝ }
+        ensures { λ r. ⌜ Gives noCommon r ⌝ }
     {
         Common {
             header: 0,
@@ -132,7 +133,7 @@ impl Common {
     }
 
     pub fn octet(header: u8, octet: u8) -> Common
-        ensures { λ r. ⌜ r ≡ octetHead header octet ⌝ }
+        ensures { λ r. ⌜ Gives (octetHead header octet) r ⌝ }
     {
         Common {
             header: header,
@@ -142,7 +143,7 @@ impl Common {
     }
 
     pub fn call_number(header: u8, number: u32) -> Common
-        ensures { λ r. ⌜ r ≡ callHead header number ⌝ }
+        ensures { λ r. ⌜ Gives (callHead header number) r ⌝ }
     {
         Common {
             header: header,
@@ -152,7 +153,7 @@ impl Common {
     }
 
     pub fn transfer_data(transfers: u8) -> Common
-        ensures { λ r. ⌜ r ≡ dataHead transfers ⌝ }
+        ensures { λ r. ⌜ Gives (dataHead transfers) r ⌝ }
     {
         Common {
             header: Common::TRANSFER_DATA,
@@ -302,13 +303,13 @@ impl Transfer {
     pub const MOST_VALUES: usize = 512;
 
     pub fn none() -> Transfer
-        ensures { λ r. ⌜ r ≡ noTransfer ⌝ }
+        ensures { λ r. ⌜ Gives noTransfer r ⌝ }
     {
         Transfer::carried(0, 0)
     }
 
     pub fn carried(header: u8, len: u16) -> Transfer
-        ensures { λ r. ⌜ r ≡ carriedHead header len ⌝ }
+        ensures { λ r. ⌜ Gives (carriedHead header len) r ⌝ }
     {
         Transfer {
             header: header,
@@ -331,7 +332,7 @@ impl Transfer {
         dialling: u8,
         len: u16,
     ) -> Transfer
-        ensures { λ r. ⌜ r ≡ dialledHead header notification verification dialling len ⌝ }
+        ensures { λ r. ⌜ Gives (dialledHead header notification verification dialling len) r ⌝ }
     {
         Transfer {
             header: header,
@@ -349,7 +350,7 @@ impl Transfer {
 
     // A number with its first two octets, as in D7.
     pub fn number(header: u8, first: u8, second: u8, len: u16) -> Transfer
-        ensures { λ r. ⌜ r ≡ numberHead header first second len ⌝ }
+        ensures { λ r. ⌜ Gives (numberHead header first second len) r ⌝ }
     {
         Transfer {
             header: header,

@@ -10,15 +10,15 @@ use parameter::units::extent_of;
 use parameter::units::lead;
 use parameter::units::octets_after;
 use reader::verdict::verdict;
-ghost use mathlib.Core.Path.{_≡_};
 ghost use mathlib.Core.List.{_∷_};
+ghost use Rattle.annex.specs.Promises.{Gives};
 ghost use Rattle.annex.specs.Editing.{newContents};
 ghost use Rattle.editor.specs.Steps.{messageAnswer, headAnswer};
 ghost use Rattle.editor.specs.Whole.{wholeSearch};
 
 // The message in the buffer's first n octets: 15 if n is beyond the buffer, then reading's numbers.
 pub fn message_in(buffer: &[u8], n: usize) -> Answer
-    ensures { λ r. ⌜ r ≡ messageAnswer (now (buffer .entry)) n ⌝ }
+    ensures { λ r. ⌜ Gives (messageAnswer (now (buffer .entry)) n) r ⌝ }
 {
     if buffer.len() < n {
         return Answer::Refused(Answer::NO_ROOM, 0);
@@ -28,7 +28,7 @@ pub fn message_in(buffer: &[u8], n: usize) -> Answer
 
 // A new parameter's header: 11 if there is none, 8, 9.
 pub fn new_head(new: &[u8]) -> Answer
-    ensures { λ r. ⌜ r ≡ headAnswer (now (new .entry)) ⌝ }
+    ensures { λ r. ⌜ Gives (headAnswer (now (new .entry))) r ⌝ }
 {
     if new.len() == 0 {
         return Answer::Refused(Answer::CUT_CONTENTS, 0);
@@ -45,7 +45,7 @@ pub fn new_head(new: &[u8]) -> Answer
 
 // The octets xs after its header: 11 if they are too few or some are left over, 12, 13.
 pub fn new_contents(header: u8, xs: &[u8]) -> Answer
-    ensures { λ r. ⌜ r ≡ newContents (header ∷ now (xs .entry)) ⌝ }
+    ensures { λ r. ⌜ Gives (newContents (header ∷ now (xs .entry))) r ⌝ }
 {
     let e = extent_of(header);
     let n = octets_after(e, octet_at(xs, 0));
@@ -62,7 +62,7 @@ pub fn new_contents(header: u8, xs: &[u8]) -> Answer
 
 // The whole parameter of this name in the transfer data t, from its header to its end, by the length rule alone.
 pub fn whole_search(t: &[u8], name: u8) -> Found
-    ensures { λ r. ⌜ r ≡ wholeSearch name (now (t .entry)) ⌝ }
+    ensures { λ r. ⌜ Gives (wholeSearch name (now (t .entry))) r ⌝ }
 {
     let mut i = 0;
     while i < t.len() {

@@ -1,9 +1,10 @@
 // Copying, moving and clearing within lent octets. Where a request does not fit, nothing is written and the answer is false.
 ghost use mathlib.Core.Path.{_≡_};
-ghost use mathlib.Core.Bool.{cond, _&&_};
+ghost use mathlib.Core.Bool.{_&&_};
 ghost use Prim.Native.Nat.{_+_, _-_, _≤_};
 ghost use lib.Dec.{leb};
 ghost use lib.ListN.{length, replicate};
+ghost use Rattle.annex.specs.Promises.{Stores};
 ghost use Rattle.octets.specs.Put.{put, part};
 ghost use Rattle.octets.specs.Splice.{spliced, spliceFits, Fitting};
 
@@ -83,8 +84,8 @@ fn move_fitting(d: &mut [u8], from: usize, to: usize, k: usize)
 
 // Writes s over d from index at on.
 pub fn copy_in(d: &mut [u8], at: usize, s: &[u8]) -> bool
-    ensures { λ r. ⌜ (r ≡ leb (at + length (now (s .entry))) (length (now (d .entry))))
-        × (now (d .exit) ≡ cond r (put (now (d .entry)) at (now (s .entry))) (now (d .entry))) ⌝ }
+    ensures { λ r. ⌜ Stores (leb (at + length (now (s .entry))) (length (now (d .entry))))
+        (put (now (d .entry)) at (now (s .entry))) (now (d .entry)) r (now (d .exit)) ⌝ }
 {
     if lies_within(d.len(), at, s.len()) {
         copy_fitting(d, at, s);
@@ -96,8 +97,8 @@ pub fn copy_in(d: &mut [u8], at: usize, s: &[u8]) -> bool
 
 // Sets k octets of d from index from on to 0.
 pub fn clear(d: &mut [u8], from: usize, k: usize) -> bool
-    ensures { λ r. ⌜ (r ≡ leb (from + k) (length (now (d .entry))))
-        × (now (d .exit) ≡ cond r (put (now (d .entry)) from (replicate k 0)) (now (d .entry))) ⌝ }
+    ensures { λ r. ⌜ Stores (leb (from + k) (length (now (d .entry))))
+        (put (now (d .entry)) from (replicate k 0)) (now (d .entry)) r (now (d .exit)) ⌝ }
 {
     if lies_within(d.len(), from, k) {
         clear_fitting(d, from, k);
@@ -109,8 +110,8 @@ pub fn clear(d: &mut [u8], from: usize, k: usize) -> bool
 
 // Moves k octets of d from index from to index to.
 pub fn move_within(d: &mut [u8], from: usize, to: usize, k: usize) -> bool
-    ensures { λ r. ⌜ (r ≡ leb (from + k) (length (now (d .entry))) && leb (to + k) (length (now (d .entry))))
-        × (now (d .exit) ≡ cond r (put (now (d .entry)) to (part (now (d .entry)) from k)) (now (d .entry))) ⌝ }
+    ensures { λ r. ⌜ Stores (leb (from + k) (length (now (d .entry))) && leb (to + k) (length (now (d .entry))))
+        (put (now (d .entry)) to (part (now (d .entry)) from k)) (now (d .entry)) r (now (d .exit)) ⌝ }
 {
     if lies_within(d.len(), from, k) && lies_within(d.len(), to, k) {
         move_fitting(d, from, to, k);
@@ -136,8 +137,8 @@ fn splice_fitting(d: &mut [u8], n: usize, from: usize, old: usize, new: &[u8])
 
 // Replaces the old octets from index from on of the message in the first n octets of d by new. Octets from the new end to the old are set to 0.
 pub fn splice(d: &mut [u8], n: usize, from: usize, old: usize, new: &[u8]) -> bool
-    ensures { λ r. ⌜ (r ≡ spliceFits (now (d .entry)) n from old (now (new .entry)))
-        × (now (d .exit) ≡ cond r (spliced (now (d .entry)) n from old (now (new .entry))) (now (d .entry))) ⌝ }
+    ensures { λ r. ⌜ Stores (spliceFits (now (d .entry)) n from old (now (new .entry)))
+        (spliced (now (d .entry)) n from old (now (new .entry))) (now (d .entry)) r (now (d .exit)) ⌝ }
 {
     if lies_within(n, from, old) && n <= d.len() && lies_within(d.len(), n - old, new.len()) {
         splice_fitting(d, n, from, old, new);

@@ -12,6 +12,7 @@ ghost use mathlib.Core.Bool.{cond};
 ghost use Prim.Native.Nat.{_≤_};
 ghost use lib.Dec.{eqb};
 ghost use lib.ListN.{getD};
+ghost use Rattle.annex.specs.Promises.{Gives};
 ghost use Rattle.annex.specs.Heads.{formOf};
 ghost use Rattle.annex.specs.Digits.{isCode, digitsFault};
 ghost use Rattle.annex.specs.Contents.{
@@ -27,7 +28,7 @@ ghost use Rattle.annex.specs.Contents.{
 
 // The octet at i, and 0 past the end.
 pub fn octet_at(octets: &[u8], i: usize) -> u8
-    ensures { λ r. ⌜ r ≡ getD (now (octets .entry)) i 0 ⌝ }
+    ensures { λ r. ⌜ Gives (getD (now (octets .entry)) i 0) r ⌝ }
 {
     if octets.len() <= i {
         return 0;
@@ -159,7 +160,7 @@ fn form_fault(header: u8, s: &[u8]) -> Fault
 
 // The contents s under a header: first the bits that must be 0, then the form.
 pub fn contents_fault(header: u8, s: &[u8]) -> Fault
-    ensures { λ r. ⌜ r ≡ faultOf header (now (s .entry)) ⌝ }
+    ensures { λ r. ⌜ Gives (faultOf header (now (s .entry))) r ⌝ }
 {
     let first = octet_at(s, 0);
     let zeroes = zeroes_of(header);

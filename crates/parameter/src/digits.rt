@@ -1,12 +1,12 @@
 // Digits in half-octets, the low half first.
 use annex::Alphabet;
-ghost use mathlib.Core.Path.{_≡_};
 ghost use lib.ListN.{getD};
+ghost use Rattle.annex.specs.Promises.{Gives};
 ghost use Rattle.annex.specs.Digits.{halves, digitOf, codeOf, isCode};
 
 // The half-octet at i, and 0 past the end.
 pub fn half_at(octets: &[u8], i: usize) -> u8
-    ensures { λ r. ⌜ r ≡ getD (halves (now (octets .entry))) i 0 ⌝ }
+    ensures { λ r. ⌜ Gives (getD (halves (now (octets .entry))) i 0) r ⌝ }
 {
     let k = i / 2;
     if octets.len() <= k {
@@ -21,7 +21,7 @@ pub fn half_at(octets: &[u8], i: usize) -> u8
 
 // The digit that a half-octet stands for.
 pub fn digit_of(z: Alphabet, h: u8) -> u8
-    ensures { λ r. ⌜ r ≡ digitOf z h ⌝ }
+    ensures { λ r. ⌜ Gives (digitOf z h) r ⌝ }
 {
     if h == 11 {
         return 10;
@@ -37,7 +37,7 @@ pub fn digit_of(z: Alphabet, h: u8) -> u8
 
 // The half-octet that stands for a digit.
 pub fn code_of(z: Alphabet, d: u8) -> u8
-    ensures { λ r. ⌜ r ≡ codeOf z d ⌝ }
+    ensures { λ r. ⌜ Gives (codeOf z d) r ⌝ }
 {
     if d == 10 {
         return 11;
@@ -53,7 +53,7 @@ pub fn code_of(z: Alphabet, d: u8) -> u8
 
 // Whether a half-octet stands for a digit.
 pub fn is_code(z: Alphabet, h: u8) -> bool
-    ensures { λ r. ⌜ r ≡ isCode z h ⌝ }
+    ensures { λ r. ⌜ Gives (isCode z h) r ⌝ }
 {
     if 12 < h {
         return false;

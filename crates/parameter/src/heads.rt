@@ -1,6 +1,7 @@
 // The headers of transfer parameters: names in use, the PLI of each, and the bits that must be 0.
 use annex::Transfer;
 ghost use mathlib.Core.Path.{_≡_};
+ghost use Rattle.annex.specs.Promises.{Gives};
 ghost use Rattle.annex.specs.Heads.{among, freeNames, nameUsed, pliRight, oftenOf, zeroesOf, formOf};
 ghost use Rattle.parameter.specs.Listed.{listedUnder};
 ghost use Rattle.parameter.specs.Forms.{isDialled};
@@ -95,7 +96,7 @@ fn under_11(header: u8) -> bool
 
 // Whether the name has no layout, or is listed under some PLI.
 pub fn name_used(header: u8) -> bool
-    ensures { λ r. ⌜ r ≡ nameUsed header ⌝ }
+    ensures { λ r. ⌜ Gives (nameUsed header) r ⌝ }
 {
     let name = header % 64;
     if is_free(name) {
@@ -112,7 +113,7 @@ pub fn name_used(header: u8) -> bool
 
 // Whether the PLI is that name's.
 pub fn pli_right(header: u8) -> bool
-    ensures { λ r. ⌜ r ≡ pliRight header ⌝ }
+    ensures { λ r. ⌜ Gives (pliRight header) r ⌝ }
 {
     if is_free(header % 64) {
         return true;
@@ -128,7 +129,7 @@ pub fn pli_right(header: u8) -> bool
 
 // The bits of the first octet of the contents that must be 0.
 pub fn zeroes_of(header: u8) -> u8
-    ensures { λ r. ⌜ r ≡ zeroesOf header ⌝ }
+    ensures { λ r. ⌜ Gives (zeroesOf header) r ⌝ }
 {
     match header {
         Transfer::CHARGING_REQUEST
@@ -149,7 +150,7 @@ pub fn zeroes_of(header: u8) -> u8
 
 // Whether the contents are digits of PLI 10.
 pub fn holds_digits(header: u8) -> bool
-    ensures { λ r. ⌜ r ≡ isDialled (formOf header) ⌝ }
+    ensures { λ r. ⌜ Gives (isDialled (formOf header)) r ⌝ }
 {
     if is_free(header % 64) {
         false
@@ -160,7 +161,7 @@ pub fn holds_digits(header: u8) -> bool
 
 // How often a name may stand.
 pub fn often_of(name: u8) -> u8
-    ensures { λ r. ⌜ r ≡ oftenOf name ⌝ }
+    ensures { λ r. ⌜ Gives (oftenOf name) r ⌝ }
 {
     1
 }

@@ -24,6 +24,7 @@ ghost use mathlib.Core.List.{List, [], map};
 ghost use Prim.Native.Nat.{ℕ, _+_, _/_, _≤_};
 ghost use lib.Dec.{leb};
 ghost use lib.ListN.{length, getD};
+ghost use Rattle.annex.specs.Promises.{Gives};
 ghost use Rattle.annex.specs.Units.{extentOf};
 ghost use Rattle.annex.specs.Digits.{isDigit, codeOf, packed};
 ghost use Rattle.annex.specs.Contents.{faultOf};
@@ -53,7 +54,7 @@ fn packed_len(digits: usize) -> usize
 
 // How many octets the contents have.
 pub fn contents_len(t: Transfer, values: &[u8]) -> usize
-    ensures { λ r. ⌜ r ≡ length (contentsOf (itemFrom t (now (values .entry)))) ⌝ }
+    ensures { λ r. ⌜ Gives (length (contentsOf (itemFrom t (now (values .entry))))) r ⌝ }
 {
     let held = held_of(t.header, values);
     match held {
@@ -215,7 +216,7 @@ fn digits_right(t: Transfer, values: &[u8]) -> bool
 
 // The parameter's name stood `times` before: 8 to 13 in their order, at place 0, or accepted with how many octets it takes.
 pub fn refusal(times: u8, t: Transfer, values: &[u8]) -> Answer
-    ensures { λ r. ⌜ r ≡ itemWriting times 0 (itemFrom t (now (values .entry))) ⌝ }
+    ensures { λ r. ⌜ Gives (itemWriting times 0 (itemFrom t (now (values .entry)))) r ⌝ }
 {
     let header = t.header;
     if !name_used(header) {
@@ -369,8 +370,8 @@ fn fits_in(t: Transfer, values: &[u8], room: usize) -> bool
 
 // Writes the parameter at the front of the room, each number modulo 256; where the room is too short, nothing.
 pub fn put(t: Transfer, values: &[u8], room: &mut [u8]) -> bool
-    ensures said { λ r. ⌜ r ≡ leb (length (layoutItem (itemFrom t (now (values .entry))))) (length (now (room .entry))) ⌝ }
-    ensures written { λ r. ⌜ now (room .exit) ≡ cond r (atFront (layoutItem (itemFrom t (now (values .entry)))) (now (room .entry))) (now (room .entry)) ⌝ }
+    ensures said { λ r. ⌜ Gives (leb (length (layoutItem (itemFrom t (now (values .entry))))) (length (now (room .entry)))) r ⌝ }
+    ensures written { λ r. ⌜ Gives (cond r (atFront (layoutItem (itemFrom t (now (values .entry)))) (now (room .entry))) (now (room .entry))) (now (room .exit)) ⌝ }
 {
     if !fits_in(t, values, room.len()) {
         return false;

@@ -11,6 +11,7 @@ ghost use Prim.Native.Nat.{ℕ, _+_, _*_, _≤_, min};
 ghost use lib.Dec.{leb};
 ghost use lib.ListN.{length, drop};
 ghost use lib.Seq.{sets};
+ghost use Rattle.annex.specs.Promises.{Gives, Stores};
 ghost use Rattle.annex.specs.Digits.{digitsOf};
 ghost use Rattle.annex.specs.Contents.{countOf};
 ghost use Rattle.annex.specs.Items.{holdingOf, openBy, openMarks, Holding.AsContents, Holding.AsDigits, Holding.AsNumber, Holding.AsGeneric};
@@ -27,7 +28,7 @@ pub enum Held {
 
 // The octets from i on, none past the end.
 pub fn octets_from(s: &[u8], i: usize) -> &[u8]
-    ensures { λ r. ⌜ now r ≡ drop i (now (s .entry)) ⌝ }
+    ensures { λ r. ⌜ Gives (drop i (now (s .entry))) (now r) ⌝ }
 {
     if s.len() <= i {
         return &s[..0];
@@ -88,7 +89,7 @@ fn unpack_digits(
 
 // How the values under this header are held; `first` is the first octet of the contents, or 0.
 pub fn held_as(header: u8, first: u8) -> Held
-    ensures { λ r. ⌜ r ≡ heldBy (holdingOf header first) ⌝ }
+    ensures { λ r. ⌜ Gives (heldBy (holdingOf header first)) r ⌝ }
 {
     if holds_digits(header) {
         return Held::Digits;
@@ -137,8 +138,8 @@ pub fn open_contents(
     values: &mut [u8; Transfer::MOST_VALUES],
     used: usize,
 ) -> Transfer
-    ensures head { λ r. ⌜ r ≡ headFor (openBy AsContents header (now (s .entry))) used ⌝ }
-    ensures put { λ r. ⌜ now (values .exit) ≡ valuesWith (openBy AsContents header (now (s .entry))) used (now (values .entry)) ⌝ }
+    ensures head { λ r. ⌜ Gives (headFor (openBy AsContents header (now (s .entry))) used) r ⌝ }
+    ensures put { λ r. ⌜ Gives (valuesWith (openBy AsContents header (now (s .entry))) used (now (values .entry))) (now (values .exit)) ⌝ }
 {
     let count = s.len();
     if !fit_after(used, count) {
@@ -225,8 +226,8 @@ pub fn open(
     values: &mut [u8; Transfer::MOST_VALUES],
     used: usize,
 ) -> Transfer
-    ensures head { λ r. ⌜ r ≡ openedHead header (now (contents .entry)) used ⌝ }
-    ensures put { λ r. ⌜ now (values .exit) ≡ openedValues header (now (contents .entry)) used (now (values .entry)) ⌝ }
+    ensures head { λ r. ⌜ Gives (openedHead header (now (contents .entry)) used) r ⌝ }
+    ensures put { λ r. ⌜ Gives (openedValues header (now (contents .entry)) used (now (values .entry))) (now (values .exit)) ⌝ }
 {
     let held = held_as(header, octet_at(contents, 0));
     match held {

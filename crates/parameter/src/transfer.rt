@@ -9,13 +9,13 @@ use crate::units::lead;
 use crate::units::octets_after;
 use annex::Answer;
 use annex::Fault;
-ghost use mathlib.Core.Path.{_≡_};
+ghost use Rattle.annex.specs.Promises.{Gives};
 ghost use Rattle.annex.specs.Reading.{transferOf};
 
 // The parameter's name stood `times` before; xs are the octets after its header, to the end of the transfer data. Accepted with how many
 // of them are its own.
 pub fn transfer(times: u8, header: u8, xs: &[u8]) -> Answer
-    ensures { λ r. ⌜ r ≡ transferOf times header (now (xs .entry)) ⌝ }
+    ensures { λ r. ⌜ Gives (transferOf times header (now (xs .entry))) r ⌝ }
 {
     if !name_used(header) {
         return Answer::Refused(Answer::UNUSED_NAME, 0);

@@ -3,12 +3,12 @@ use annex::Common;
 use annex::Extent;
 use annex::HalfOctets;
 use annex::Octets;
-ghost use mathlib.Core.Path.{_≡_};
+ghost use Rattle.annex.specs.Promises.{Gives};
 ghost use Rattle.annex.specs.Units.{afterOf, leadOf, commonExtentOf, extentOf};
 
 // What the PLI of a transfer header says.
 pub fn extent_of(header: u8) -> Extent
-    ensures { λ r. ⌜ r ≡ extentOf header ⌝ }
+    ensures { λ r. ⌜ Gives (extentOf header) r ⌝ }
 {
     let pli = header / 64;
     match pli {
@@ -21,7 +21,7 @@ pub fn extent_of(header: u8) -> Extent
 
 // What the PLI of a common header says. The end mark has no contents.
 pub fn common_extent_of(header: u8) -> Extent
-    ensures { λ r. ⌜ r ≡ commonExtentOf header ⌝ }
+    ensures { λ r. ⌜ Gives (commonExtentOf header) r ⌝ }
 {
     if header == Common::END_MARK {
         return Extent::Fixed(0);
@@ -37,7 +37,7 @@ pub fn common_extent_of(header: u8) -> Extent
 
 // How many octets follow a header; next is the octet right after it, or 0.
 pub fn octets_after(e: Extent, next: u8) -> usize
-    ensures { λ r. ⌜ r ≡ afterOf e next ⌝ }
+    ensures { λ r. ⌜ Gives (afterOf e next) r ⌝ }
 {
     match e {
         Extent::Fixed(n) => n,
@@ -55,7 +55,7 @@ pub fn octets_after(e: Extent, next: u8) -> usize
 
 // How many of them stand before the contents: a length octet, and no count octet.
 pub fn lead(e: Extent) -> usize
-    ensures { λ r. ⌜ r ≡ leadOf e ⌝ }
+    ensures { λ r. ⌜ Gives (leadOf e) r ⌝ }
 {
     match e {
         Extent::Fixed(_) => 0,

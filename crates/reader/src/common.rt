@@ -5,13 +5,13 @@ use annex::Signal;
 use parameter::contents::octet_at;
 use parameter::units::common_extent_of;
 use parameter::units::octets_after;
-ghost use mathlib.Core.Path.{_≡_};
+ghost use Rattle.annex.specs.Promises.{Gives};
 ghost use Rattle.annex.specs.Heads.{among, listedHeaders, signalKinds};
 ghost use Rattle.annex.specs.Reading.{octetAllowed, commonForm, endOf};
 
 // Whether the header is one of a message's.
 pub fn listed(header: u8) -> bool
-    ensures { λ r. ⌜ r ≡ among header listedHeaders ⌝ }
+    ensures { λ r. ⌜ Gives (among header listedHeaders) r ⌝ }
 {
     match header {
         Common::END_MARK
@@ -27,7 +27,7 @@ pub fn listed(header: u8) -> bool
 
 // Whether the octet is a signal kind.
 pub fn signal_kind(octet: u8) -> bool
-    ensures { λ r. ⌜ r ≡ among octet signalKinds ⌝ }
+    ensures { λ r. ⌜ Gives (among octet signalKinds) r ⌝ }
 {
     match octet {
         Signal::DATA_ENQUIRY
@@ -49,7 +49,7 @@ pub fn signal_kind(octet: u8) -> bool
 
 // Whether the octet right after the header is allowed: the user class, or a signal kind.
 pub fn octet_allowed(header: u8, octet: u8) -> bool
-    ensures { λ r. ⌜ r ≡ octetAllowed header octet ⌝ }
+    ensures { λ r. ⌜ Gives (octetAllowed header octet) r ⌝ }
 {
     match header {
         Common::USER_CLASS => octet == Common::ADVANCED_TELEPHONY,
@@ -60,7 +60,7 @@ pub fn octet_allowed(header: u8, octet: u8) -> bool
 
 // 2 to 5 of a common parameter whose name stood so many times before; xs are the octets after its header.
 pub fn common_form(times: u8, header: u8, xs: &[u8]) -> Answer
-    ensures { λ r. ⌜ r ≡ commonForm times header (now (xs .entry)) ⌝ }
+    ensures { λ r. ⌜ Gives (commonForm times header (now (xs .entry))) r ⌝ }
 {
     if !listed(header) {
         return Answer::Refused(Answer::UNLISTED, 0);
@@ -81,7 +81,7 @@ pub fn common_form(times: u8, header: u8, xs: &[u8]) -> Answer
 
 // The end mark: 6, then 7 at the first octet after it. whole: 01 and 06 have been seen.
 pub fn end_mark(whole: bool, xs: &[u8]) -> Answer
-    ensures { λ r. ⌜ r ≡ endOf whole (now (xs .entry)) ⌝ }
+    ensures { λ r. ⌜ Gives (endOf whole (now (xs .entry))) r ⌝ }
 {
     if !whole {
         return Answer::Refused(Answer::MISSING, 0);

@@ -15,6 +15,7 @@ ghost use Rattle.annex.specs.Promises.{
   FindCommonAnswerPromise,
   FindTransferPromise,
   FindTransferAnswerPromise,
+  Gives,
 };
 ghost use Rattle.laws.specs.Finding.{contentsAfter, commonSearch, transferSearch, commonPlain, transferPlain};
 
@@ -73,7 +74,7 @@ fn transfer_search(t: &[u8], name: u8) -> Found
 
 // In a message that is accepted: where the contents of a common parameter stand. The end mark has none to be found.
 pub fn common_plain(m: &[u8], header: u8) -> Found
-    ensures { λ r. ⌜ r ≡ commonPlain header (now (m .entry)) ⌝ }
+    ensures { λ r. ⌜ Gives (commonPlain header (now (m .entry))) r ⌝ }
 {
     if header == Common::END_MARK {
         return Found::Nowhere;

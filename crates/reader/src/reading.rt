@@ -18,7 +18,7 @@ ghost use Rattle.annex.specs.Heads.{isCall};
 ghost use Rattle.annex.specs.Reading.{callNumber, verdictOf, recordOf};
 ghost use Rattle.annex.specs.declared.Answer.the-variants.{Accepted};
 ghost use Rattle.annex.specs.Records.{valuesOf, pack};
-ghost use Rattle.annex.specs.Promises.{ReadPromise};
+ghost use Rattle.annex.specs.Promises.{ReadPromise, Gives};
 ghost use Rattle.laws.specs.Filling.{emptyRecord, partHead};
 ghost use Rattle.reader.specs.Filling.{itemsFrom, filledWith};
 
@@ -31,7 +31,7 @@ struct Filled {
 
 // The record of a refused message.
 pub fn empty() -> Record
-    ensures { λ r. ⌜ r ≡ emptyRecord ⌝ }
+    ensures { λ r. ⌜ Gives emptyRecord r ⌝ }
 {
     let c = Common::none();
     let t = Transfer::none();
@@ -45,7 +45,7 @@ pub fn empty() -> Record
 
 // Whether a common parameter is a call number.
 pub fn is_call(header: u8) -> bool
-    ensures { λ r. ⌜ r ≡ isCall header ⌝ }
+    ensures { λ r. ⌜ Gives (isCall header) r ⌝ }
 {
     if header == Common::PARTNERS_CALL {
         return true;
@@ -55,7 +55,7 @@ pub fn is_call(header: u8) -> bool
 
 // A call number of 24 bits, least octet first.
 pub fn call_value(own: &[u8]) -> u32
-    ensures { λ r. ⌜ r ≡ callNumber (now (own .entry)) ⌝ }
+    ensures { λ r. ⌜ Gives (callNumber (now (own .entry))) r ⌝ }
 {
     let low = octet_at(own, 0) as u32;
     let middle = octet_at(own, 1) as u32;
@@ -65,7 +65,7 @@ pub fn call_value(own: &[u8]) -> u32
 
 // The head of a common parameter with these octets of its own; a C5's has so many transfer parameters.
 pub fn part_head(header: u8, own: &[u8], transfers: u8) -> Common
-    ensures { λ r. ⌜ r ≡ partHead header (now (own .entry)) transfers ⌝ }
+    ensures { λ r. ⌜ Gives (partHead header (now (own .entry)) transfers) r ⌝ }
 {
     if header == Common::TRANSFER_DATA {
         return Common::transfer_data(transfers);

@@ -16,7 +16,7 @@ ghost use Rattle.annex.specs.Answers.{givenOf};
 ghost use Rattle.annex.specs.Units.{leadOf, commonExtentOf};
 ghost use Rattle.annex.specs.Reading.{transfersOf};
 ghost use Rattle.annex.specs.Spans.{transferRows, innerRows, rowsOf, noRow};
-ghost use Rattle.annex.specs.Promises.{SpansCheckPromise, RowPromise};
+ghost use Rattle.annex.specs.Promises.{SpansCheckPromise, RowPromise, Gives};
 ghost use Rattle.laws.specs.Plain.{InnerSound};
 ghost use Rattle.laws.specs.Rows.{Accepts, AcceptsTransfers, LeadIn, parAt, rowFor};
 ghost use Rattle.reader.specs.Seeking.{soughtIn};
@@ -127,7 +127,7 @@ pub fn check(m: &[u8], room: usize) -> Answer
 
 // How many rows an answer gives.
 pub fn given(a: Answer) -> usize
-    ensures { λ r. ⌜ r ≡ givenOf a ⌝ }
+    ensures { λ r. ⌜ Gives (givenOf a) r ⌝ }
 {
     match a {
         Answer::Accepted(n) => n,

@@ -12,7 +12,7 @@ ghost use Prim.Native.Nat.{_+_, _≤_, _<_};
 ghost use lib.ListN.{length};
 ghost use Rattle.annex.specs.Answers.{placeOf, shifted};
 ghost use Rattle.annex.specs.Reading.{transfersVerdict, dataOf, commonOf, messageVerdict};
-ghost use Rattle.annex.specs.Promises.{VerdictPromise};
+ghost use Rattle.annex.specs.Promises.{VerdictPromise, Gives};
 
 // An answer about a part that starts at s, told of the whole.
 fn shift(a: Answer, s: usize) -> Answer
@@ -27,7 +27,7 @@ fn shift(a: Answer, s: usize) -> Answer
 
 // Transfer data: accepted with its length, or the first refusal, its place counted from the first octet of t.
 pub fn transfers(t: &[u8]) -> Answer
-    ensures { λ r. ⌜ r ≡ transfersVerdict (now (t .entry)) ⌝ }
+    ensures { λ r. ⌜ Gives (transfersVerdict (now (t .entry))) r ⌝ }
 {
     let mut seen = [0u8; Transfer::NAMES];
     let mut i = 0;

@@ -1,7 +1,8 @@
 -- Two answers that keep a promise on the same input are equal: the result, and what lent memory holds after it. So no promise lets two
 -- programs differ. There is no exception.
 use Prim.Native.Nat.{ℕ}
-use mathlib.Core.Path.{_≡_, sym, _∙_}
+use mathlib.Core.Path.{_≡_, sym, ap, _∙_}
+use mathlib.Core.Bool.{Bool, cond}
 use mathlib.Core.List.{List}
 use Rattle.annex.specs.Editing.{Edit}
 use Rattle.annex.specs.Promises.{
@@ -15,8 +16,11 @@ use Rattle.annex.specs.Promises.{
   RowPromise,
   SpansPromise,
   WritePromise,
+  RecordRefusalPromise,
   EditPromise,
   ClassPromise,
+  Gives,
+  Stores,
 }
 use Rattle.annex.specs.declared.Answer.{Answer}
 use Rattle.annex.specs.declared.Record.{Record}
@@ -52,6 +56,9 @@ one-check m room a b p q = same p q
 pub one-row : (m : List ℕ) (k : ℕ) (a b : Row) → RowPromise m k a → RowPromise m k b → a ≡ b
 one-row m k a b p q = same p q
 
+pub one-refusal : (held : Record) (a b : Answer) → RecordRefusalPromise held a → RecordRefusalPromise held b → a ≡ b
+one-refusal held a b p q = same p q
+
 -- with lent memory
 pub one-listing : (m : List ℕ) (table : List Row) (a b : Answer) (s t : List Row) → SpansPromise m table a s → SpansPromise m table b t → (a ≡ b) × (s ≡ t)
 one-listing m table a b s t p q = (same (p .0) (q .0), same (p .1) (q .1))
@@ -64,3 +71,11 @@ one-edit e buffer n a b s t p q = (same (p .0) (q .0), same (p .1) (q .1))
 
 pub one-class : (h x : ℕ) (a b : ClassAnswer) → ClassPromise h x a → ClassPromise h x b → a ≡ b
 one-class h x a b p q = same p q
+
+-- the functions that serve these
+pub one-given : {A : Type 0} (given a b : A) → Gives given a → Gives given b → a ≡ b
+one-given given a b p q = same p q
+
+pub one-stored : (fits : Bool) (stored before : List ℕ) (a b : Bool) (s t : List ℕ) → Stores fits stored before a s → Stores fits stored before b t → (a ≡ b) × (s ≡ t)
+one-stored fits stored before a b s t p q =
+    (same (p .0) (q .0), p .1 ∙ (ap (λ r. cond r stored before) (same (p .0) (q .0)) ∙ sym (q .1)))

@@ -7,6 +7,7 @@ use parameter::laying::contents_len;
 ghost use mathlib.Core.Path.{_≡_};
 ghost use mathlib.Core.Bool.{not};
 ghost use Prim.Native.Nat.{_≤_};
+ghost use Rattle.annex.specs.Promises.{Gives};
 ghost use Rattle.annex.specs.Answers.{over-limits, refuse};
 ghost use Rattle.annex.specs.Allowed.{contentsSum};
 ghost use Rattle.annex.specs.Records.{transfersIn, transfersSum, commonsIn, isWhole};
@@ -43,7 +44,7 @@ fn transfers_sum(q: Record) -> usize
 
 // How many values the first n transfer parameters have together.
 pub fn values_before(q: Record, n: usize) -> usize
-    ensures { λ r. ⌜ r ≡ usedAt q n ⌝ }
+    ensures { λ r. ⌜ Gives (usedAt q n) r ⌝ }
 {
     let mut sum: usize = 0;
     let mut k: usize = 0;
@@ -74,7 +75,7 @@ fn is_whole(q: Record) -> bool
 
 // How many transfer parameters a record holds, or 1 where its counts and lengths leave its arrays.
 pub fn transfers_held(q: Record) -> Answer
-    ensures { λ r. ⌜ r ≡ refuse (not (isWhole q)) over-limits 0 (Accepted (transfersSum (commonsIn q))) ⌝ }
+    ensures { λ r. ⌜ Gives (refuse (not (isWhole q)) over-limits 0 (Accepted (transfersSum (commonsIn q)))) r ⌝ }
 {
     if !is_whole(q) {
         return Answer::Refused(Answer::OVER_LIMITS, 0);
@@ -104,7 +105,7 @@ fn contents_sum(q: Record, n: usize) -> usize
 
 // Whether the record is over its limits.
 pub fn over_limits(q: Record) -> bool
-    ensures { λ r. ⌜ r ≡ isOver q ⌝ }
+    ensures { λ r. ⌜ Gives (isOver q) r ⌝ }
 {
     if !is_whole(q) {
         return true;

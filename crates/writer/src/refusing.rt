@@ -12,10 +12,11 @@ use reader::common::octet_allowed;
 use reader::reading::is_call;
 ghost use mathlib.Core.Path.{_≡_};
 ghost use Prim.Native.Nat.{_+_, _≤_};
+ghost use Rattle.annex.specs.Promises.{Gives, RecordRefusalPromise};
 ghost use Rattle.annex.specs.Reading.{octetAllowed};
 ghost use Rattle.annex.specs.Records.{view};
 ghost use Rattle.annex.specs.Walk.{unseen};
-ghost use Rattle.annex.specs.Writing.{itemsWriting, dataWriting, partsWriting, structWriting};
+ghost use Rattle.annex.specs.Writing.{itemsWriting, dataWriting, partsWriting};
 ghost use Rattle.writer.specs.Along.{itemsAt, Within, Whole};
 ghost use Rattle.writer.specs.Laying.{headLength};
 ghost use Rattle.writer.specs.Refusing.{placedAt, headFits, headWriting, endWriting};
@@ -106,7 +107,7 @@ fn value_fits(c: Common) -> bool
 
 // How many octets a common parameter takes, its transfer parameters aside.
 pub fn head_len(header: u8) -> usize
-    ensures { λ r. ⌜ r ≡ headLength header ⌝ }
+    ensures { λ r. ⌜ Gives (headLength header) r ⌝ }
 {
     if is_call(header) { 4 } else { 2 }
 }
@@ -191,7 +192,7 @@ fn parts_refusal(q: Record) -> Answer
 
 // A record, room aside: the first refusal, or the message's length.
 pub fn record_refusal(held: Record) -> Answer
-    ensures { λ r. ⌜ r ≡ structWriting held ⌝ }
+    ensures { λ r. ⌜ RecordRefusalPromise held r ⌝ }
 {
     if over_limits(held) {
         return Answer::Refused(Answer::OVER_LIMITS, 0);
