@@ -2,8 +2,8 @@
 use native.Mathlib.Omega.{arith}
 use lib.ListN.{length-take}
 use borrow.Author.Needs.{needs}
-use Rattle.edit_cases.proofs.case.Statement.{statement}
-use Rattle.edit_cases.proofs.case.Tie as tie
+use Rattle.cases.proofs.edits.case.Statement.{statement}
+use Rattle.cases.proofs.edits.case.Tie as tie
 
 slice-aggregate-shown : tie.Need-slice-aggregate-shown
 slice-aggregate-shown c = simp length-take (omega arith)

@@ -3,8 +3,8 @@ use Prim.Native.Nat.{_≤_, _-_}
 use lib.ListN.{length}
 use native.Mathlib.Omega.{arith}
 use borrow.Author.Needs.{needs}
-use Rattle.edit_cases.proofs.print_octets.Statement.{statement}
-use Rattle.edit_cases.proofs.print_octets.Tie as tie
+use Rattle.cases.proofs.printing.print_octets.Statement.{statement}
+use Rattle.cases.proofs.printing.print_octets.Tie as tie
 
 abbrev Inv-loop : tie.InvT-loop
 Inv-loop s i₀ i = i ≤ length s

@@ -2,8 +2,8 @@
 use native.Mathlib.Omega.{arith}
 use lib.ListN.{length-take}
 use borrow.Author.Needs.{needs}
-use Rattle.write_cases.proofs.case.Statement.{statement}
-use Rattle.write_cases.proofs.case.Tie as tie
+use Rattle.cases.proofs.records.case.Statement.{statement}
+use Rattle.cases.proofs.records.case.Tie as tie
 
 slice-aggregate-shown : tie.Need-slice-aggregate-shown
 slice-aggregate-shown c = simp length-take (omega arith)
