@@ -22,4 +22,5 @@ pub mod Splices
 pub mod Undone
 pub mod Finds
 pub mod Unique
+pub mod Constants
 pub mod Wrong
