@@ -8,7 +8,6 @@ mod printing;
 mod records;
 
 ghost use Prim.Native.Nat.{_≤_, _<_};
-ghost use lib.ListN.{length};
 
 // the longest buffer and room
 const MOST: usize = 400;

@@ -5,6 +5,7 @@ pub mod Members
 pub mod Parts
 pub mod Stores
 pub mod Fronts
+pub mod Written
 pub mod Octet
 -- of one transfer parameter, up to its two laws in Leaves:
 pub mod Extents

@@ -9,9 +9,6 @@ use libc::STDOUT_FILENO;
 use parameter::units::extent_of;
 use reader::rows::check;
 use reader::rows::row_at;
-ghost use Prim.Native.Nat.{_≤_, _<_};
-ghost use mathlib.Core.Path.{_≡_};
-ghost use lib.ListN.{length};
 ghost use Rattle.annex.specs.Promises.{SpansCheckPromise};
 
 const MOST_CONTENTS: usize = 255;

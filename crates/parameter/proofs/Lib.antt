@@ -1,4 +1,3 @@
 -- Laws that the proofs of this crate cite.
 pub mod Turns
 pub mod Holdings
-pub mod Written

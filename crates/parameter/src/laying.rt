@@ -18,6 +18,7 @@ use annex::Extent;
 use annex::Fault;
 use annex::HalfOctets;
 use annex::Transfer;
+use octets::copy_in;
 ghost use mathlib.Core.Path.{_≡_};
 ghost use mathlib.Core.Bool.{cond};
 ghost use mathlib.Core.List.{List, [], map};
@@ -33,8 +34,9 @@ ghost use Rattle.annex.specs.Layout.{layoutItem};
 ghost use Rattle.annex.specs.Allowed.{every, lengthFits, lengthRight, marksRight, fieldsRight, withheldRight, formRight, digitsRight};
 ghost use Rattle.annex.specs.Records.{rawItem};
 ghost use Rattle.annex.specs.Writing.{itemWriting};
+ghost use Rattle.laws.specs.Written.{atFront};
 ghost use Rattle.parameter.specs.Opening.{marksOf, asHeld};
-ghost use Rattle.parameter.specs.Laying.{itemFrom, atFront, isSound, numberRight};
+ghost use Rattle.parameter.specs.Laying.{itemFrom, isSound, numberRight};
 
 // How the values under this header are held.
 fn held_of(header: u8, values: &[u8]) -> Held
@@ -248,11 +250,7 @@ fn copy(s: &[u8], room: &mut [u8])
     requires { ⌜ length (now s) ≤ length (now room) ⌝ }
     ensures { λ r. ⌜ now (room .exit) ≡ atFront (now (s .entry)) (now (room .entry)) ⌝ }
 {
-    let mut i: usize = 0;
-    while i < s.len() {
-        room[i] = s[i];
-        i += 1;
-    }
+    copy_in(room, 0, s);
 }
 
 // The half-octet of the digit at i, and filler past the last.

@@ -5,13 +5,14 @@ use crate::digits::half_at;
 use crate::heads::holds_digits;
 use annex::Alphabet;
 use annex::Transfer;
+use octets::copy_in;
 ghost use mathlib.Core.Path.{_≡_};
 ghost use mathlib.Core.List.{List};
 ghost use Prim.Native.Nat.{ℕ, _+_, _*_, _≤_, min};
 ghost use lib.Dec.{leb};
 ghost use lib.ListN.{length, drop};
 ghost use lib.Seq.{sets};
-ghost use Rattle.annex.specs.Promises.{Gives, Stores};
+ghost use Rattle.annex.specs.Promises.{Gives};
 ghost use Rattle.annex.specs.Digits.{digitsOf};
 ghost use Rattle.annex.specs.Contents.{countOf};
 ghost use Rattle.annex.specs.Items.{holdingOf, openBy, openMarks, Holding.AsContents, Holding.AsDigits, Holding.AsNumber, Holding.AsGeneric};
@@ -61,11 +62,7 @@ fn copy_values(s: &[u8], values: &mut [u8; Transfer::MOST_VALUES], used: usize)
     requires { ⌜ used + length (now s) ≤ 512 ⌝ }
     ensures { λ r. ⌜ now (values .exit) ≡ sets (now (values .entry)) used (now (s .entry)) ⌝ }
 {
-    let mut i: usize = 0;
-    while i < s.len() {
-        values[used + i] = s[i];
-        i += 1;
-    }
+    copy_in(values, used, s);
 }
 
 // Stores the first `count` digits of `octets` in `values` from `used` on.

@@ -1,3 +1,2 @@
 -- Laws of this crate's loops, each turn without the code.
 pub mod Turns
-pub mod Octets

@@ -12,7 +12,7 @@ use parameter::units::extent_of;
 use parameter::units::lead;
 use parameter::units::octets_after;
 ghost use mathlib.Core.Path.{_≡_};
-ghost use Prim.Native.Nat.{ℕ, _+_, _≤_};
+ghost use Prim.Native.Nat.{_+_, _≤_};
 ghost use lib.ListN.{length};
 ghost use Rattle.annex.specs.Heads.{isCall};
 ghost use Rattle.annex.specs.Reading.{callNumber, verdictOf, recordOf};

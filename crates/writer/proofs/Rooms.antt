@@ -10,11 +10,10 @@ use lib.Seq.{sets, take-length, drop-length}
 use Rattle.annex.specs.Heads.{transfer-data, isCall}
 use Rattle.annex.specs.Layout.{dataOctets}
 use Rattle.annex.specs.declared.Common.{Common}
+use Rattle.laws.specs.Written.{lowOctets, atFront, length-low, written-length, written-then}
 use Rattle.laws.specs.Fronts.{front-all}
 use Rattle.laws.specs.Parts.{to-end}
 use Rattle.laws.specs.Stores.{sets-snoc}
-use Rattle.parameter.specs.Laying.{lowOctets, atFront, length-low}
-use Rattle.parameter.proofs.Written.{written-length, written-then}
 use Rattle.writer.specs.Laying.{headOctets}
 
 -- what is written, as a run of stores

@@ -17,7 +17,8 @@ ghost use lib.ListN.{length};
 ghost use Rattle.annex.specs.Layout.{layoutItem, layoutItems, layout};
 ghost use Rattle.annex.specs.Records.{view};
 ghost use Rattle.annex.specs.Promises.{WritePromise};
-ghost use Rattle.parameter.specs.Laying.{itemFrom, atFront};
+ghost use Rattle.laws.specs.Written.{atFront};
+ghost use Rattle.parameter.specs.Laying.{itemFrom};
 ghost use Rattle.writer.specs.Along.{itemsAt, Within, Whole};
 ghost use Rattle.writer.specs.Laying.{headOctets, dataLaid};
 

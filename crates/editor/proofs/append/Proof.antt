@@ -10,7 +10,7 @@ use lib.ListN.{length, take, drop}
 use lib.Seq.{length-take-le}
 use Rattle.annex.specs.Allowed.{every, isOctet}
 use Rattle.annex.specs.Editing.Edit.{Appending}
-use Rattle.reader.proofs.Octets.{octets-every}
+use Rattle.laws.specs.Written.{octets-every}
 use Rattle.editor.specs.Steps.{
   ownAnswer,
   message-within,

@@ -9,7 +9,7 @@ use borrow.Author.Needs.{needs}
 use lib.Seq.{length-take-le}
 use Rattle.annex.specs.Allowed.{every, isOctet}
 use Rattle.annex.specs.Editing.Edit.{Removing}
-use Rattle.reader.proofs.Octets.{octets-every}
+use Rattle.laws.specs.Written.{octets-every}
 use Rattle.editor.specs.Steps.{message-within, message-refused, data-refused, Data, data-taken, own-refused, removing-left}
 use Rattle.editor.specs.Splicing.{Cut, cut-placed, cut-edits}
 use Rattle.editor.specs.Cuts.{ready, cut-removing}

@@ -6,12 +6,12 @@ use mathlib.Core.List.{List}
 use borrow.Author.Needs.{needs}
 use lib.ListN.{getD}
 use Rattle.annex.specs.Records.{rawItem}
+use Rattle.laws.specs.Written.{atFront, octets-every}
 use Rattle.laws.specs.Laid.{own-values}
-use Rattle.parameter.specs.Laying.{itemFrom, atFront}
-use Rattle.reader.proofs.Octets.{octets-every}
+use Rattle.parameter.specs.Laying.{itemFrom}
+use Rattle.octets.specs.Copied.{copied-behind}
 use Rattle.image.specs.Image.{imageHead}
 use Rattle.image.specs.Laying.{item-octets}
-use Rattle.image.proofs.Behind.{copied-behind}
 use Rattle.image.proofs.laying.put_item.Statement.{statement}
 use Rattle.image.proofs.laying.put_item.Tie as tie
 
@@ -26,7 +26,7 @@ returns c =
     let t = h .own-head .result in
     let small : (i : ℕ) → getD s i 0 < 256 = λ i. omega (arith, h .before .before .shared-slice-known .given i) in
     let k : itemFrom (st .args .t) s .values ≡ s = own-values (rawItem (st .args .t) s) in
-    copied-behind room (imageHead t) s (p .put-transfer .last .1 .0) (y .copy-in .last .0) (y .copy-in .result) (omega (arith, st .pre .0, st .pre .1)) (octets-every s small) (p .put-transfer .ensures) (y .copy-in .ensures .0) (y .copy-in .ensures .1)
+    copied-behind room (imageHead t) s (p .put-transfer .last .1 .0) (y .copy-in .last .0) (y .copy-in .result) (omega (arith, st .pre .0, st .pre .1)) (octets-every s small) (p .put-transfer .ensures) (y .copy-in .ensures)
     ∙ ap (λ (l : List ℕ). atFront l room) (item-octets t (itemFrom (st .args .t) s) s (h .own-head .ensures) k)
 
 pub put-item-spec : {M : Type 1} → statement M

@@ -4,7 +4,7 @@ use mathlib.Core.Path.{sym, ap, _∙_}
 use borrow.Author.Needs.{needs}
 use lib.ListN.{length-set}
 use lib.Seq.{sets}
-use Rattle.parameter.specs.Laying.{low-octets}
+use Rattle.laws.specs.Written.{low-octets}
 use Rattle.writer.proofs.Rooms.{stored}
 use Rattle.image.specs.Image.{imageHead}
 use Rattle.image.specs.Laying.{head-octets}

@@ -12,8 +12,7 @@ use Rattle.annex.specs.Records.{transfersSum, commonsIn, isWhole, view}
 use Rattle.annex.specs.declared.Answer.the-variants.{Accepted}
 use Rattle.annex.proofs.Common.{the-field as common-field}
 use Rattle.annex.proofs.Transfer.{the-field as transfer-field}
-use Rattle.parameter.specs.Laying.{atFront, low-octets}
-use Rattle.reader.proofs.Octets.{octets-every}
+use Rattle.laws.specs.Written.{atFront, low-octets, octets-every}
 use Rattle.writer.specs.Along.{usedAt, Whole, length-mapped}
 use Rattle.writer.specs.Limits.{told-whole}
 use Rattle.writer.proofs.Fields.{each-element}

@@ -6,10 +6,9 @@ use borrow.Author.Needs.{needs}
 use lib.ListN.{length, getD, take, length-set}
 use lib.Seq.{sets}
 use Rattle.annex.specs.Digits.{packed}
+use Rattle.laws.specs.Written.{lowOctets, written-turn, written-end}
 use Rattle.laws.specs.Joined.{length-packed}
 use Rattle.laws.specs.Laid.{packed-at}
-use Rattle.parameter.specs.Laying.{lowOctets}
-use Rattle.parameter.proofs.Written.{written-turn, written-end}
 use Rattle.parameter.proofs.laying.pack_digits.Statement.{statement}
 use Rattle.parameter.proofs.laying.pack_digits.Tie as tie
 

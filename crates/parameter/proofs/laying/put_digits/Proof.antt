@@ -10,11 +10,10 @@ use Rattle.annex.specs.Items.{upperMarks, contentsBy}
 use Rattle.annex.specs.Items.Holding.{AsDigits}
 use Rattle.annex.specs.Records.{rawItem}
 use Rattle.annex.specs.declared.Alphabet.the-variants.{Dialled}
+use Rattle.laws.specs.Written.{lowOctets, written-length, written-then}
 use Rattle.laws.specs.Joined.{length-packed}
 use Rattle.laws.specs.Parts.{to-end}
 use Rattle.parameter.specs.Opening.{marksOf}
-use Rattle.parameter.specs.Laying.{lowOctets}
-use Rattle.parameter.proofs.Written.{written-length, written-then}
 use Rattle.parameter.proofs.laying.put_digits.Statement.{statement}
 use Rattle.parameter.proofs.laying.put_digits.Tie as tie
 

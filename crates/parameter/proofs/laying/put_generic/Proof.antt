@@ -8,8 +8,8 @@ use lib.ListN.{length, drop, length-set, length-drop}
 use Rattle.annex.specs.Items.{numberContents, contentsBy}
 use Rattle.annex.specs.Items.Holding.{AsGeneric}
 use Rattle.annex.specs.Records.{rawItem}
+use Rattle.laws.specs.Written.{written-length, written-then}
 use Rattle.laws.specs.Parts.{to-end}
-use Rattle.parameter.proofs.Written.{written-length, written-then}
 use Rattle.parameter.proofs.laying.put_generic.Statement.{statement}
 use Rattle.parameter.proofs.laying.put_generic.Tie as tie
 

@@ -9,10 +9,9 @@ use Rattle.annex.specs.Digits.{packed}
 use Rattle.annex.specs.Items.{numberContents}
 use Rattle.annex.specs.Records.{rawItem}
 use Rattle.annex.specs.declared.Alphabet.the-variants.{Numbered}
+use Rattle.laws.specs.Written.{lowOctets, written-length, written-then}
 use Rattle.laws.specs.Joined.{length-packed}
 use Rattle.laws.specs.Parts.{to-end}
-use Rattle.parameter.specs.Laying.{lowOctets}
-use Rattle.parameter.proofs.Written.{written-length, written-then}
 use Rattle.parameter.proofs.laying.put_number.Statement.{statement}
 use Rattle.parameter.proofs.laying.put_number.Tie as tie
 

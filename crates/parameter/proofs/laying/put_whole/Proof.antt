@@ -9,10 +9,9 @@ use Rattle.annex.specs.Units.{leadOf}
 use Rattle.annex.specs.Items.{contentsOf}
 use Rattle.annex.specs.Layout.{layoutItem}
 use Rattle.annex.specs.Records.{rawItem}
+use Rattle.laws.specs.Written.{lowOctets, written-length, written-then}
 use Rattle.laws.specs.Laid.{own-contents, length-layout, layout-plain, layout-led}
 use Rattle.laws.specs.Parts.{to-end}
-use Rattle.parameter.specs.Laying.{lowOctets}
-use Rattle.parameter.proofs.Written.{written-length, written-then}
 use Rattle.parameter.proofs.laying.put_whole.Statement.{statement}
 use Rattle.parameter.proofs.laying.put_whole.Tie as tie
 

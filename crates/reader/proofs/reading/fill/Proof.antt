@@ -13,8 +13,8 @@ use Rattle.annex.specs.Items.{Part}
 use Rattle.annex.specs.Reading.{openCommon}
 use Rattle.annex.specs.Records.{valuesOf, commonHeadOf}
 use Rattle.annex.specs.declared.Record.{Record}
+use Rattle.laws.specs.Written.{octets-every}
 use Rattle.laws.specs.Filling.{withItems, head-opened}
-use Rattle.reader.proofs.Octets.{octets-every}
 use Rattle.reader.specs.Filling.{itemsFrom, partsAt, parAt, filledWith, parts-end, parts-cut, own-part, data-is, data-items, other-items}
 use Rattle.reader.specs.declared.reading.Filled.{Filled}
 use Rattle.reader.proofs.Turns.{Filling, filling-start, filling-end, filling-mark, Next, filling-next, filling-put}

@@ -13,10 +13,9 @@ use Rattle.annex.specs.Writing.{structWriting, writingOf, writtenOf}
 use Rattle.annex.specs.declared.Answer.the-variants.{Accepted}
 use Rattle.annex.proofs.Common.{the-field as common-field}
 use Rattle.annex.proofs.Transfer.{the-field as transfer-field}
+use Rattle.laws.specs.Written.{atFront, low-octets, octets-every}
 use Rattle.theorems.specs.Writings.{StructWritten, struct-written, with-room, room-after}
 use Rattle.theorems.specs.Views.{FitsStruct, OctetCommon, OctetTransfer}
-use Rattle.parameter.specs.Laying.{atFront, low-octets}
-use Rattle.reader.proofs.Octets.{octets-every}
 use Rattle.writer.specs.Limits.{told-whole}
 use Rattle.writer.specs.Along.{length-mapped}
 use Rattle.writer.proofs.Fields.{each-element}

@@ -1,13 +1,45 @@
--- Octets written at the front of lent room, turn by turn, and behind what is stored first.
-use Prim.Native.Nat.{ℕ, _+_, _-_, _%_, _<_, _≤_}
+-- Numbers written as octets at the front of lent room, turn by turn, and behind what is stored first.
+use Prim.Native.Nat.{ℕ, zero, suc, _+_, _-_, _%_, _<_, _≤_}
 use native.Mathlib.Omega.{arith}
-use mathlib.Core.Path.{_≡_, sym, ap, _∙_}
-use mathlib.Core.List.{List, _++_, map-append}
-use lib.ListN.{length, getD, take, drop, set, length-append}
-use lib.Seq.{sets}
+use mathlib.Core.Path.{_≡_, refl, sym, ap, _∙_}
+use mathlib.Core.Bool.{true}
+use mathlib.Core.List.{List, [], _∷_, _++_, map, map-append}
+use borrow.Author.Tests.{ltb-true, lt-ltb}
 use borrow.Rule.Slice.PartMut.{putMid}
+use lib.ListN.{length, getD, take, drop, set, length-append, length-map}
+use lib.Seq.{sets}
+use Rattle.annex.specs.Allowed.{every, isOctet}
+use Rattle.laws.specs.Bools.{and-left, and-right}
 use Rattle.laws.specs.Fronts.{front-turn, front-end, front-length, front-then}
-use Rattle.parameter.specs.Laying.{lowOctets, atFront, length-low, low-at}
+
+-- each number modulo 256
+abbrev pub lowOctets : List ℕ → List ℕ
+lowOctets xs = map (λ x. x % 256) xs
+
+-- numbers written at the front of the room, and behind them what it held
+abbrev pub atFront : List ℕ → List ℕ → List ℕ
+atFront xs room = lowOctets xs ++ drop (length xs) room
+
+-- octets of a slice as octets of a list
+pub octets-every : (s : List ℕ) → ((i : ℕ) → getD s i 0 < 256) → every isOctet s ≡ true
+octets-every [] f = refl
+octets-every (x ∷ s) f = rw (lt-ltb x 256 (f 0)) (octets-every s (λ i. f (suc i)))
+
+-- octets are written as they are
+pub low-octets : (xs : List ℕ) → every isOctet xs ≡ true → lowOctets xs ≡ xs
+low-octets [] h = refl
+low-octets (x ∷ xs) h =
+    let l : x < 256 = ltb-true x 256 (and-left (isOctet x) (every isOctet xs) h) in
+    let e : x % 256 ≡ x = omega arith in
+    rw e (ap (λ s. x ∷ s) (low-octets xs (and-right (isOctet x) (every isOctet xs) h)))
+
+pub length-low : (xs : List ℕ) → length (lowOctets xs) ≡ length xs
+length-low xs = length-map xs (λ x. x % 256)
+
+pub low-at : (xs : List ℕ) (i : ℕ) → getD (lowOctets xs) i 0 ≡ getD xs i 0 % 256
+low-at [] i = refl
+low-at (x ∷ xs) zero = refl
+low-at (x ∷ xs) (suc i) = low-at xs i
 
 pub written-turn : (room xs : List ℕ) (j x : ℕ) → j < length xs → x ≡ getD xs j 0 % 256 → set (sets room 0 (take j (lowOctets xs))) j x ≡ sets room 0 (take (j + 1) (lowOctets xs))
 written-turn room xs j x h e =
