@@ -13,10 +13,9 @@ use reader::finding::find_transfer;
 use reader::finding::find_transfer_answer;
 ghost use mathlib.Core.Path.{_≡_};
 ghost use Rattle.annex.specs.Answers.{classValueOf};
-ghost use Rattle.annex.specs.Finding.{commonFound, transferFound, findAnswer, findPart};
-ghost use Rattle.annex.specs.Editing.{Edit.Replacing, Edit.Appending, Edit.Removing, editingOf, bufferOf};
-ghost use Rattle.annex.specs.Classes.{classOf};
-ghost use Rattle.boundary.specs.Packed.{packed, packedAnswer, packedLength, packedStretch, packedClass};
+ghost use Rattle.annex.specs.Editing.{Edit.Replacing, Edit.Appending, Edit.Removing};
+ghost use Rattle.annex.specs.Packed.{packed, packedAnswer, packedLength};
+ghost use Rattle.annex.specs.Promises.{TkFindCommonPromise, TkFindTransferPromise, TkClassPromise, TkEditPromise};
 
 fn pack(number: u8, place: usize, value: usize) -> u64
     ensures { λ r. ⌜ r ≡ packed number place value ⌝ }
@@ -57,7 +56,7 @@ fn class_value(c: Class) -> usize
 // The contents of a common parameter: where they start, and how many octets they have.
 #[no_mangle]
 pub extern "C" fn tk_find_common(message: &[u8], header: u8) -> u64
-    ensures { λ r. ⌜ r ≡ packedStretch (findAnswer (now (message .entry)) (commonFound header (now (message .entry)))) (findPart (now (message .entry)) (commonFound header (now (message .entry)))) ⌝ }
+    ensures { λ r. ⌜ TkFindCommonPromise (now (message .entry)) header r ⌝ }
 {
     let part = find_common(message, header);
     pack_stretch(find_common_answer(message, header), part.len())
@@ -66,7 +65,7 @@ pub extern "C" fn tk_find_common(message: &[u8], header: u8) -> u64
 // The contents of a transfer parameter.
 #[no_mangle]
 pub extern "C" fn tk_find_transfer(message: &[u8], name: u8) -> u64
-    ensures { λ r. ⌜ r ≡ packedStretch (findAnswer (now (message .entry)) (transferFound name (now (message .entry)))) (findPart (now (message .entry)) (transferFound name (now (message .entry)))) ⌝ }
+    ensures { λ r. ⌜ TkFindTransferPromise (now (message .entry)) name r ⌝ }
 {
     let part = find_transfer(message, name);
     pack_stretch(find_transfer_answer(message, name), part.len())
@@ -75,7 +74,7 @@ pub extern "C" fn tk_find_transfer(message: &[u8], name: u8) -> u64
 // The class of a code value.
 #[no_mangle]
 pub extern "C" fn tk_class(header: u8, octet: u8) -> u64
-    ensures { λ r. ⌜ r ≡ packedClass (classOf header octet) ⌝ }
+    ensures { λ r. ⌜ TkClassPromise header octet r ⌝ }
 {
     let a = class_of(header, octet);
     match a {
@@ -87,7 +86,7 @@ pub extern "C" fn tk_class(header: u8, octet: u8) -> u64
 // The parameter of the new octets in the place of the one with its name, in the message that the buffer's first n octets hold.
 #[no_mangle]
 pub extern "C" fn tk_replace(buffer: &mut [u8], n: usize, new: &[u8]) -> u64
-    ensures { λ r. ⌜ (r ≡ packedAnswer (editingOf (Replacing (now (new .entry))) (now (buffer .entry)) n)) × (now (buffer .exit) ≡ bufferOf (Replacing (now (new .entry))) (now (buffer .entry)) n) ⌝ }
+    ensures { λ r. ⌜ TkEditPromise (Replacing (now (new .entry))) (now (buffer .entry)) n r (now (buffer .exit)) ⌝ }
 {
     pack_answer(replace(buffer, n, new))
 }
@@ -95,7 +94,7 @@ pub extern "C" fn tk_replace(buffer: &mut [u8], n: usize, new: &[u8]) -> u64
 // The parameter of the new octets behind the last of C5.
 #[no_mangle]
 pub extern "C" fn tk_append(buffer: &mut [u8], n: usize, new: &[u8]) -> u64
-    ensures { λ r. ⌜ (r ≡ packedAnswer (editingOf (Appending (now (new .entry))) (now (buffer .entry)) n)) × (now (buffer .exit) ≡ bufferOf (Appending (now (new .entry))) (now (buffer .entry)) n) ⌝ }
+    ensures { λ r. ⌜ TkEditPromise (Appending (now (new .entry))) (now (buffer .entry)) n r (now (buffer .exit)) ⌝ }
 {
     pack_answer(append(buffer, n, new))
 }
@@ -103,7 +102,7 @@ pub extern "C" fn tk_append(buffer: &mut [u8], n: usize, new: &[u8]) -> u64
 // The parameter with this name taken out.
 #[no_mangle]
 pub extern "C" fn tk_remove(buffer: &mut [u8], n: usize, name: u8) -> u64
-    ensures { λ r. ⌜ (r ≡ packedAnswer (editingOf (Removing name) (now (buffer .entry)) n)) × (now (buffer .exit) ≡ bufferOf (Removing name) (now (buffer .entry)) n) ⌝ }
+    ensures { λ r. ⌜ TkEditPromise (Removing name) (now (buffer .entry)) n r (now (buffer .exit)) ⌝ }
 {
     pack_answer(remove(buffer, n, name))
 }

@@ -6,10 +6,10 @@ use mathlib.Core.List.{List}
 use borrow.Author.Needs.{needs}
 use lib.ListN.{getD}
 use Rattle.annex.specs.Records.{rawItem}
+use Rattle.annex.specs.Image.{imageHead}
 use Rattle.laws.specs.Laid.{own-values}
 use Rattle.parameter.specs.Laying.{itemFrom, atFront}
 use Rattle.reader.proofs.Octets.{octets-every}
-use Rattle.image.specs.Image.{imageHead}
 use Rattle.image.specs.Laying.{item-octets}
 use Rattle.image.proofs.Behind.{copied-behind}
 use Rattle.image.proofs.laying.put_item.Statement.{statement}
