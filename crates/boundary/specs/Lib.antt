@@ -1,0 +1,3 @@
+-- Laws for the functions for Rust and C: a message's record as its image, and the table of octets while rows are stored.
+pub mod Images
+pub mod Tables
