@@ -23,3 +23,4 @@ pub mod Undone
 pub mod Finds
 pub mod Unique
 pub mod Wrong
+pub mod WrongPacked
