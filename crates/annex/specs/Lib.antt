@@ -1,4 +1,5 @@
--- Document 01 as definitions, a file to a chapter, in the order in which they build on each other.
+-- Document 01 as definitions, a file to a chapter, in the order in which they build on each other; with a record's image and what is
+-- packed for Rust and C.
 pub mod Answers
 pub mod Units
 pub mod Heads
@@ -11,9 +12,11 @@ pub mod Walk
 pub mod Reading
 pub mod Records
 pub mod Writing
+pub mod Image
 pub mod Finding
 pub mod Spans
 pub mod Editing
 pub mod Classes
+pub mod Packed
 pub mod Promises
 pub mod Bench

@@ -1,5 +1,5 @@
 -- What each public function of the product promises, for all inputs, refused ones too: its answer, and what lent memory then holds.
--- m: the octets of a message; room, table, buffer: lent memory at entry; now: at exit.
+-- m: the octets of a message; image: those of a record's image; room, table, buffer: lent memory at entry; now: at exit.
 use Prim.Native.Nat.{ℕ}
 use mathlib.Core.Path.{_≡_}
 use mathlib.Core.Bool.{Bool, cond}
@@ -8,13 +8,26 @@ use lib.ListN.{length}
 use Rattle.annex.specs.Reading.{verdictOf}
 use Rattle.annex.specs.Records.{readingOf}
 use Rattle.annex.specs.Writing.{structWriting, writingOf, writtenOf}
+use Rattle.annex.specs.Image.{imagingOf, imagedIn, imagedOf}
 use Rattle.annex.specs.Finding.{commonFound, transferFound, findAnswer, findPart}
 use Rattle.annex.specs.Spans.{rowAt, spansOf, tableOf}
 use Rattle.annex.specs.Editing.{Edit, editingOf, bufferOf}
 use Rattle.annex.specs.Classes.{classOf}
+use Rattle.annex.specs.Packed.{
+  packedAnswer,
+  packedStretch,
+  packedClass,
+  imageReading,
+  imageRead,
+  imageWriting,
+  imageWritten,
+  octetSpans,
+  octetTable,
+}
 use Rattle.annex.specs.declared.Answer.{Answer}
 use Rattle.annex.specs.declared.Record.{Record}
 use Rattle.annex.specs.declared.Reading.{Reading}
+use Rattle.annex.specs.declared.Imaged.{Imaged}
 use Rattle.annex.specs.declared.Row.{Row}
 use Rattle.annex.specs.declared.ClassAnswer.{ClassAnswer}
 
@@ -57,7 +70,40 @@ EditPromise e buffer n r now = (r ≡ editingOf e buffer n) × (now ≡ bufferOf
 abbrev pub ClassPromise : ℕ → ℕ → ClassAnswer → Type 0
 ClassPromise h x r = r ≡ classOf h x
 
--- The functions that serve these. One answers what the definition named beside it gives;
+-- ---- a record's image
+
+abbrev pub ToImagePromise : Record → List ℕ → Answer → List ℕ → Type 0
+ToImagePromise s room r now = (r ≡ imagingOf s (length room)) × (now ≡ imagedIn s room)
+
+abbrev pub FromImagePromise : List ℕ → Imaged → Type 0
+FromImagePromise image r = r ≡ imagedOf image
+
+-- ---- the functions for Rust and C, which answer one number
+
+abbrev pub TkReadPromise : List ℕ → List ℕ → ℕ → List ℕ → Type 0
+TkReadPromise m room r now = (r ≡ packedAnswer (imageReading m (length room))) × (now ≡ imageRead m room)
+
+abbrev pub TkWritePromise : List ℕ → List ℕ → ℕ → List ℕ → Type 0
+TkWritePromise image room r now = (r ≡ packedAnswer (imageWriting image (length room))) × (now ≡ imageWritten image room)
+
+abbrev pub TkRowsPromise : List ℕ → List ℕ → ℕ → List ℕ → Type 0
+TkRowsPromise m table r now = (r ≡ packedAnswer (octetSpans m (length table))) × (now ≡ octetTable m table)
+
+abbrev pub TkFindCommonPromise : List ℕ → ℕ → ℕ → Type 0
+TkFindCommonPromise m h r = r ≡ packedStretch (findAnswer m (commonFound h m)) (findPart m (commonFound h m))
+
+abbrev pub TkFindTransferPromise : List ℕ → ℕ → ℕ → Type 0
+TkFindTransferPromise m x r = r ≡ packedStretch (findAnswer m (transferFound x m)) (findPart m (transferFound x m))
+
+abbrev pub TkClassPromise : ℕ → ℕ → ℕ → Type 0
+TkClassPromise h x r = r ≡ packedClass (classOf h x)
+
+abbrev pub TkEditPromise : Edit → List ℕ → ℕ → ℕ → List ℕ → Type 0
+TkEditPromise e buffer n r now = (r ≡ packedAnswer (editingOf e buffer n)) × (now ≡ bufferOf e buffer n)
+
+-- ---- the functions that serve these
+
+-- one answers what the definition named beside it gives;
 abbrev pub Gives : {A : Type 0} → A → A → Type 0
 Gives given r = r ≡ given
 

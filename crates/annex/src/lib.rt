@@ -420,6 +420,19 @@ pub struct Reading {
     pub record: Record,
 }
 
+// What a record's image gives: accepted with the count of common parameters, and the record; or refused, and the empty record.
+pub struct Imaged {
+    pub answer: Answer,
+    pub held: Record,
+}
+
+impl Imaged {
+    // the octets of a common parameter before its transfer parameters, and of a transfer parameter before its values
+    pub const COMMON_HEAD: usize = 6;
+
+    pub const TRANSFER_HEAD: usize = 11;
+}
+
 // Where contents stand in a message: from an octet to before another.
 pub enum Found {
     At(usize, usize),
@@ -432,6 +445,11 @@ pub struct Row {
     pub offset: usize,
     pub header: u8,
     pub len: usize,
+}
+
+impl Row {
+    // the octets of a row in a table of octets
+    pub const OCTETS: usize = 5;
 }
 
 // The class of a code value.

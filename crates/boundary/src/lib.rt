@@ -3,20 +3,30 @@
 use annex::Answer;
 use annex::Class;
 use annex::ClassAnswer;
+use annex::Row;
 use classes::class_of;
 use editor::append;
 use editor::remove;
 use editor::replace;
+use image::laying::to_image;
+use image::reading::from_image;
 use reader::finding::find_common;
 use reader::finding::find_common_answer;
 use reader::finding::find_transfer;
 use reader::finding::find_transfer_answer;
+use reader::reading::read;
+use reader::rows::check;
+use reader::rows::given;
+use reader::rows::row_at;
+use writer::writing::write;
 ghost use mathlib.Core.Path.{_≡_};
+ghost use mathlib.Core.List.{_++_};
+ghost use Prim.Native.Nat.{_≤_};
+ghost use lib.ListN.{length, drop};
 ghost use Rattle.annex.specs.Answers.{classValueOf};
-ghost use Rattle.annex.specs.Finding.{commonFound, transferFound, findAnswer, findPart};
-ghost use Rattle.annex.specs.Editing.{Edit.Replacing, Edit.Appending, Edit.Removing, editingOf, bufferOf};
-ghost use Rattle.annex.specs.Classes.{classOf};
-ghost use Rattle.boundary.specs.Packed.{packed, packedAnswer, packedLength, packedStretch, packedClass};
+ghost use Rattle.annex.specs.Editing.{Edit.Replacing, Edit.Appending, Edit.Removing};
+ghost use Rattle.annex.specs.Packed.{packed, packedAnswer, packedLength, rowOctets};
+ghost use Rattle.annex.specs.Promises.{TkReadPromise, TkWritePromise, TkRowsPromise, TkFindCommonPromise, TkFindTransferPromise, TkClassPromise, TkEditPromise};
 
 fn pack(number: u8, place: usize, value: usize) -> u64
     ensures { λ r. ⌜ r ≡ packed number place value ⌝ }
@@ -54,10 +64,68 @@ fn class_value(c: Class) -> usize
     }
 }
 
+// Writes a row: offset, header, length of the contents; the two numbers in two octets each, least first.
+fn put_row(r: Row, out: &mut [u8])
+    requires { ⌜ 5 ≤ length (now out) ⌝ }
+    ensures { λ _. ⌜ now (out .exit) ≡ rowOctets r ++ drop 5 (now (out .entry)) ⌝ }
+{
+    let offset = r.offset;
+    let len = r.len;
+    out[0] = (offset % 256) as u8;
+    out[1] = (offset / 256 % 256) as u8;
+    out[2] = r.header;
+    out[3] = (len % 256) as u8;
+    out[4] = (len / 256 % 256) as u8;
+}
+
+// The record of a message, as its image at the front of the lent octets: how many octets it has. A refusal leaves them as they were.
+#[no_mangle]
+pub extern "C" fn tk_read(message: &[u8], image: &mut [u8]) -> u64
+    ensures { λ r. ⌜ TkReadPromise (now (message .entry)) (now (image .entry)) r (now (image .exit)) ⌝ }
+{
+    let reading = read(message);
+    let a = reading.answer;
+    let Answer::Accepted(_) = a else {
+        return pack_answer(a);
+    };
+    let held = reading.record;
+    pack_answer(to_image(held, image))
+}
+
+// The message of the record of an image, at the front of the room: its length. A refusal leaves the room as it was.
+#[no_mangle]
+pub extern "C" fn tk_write(image: &[u8], room: &mut [u8]) -> u64
+    ensures { λ r. ⌜ TkWritePromise (now (image .entry)) (now (room .entry)) r (now (room .exit)) ⌝ }
+{
+    let imaged = from_image(image);
+    let a = imaged.answer;
+    let Answer::Accepted(_) = a else {
+        return pack_answer(a);
+    };
+    let held = imaged.held;
+    pack_answer(write(held, room))
+}
+
+// The rows of a message, five octets each, from the table's front on: how many there are. Octets past the last stay, and a refusal leaves all.
+#[no_mangle]
+pub extern "C" fn tk_rows(message: &[u8], table: &mut [u8]) -> u64
+    ensures { λ r. ⌜ TkRowsPromise (now (message .entry)) (now (table .entry)) r (now (table .exit)) ⌝ }
+{
+    let a = check(message, table.len() / Row::OCTETS);
+    let n = given(a);
+    let mut k: usize = 0;
+    while k < n {
+        let at = Row::OCTETS * k;
+        put_row(row_at(message, k), &mut table[at..]);
+        k += 1;
+    }
+    pack_answer(a)
+}
+
 // The contents of a common parameter: where they start, and how many octets they have.
 #[no_mangle]
 pub extern "C" fn tk_find_common(message: &[u8], header: u8) -> u64
-    ensures { λ r. ⌜ r ≡ packedStretch (findAnswer (now (message .entry)) (commonFound header (now (message .entry)))) (findPart (now (message .entry)) (commonFound header (now (message .entry)))) ⌝ }
+    ensures { λ r. ⌜ TkFindCommonPromise (now (message .entry)) header r ⌝ }
 {
     let part = find_common(message, header);
     pack_stretch(find_common_answer(message, header), part.len())
@@ -66,7 +134,7 @@ pub extern "C" fn tk_find_common(message: &[u8], header: u8) -> u64
 // The contents of a transfer parameter.
 #[no_mangle]
 pub extern "C" fn tk_find_transfer(message: &[u8], name: u8) -> u64
-    ensures { λ r. ⌜ r ≡ packedStretch (findAnswer (now (message .entry)) (transferFound name (now (message .entry)))) (findPart (now (message .entry)) (transferFound name (now (message .entry)))) ⌝ }
+    ensures { λ r. ⌜ TkFindTransferPromise (now (message .entry)) name r ⌝ }
 {
     let part = find_transfer(message, name);
     pack_stretch(find_transfer_answer(message, name), part.len())
@@ -75,7 +143,7 @@ pub extern "C" fn tk_find_transfer(message: &[u8], name: u8) -> u64
 // The class of a code value.
 #[no_mangle]
 pub extern "C" fn tk_class(header: u8, octet: u8) -> u64
-    ensures { λ r. ⌜ r ≡ packedClass (classOf header octet) ⌝ }
+    ensures { λ r. ⌜ TkClassPromise header octet r ⌝ }
 {
     let a = class_of(header, octet);
     match a {
@@ -87,7 +155,7 @@ pub extern "C" fn tk_class(header: u8, octet: u8) -> u64
 // The parameter of the new octets in the place of the one with its name, in the message that the buffer's first n octets hold.
 #[no_mangle]
 pub extern "C" fn tk_replace(buffer: &mut [u8], n: usize, new: &[u8]) -> u64
-    ensures { λ r. ⌜ (r ≡ packedAnswer (editingOf (Replacing (now (new .entry))) (now (buffer .entry)) n)) × (now (buffer .exit) ≡ bufferOf (Replacing (now (new .entry))) (now (buffer .entry)) n) ⌝ }
+    ensures { λ r. ⌜ TkEditPromise (Replacing (now (new .entry))) (now (buffer .entry)) n r (now (buffer .exit)) ⌝ }
 {
     pack_answer(replace(buffer, n, new))
 }
@@ -95,7 +163,7 @@ pub extern "C" fn tk_replace(buffer: &mut [u8], n: usize, new: &[u8]) -> u64
 // The parameter of the new octets behind the last of C5.
 #[no_mangle]
 pub extern "C" fn tk_append(buffer: &mut [u8], n: usize, new: &[u8]) -> u64
-    ensures { λ r. ⌜ (r ≡ packedAnswer (editingOf (Appending (now (new .entry))) (now (buffer .entry)) n)) × (now (buffer .exit) ≡ bufferOf (Appending (now (new .entry))) (now (buffer .entry)) n) ⌝ }
+    ensures { λ r. ⌜ TkEditPromise (Appending (now (new .entry))) (now (buffer .entry)) n r (now (buffer .exit)) ⌝ }
 {
     pack_answer(append(buffer, n, new))
 }
@@ -103,7 +171,7 @@ pub extern "C" fn tk_append(buffer: &mut [u8], n: usize, new: &[u8]) -> u64
 // The parameter with this name taken out.
 #[no_mangle]
 pub extern "C" fn tk_remove(buffer: &mut [u8], n: usize, name: u8) -> u64
-    ensures { λ r. ⌜ (r ≡ packedAnswer (editingOf (Removing name) (now (buffer .entry)) n)) × (now (buffer .exit) ≡ bufferOf (Removing name) (now (buffer .entry)) n) ⌝ }
+    ensures { λ r. ⌜ TkEditPromise (Removing name) (now (buffer .entry)) n r (now (buffer .exit)) ⌝ }
 {
     pack_answer(remove(buffer, n, name))
 }

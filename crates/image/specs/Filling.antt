@@ -12,15 +12,15 @@ use Rattle.annex.specs.Heads.{most-commons, most-transfers}
 use Rattle.annex.specs.Items.{Item, Part}
 use Rattle.annex.specs.Allowed.{itemsIn}
 use Rattle.annex.specs.Records.{headOf, commonHeadOf, valuesOf, pack}
+use Rattle.annex.specs.Image.{Front, more, headAt, itemAt, itemSize, itemsAt, commonAt, partAt, partThen, partsAt, noImage, isWithin, imagedBy, imagedOf}
+use Rattle.annex.specs.Image.Front.{Taken, Short}
 use Rattle.annex.specs.declared.Common.{Common}
 use Rattle.annex.specs.declared.Record.{Record}
 use Rattle.annex.specs.declared.Answer.the-variants.{Accepted}
+use Rattle.annex.specs.declared.Imaged.{Imaged}
 use Rattle.laws.specs.Bools.{and-left, and-right}
 use Rattle.laws.specs.Filling.{withItems, withParts, emptyRecord, filled-whole, filled-none, items-turn, values-append, part-put}
-use Rattle.image.specs.Image.{Front, more, headAt, itemAt, itemSize, itemsAt, commonAt, partAt, partThen, partsAt, noImage, isWithin, imagedBy, imagedOf}
-use Rattle.image.specs.Image.Front.{Taken, Short}
 use Rattle.image.specs.declared.reading.Filled.{Filled}
-use Rattle.image.specs.declared.reading.Imaged.{Imaged}
 
 -- the transfer parameter at the front of octets is whole, and has a place after k others and room for its values after the used ones
 abbrev pub fitsAt : List ℕ → ℕ → ℕ → Bool

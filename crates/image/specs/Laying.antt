@@ -13,6 +13,7 @@ use Rattle.annex.specs.Heads.{transfer-data}
 use Rattle.annex.specs.Items.{Item}
 use Rattle.annex.specs.Allowed.{Each, every, isOctet}
 use Rattle.annex.specs.Records.{headOf, transfersIn, transfersSum, commonsIn, isWhole, view}
+use Rattle.annex.specs.Image.{imageHead, imageItem, imageItems, imageCommon, imagePart, imageParts, imageOf, imagingOf, imagedIn}
 use Rattle.annex.specs.declared.Answer.{Answer}
 use Rattle.annex.specs.declared.Answer.the-variants.{Accepted, Refused}
 use Rattle.annex.specs.declared.Common.{Common}
@@ -21,7 +22,6 @@ use Rattle.annex.specs.declared.Record.{Record}
 use Rattle.theorems.specs.Lists.{each-every}
 use Rattle.writer.specs.Along.{partFrom, commonAt, transferAt, usedAt, ownAt, itemsAt, partsAt, transfersAt, Within, Whole, within-less, transfers-next, parts-next}
 use Rattle.writer.specs.Limits.{length-parts, length-items}
-use Rattle.image.specs.Image.{imageHead, imageItem, imageItems, imageCommon, imagePart, imageParts, imageOf, imagingOf, imagedIn}
 
 -- the head of a common parameter; what it does not have is 0
 abbrev pub ownCommon : Common → Common

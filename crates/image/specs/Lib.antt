@@ -1,5 +1,4 @@
--- A record's image as octets, what the contracts of this crate's own steps cite beside it, and that an image read gives the record again.
-pub mod Image
+-- What the contracts of this crate's own steps cite, and that an image read gives the record again.
 pub mod Filling
 pub mod Laying
 pub mod Octets

@@ -14,6 +14,7 @@ use Rattle.annex.specs.Items.{Item, Part, Holding, heldAs, ownBy, ownOf}
 use Rattle.annex.specs.Items.Holding.{AsContents, AsDigits, AsNumber, AsGeneric}
 use Rattle.annex.specs.Allowed.{Each, every, isOctet, itemsIn}
 use Rattle.annex.specs.Records.{headOf, commonHeadOf, valuesOf, rawItem, viewItems, lengthsOf, transfersIn, transfersSum, viewParts, commonsIn, view}
+use Rattle.annex.specs.Image.{imageHead, imageItem, imageItems, imageCommon, imagePart, imageParts, imageOf}
 use Rattle.annex.specs.declared.Common.{Common}
 use Rattle.annex.specs.declared.Transfer.{Transfer}
 use Rattle.annex.specs.declared.Record.{Record}
@@ -22,7 +23,6 @@ use Rattle.laws.specs.Laid.{own-values}
 use Rattle.theorems.specs.Lists.{every-append, every-take, every-drop, each-take, each-drop}
 use Rattle.writer.specs.Along.{usedAt, itemsAt, Whole, items-all}
 use Rattle.writer.specs.Limits.{length-items}
-use Rattle.image.specs.Image.{imageHead, imageItem, imageItems, imageCommon, imagePart, imageParts, imageOf}
 use Rattle.image.specs.Laying.{OctetHead, head-octets, common-octets, length-item, items-many, parts-many}
 
 -- ---- lengths

@@ -14,6 +14,8 @@ use Rattle.annex.specs.Items.{Item, Part, markedItem}
 use Rattle.annex.specs.Allowed.{Each, every, isOctet, itemsIn, valueRight, valueFits, Allowed}
 use Rattle.annex.specs.Reading.{octetAllowed, verdictOf, recordOf}
 use Rattle.annex.specs.Records.{valuesOf, pack, view, readingOf}
+use Rattle.annex.specs.Image.{imageItem, imageItems, imagePart, imageParts, imageOf, imagingOf, imagedIn, itemAt, itemSize, itemsAt, commonAt, partAt, partsAt, noImage, isWithin, imagedOf}
+use Rattle.annex.specs.Image.Front.{Taken}
 use Rattle.annex.specs.declared.Answer.the-variants.{Accepted}
 use Rattle.theorems.specs.Lists.{each-left, each-right, each-so}
 use Rattle.theorems.specs.Commons.{Kind, kind, AllowedPart}
@@ -21,9 +23,7 @@ use Rattle.theorems.specs.Commons.Kind.{octet, call, many}
 use Rattle.theorems.specs.Records.{plain-items, allowed-parts, Within, allowed-within}
 use Rattle.theorems.specs.Views.{view-pack, whole-pack}
 use Rattle.theorems.specs.Messages.{read-then-laid}
-use Rattle.image.specs.Image.{imageItem, imageItems, imagePart, imageParts, imageOf, imagingOf, imagedIn, itemAt, itemSize, itemsAt, commonAt, partAt, partsAt, noImage, isWithin, imagedOf}
 use Rattle.image.specs.Laying.{imaging-done}
-use Rattle.image.specs.Image.Front.{Taken}
 
 -- ---- a transfer parameter, octets behind it
 

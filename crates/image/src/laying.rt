@@ -1,7 +1,7 @@
 // The image of a record, written at the front of lent room.
-use super::reading::Imaged;
 use annex::Answer;
 use annex::Common;
+use annex::Imaged;
 use annex::Record;
 use annex::Transfer;
 use octets::copy_in;
@@ -16,11 +16,12 @@ ghost use Prim.Native.Nat.{ℕ, _+_, _≤_};
 ghost use lib.ListN.{length};
 ghost use Rattle.annex.specs.Items.{ownMarks, ownFields};
 ghost use Rattle.annex.specs.Records.{headOf, rawItem, view};
+ghost use Rattle.annex.specs.Image.{imageHead, imageItem, imageItems, imageCommon, imageParts, imageOf};
+ghost use Rattle.annex.specs.Promises.{ToImagePromise};
 ghost use Rattle.laws.specs.Written.{atFront};
 ghost use Rattle.parameter.specs.Opening.{marksOf};
 ghost use Rattle.parameter.specs.Laying.{itemFrom};
 ghost use Rattle.writer.specs.Along.{itemsAt, Within, Whole};
-ghost use Rattle.image.specs.Image.{imageHead, imageItem, imageItems, imageCommon, imageParts, imageOf, ToImagePromise};
 ghost use Rattle.image.specs.Laying.{ownCommon, partOctets};
 
 // The head of a parameter of digits, with the marks that it has.

@@ -1,6 +1,7 @@
 // A record from its image: the struct is filled parameter by parameter, as far as the octets are a whole record within the limits.
 use annex::Answer;
 use annex::Common;
+use annex::Imaged;
 use annex::Record;
 use annex::Transfer;
 use parameter::opening::open_contents;
@@ -8,14 +9,9 @@ use reader::reading::empty;
 ghost use mathlib.Core.Path.{_≡_};
 ghost use Prim.Native.Nat.{_≤_};
 ghost use lib.ListN.{length};
-ghost use Rattle.image.specs.Image.{headAt, itemsAt, commonAt, partsAt, noImage, imagedBy, FromImagePromise};
+ghost use Rattle.annex.specs.Image.{headAt, itemsAt, commonAt, partsAt, noImage, imagedBy};
+ghost use Rattle.annex.specs.Promises.{FromImagePromise};
 ghost use Rattle.image.specs.Filling.{fitsAt, unfilled, filledBy};
-
-// What an image gives: accepted with the count of common parameters, and the record; or refused, and the empty record.
-pub struct Imaged {
-    pub answer: Answer,
-    pub held: Record,
-}
 
 // A record's struct, how many of its transfer places and values are taken, and how many octets were read; or not whole, and empty.
 struct Filled {
@@ -24,24 +20,6 @@ struct Filled {
     transfers: usize,
     used: usize,
     octets: usize,
-}
-
-impl Imaged {
-    // the octets of a common parameter before its transfer parameters, and of a transfer parameter before its values
-    pub const COMMON_HEAD: usize = 6;
-
-    pub const TRANSFER_HEAD: usize = 11;
-
-    // No record.
-    fn refused() -> Imaged
-        ensures { λ r. ⌜ r ≡ noImage ⌝ }
-    {
-        let none = empty();
-        Imaged {
-            answer: Answer::Refused(Answer::OVER_LIMITS, 0),
-            held: none,
-        }
-    }
 }
 
 impl Filled {
@@ -56,6 +34,17 @@ impl Filled {
             used: 0,
             octets: 0,
         }
+    }
+}
+
+// No record.
+fn refused() -> Imaged
+    ensures { λ r. ⌜ r ≡ noImage ⌝ }
+{
+    let none = empty();
+    Imaged {
+        answer: Answer::Refused(Answer::OVER_LIMITS, 0),
+        held: none,
     }
 }
 
@@ -172,16 +161,16 @@ fn fill(s: &[u8], count: usize) -> Imaged
     while 0 < left {
         let k = q.commons as usize;
         if Common::MOST <= k {
-            return Imaged::refused();
+            return refused();
         }
         if s.len() - i < Imaged::COMMON_HEAD {
-            return Imaged::refused();
+            return refused();
         }
         let c = common_head(&s[i..]);
         let from = i + Imaged::COMMON_HEAD;
         let f = with_transfers(q, &s[from..], c.transfers as usize, transfers, used);
         if !f.whole {
-            return Imaged::refused();
+            return refused();
         }
         q = f.held;
         transfers = f.transfers;
@@ -192,7 +181,7 @@ fn fill(s: &[u8], count: usize) -> Imaged
         left -= 1;
     }
     if i != s.len() {
-        return Imaged::refused();
+        return refused();
     }
     let given = q.commons as usize;
     Imaged {
@@ -206,7 +195,7 @@ pub fn from_image(image: &[u8]) -> Imaged
     ensures { λ r. ⌜ FromImagePromise (now (image .entry)) r ⌝ }
 {
     if image.len() == 0 {
-        return Imaged::refused();
+        return refused();
     }
     let count = image[0] as usize;
     fill(&image[1..], count)

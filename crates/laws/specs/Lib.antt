@@ -24,6 +24,7 @@ pub mod Plain
 pub mod Filling
 pub mod Finding
 pub mod Rows
+pub mod Listed
 pub mod Few
 -- of places in what is written:
 pub mod Places

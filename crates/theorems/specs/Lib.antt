@@ -24,3 +24,4 @@ pub mod Finds
 pub mod Unique
 pub mod Constants
 pub mod Wrong
+pub mod WrongPacked

@@ -19,18 +19,32 @@ use Rattle.annex.specs.Promises.{
   RecordRefusalPromise,
   EditPromise,
   ClassPromise,
+  ToImagePromise,
+  FromImagePromise,
+  TkReadPromise,
+  TkWritePromise,
+  TkRowsPromise,
+  TkFindCommonPromise,
+  TkFindTransferPromise,
+  TkClassPromise,
+  TkEditPromise,
   Gives,
   Stores,
 }
 use Rattle.annex.specs.declared.Answer.{Answer}
 use Rattle.annex.specs.declared.Record.{Record}
 use Rattle.annex.specs.declared.Reading.{Reading}
+use Rattle.annex.specs.declared.Imaged.{Imaged}
 use Rattle.annex.specs.declared.Row.{Row}
 use Rattle.annex.specs.declared.ClassAnswer.{ClassAnswer}
 
 -- what is equal to the same is equal
 pub same : {A : Type 0} {x a b : A} → a ≡ x → b ≡ x → a ≡ b
 same p q = p ∙ sym q
+
+-- an answer, and lent memory beside it
+pub both : {A B : Type 0} {x a b : A} {y s t : B} → (a ≡ x) × (s ≡ y) → (b ≡ x) × (t ≡ y) → (a ≡ b) × (s ≡ t)
+both p q = (same (p .0) (q .0), same (p .1) (q .1))
 
 pub one-verdict : (m : List ℕ) (a b : Answer) → VerdictPromise m a → VerdictPromise m b → a ≡ b
 one-verdict m a b p q = same p q
@@ -61,18 +75,50 @@ one-refusal held a b p q = same p q
 
 -- with lent memory
 pub one-listing : (m : List ℕ) (table : List Row) (a b : Answer) (s t : List Row) → SpansPromise m table a s → SpansPromise m table b t → (a ≡ b) × (s ≡ t)
-one-listing m table a b s t p q = (same (p .0) (q .0), same (p .1) (q .1))
+one-listing m table a b s t p q = both p q
 
 pub one-writing : (held : Record) (room : List ℕ) (a b : Answer) (s t : List ℕ) → WritePromise held room a s → WritePromise held room b t → (a ≡ b) × (s ≡ t)
-one-writing held room a b s t p q = (same (p .0) (q .0), same (p .1) (q .1))
+one-writing held room a b s t p q = both p q
 
 pub one-edit : (e : Edit) (buffer : List ℕ) (n : ℕ) (a b : Answer) (s t : List ℕ) → EditPromise e buffer n a s → EditPromise e buffer n b t → (a ≡ b) × (s ≡ t)
-one-edit e buffer n a b s t p q = (same (p .0) (q .0), same (p .1) (q .1))
+one-edit e buffer n a b s t p q = both p q
 
 pub one-class : (h x : ℕ) (a b : ClassAnswer) → ClassPromise h x a → ClassPromise h x b → a ≡ b
 one-class h x a b p q = same p q
 
--- the functions that serve these
+-- ---- a record's image
+
+pub one-imaging : (held : Record) (room : List ℕ) (a b : Answer) (s t : List ℕ) → ToImagePromise held room a s → ToImagePromise held room b t → (a ≡ b) × (s ≡ t)
+one-imaging held room a b s t p q = both p q
+
+pub one-imaged : (image : List ℕ) (a b : Imaged) → FromImagePromise image a → FromImagePromise image b → a ≡ b
+one-imaged image a b p q = same p q
+
+-- ---- the functions for Rust and C
+
+pub one-tk-read : (m room : List ℕ) (a b : ℕ) (s t : List ℕ) → TkReadPromise m room a s → TkReadPromise m room b t → (a ≡ b) × (s ≡ t)
+one-tk-read m room a b s t p q = both p q
+
+pub one-tk-write : (image room : List ℕ) (a b : ℕ) (s t : List ℕ) → TkWritePromise image room a s → TkWritePromise image room b t → (a ≡ b) × (s ≡ t)
+one-tk-write image room a b s t p q = both p q
+
+pub one-tk-rows : (m table : List ℕ) (a b : ℕ) (s t : List ℕ) → TkRowsPromise m table a s → TkRowsPromise m table b t → (a ≡ b) × (s ≡ t)
+one-tk-rows m table a b s t p q = both p q
+
+pub one-tk-common : (m : List ℕ) (h a b : ℕ) → TkFindCommonPromise m h a → TkFindCommonPromise m h b → a ≡ b
+one-tk-common m h a b p q = same p q
+
+pub one-tk-transfer : (m : List ℕ) (x a b : ℕ) → TkFindTransferPromise m x a → TkFindTransferPromise m x b → a ≡ b
+one-tk-transfer m x a b p q = same p q
+
+pub one-tk-class : (h x a b : ℕ) → TkClassPromise h x a → TkClassPromise h x b → a ≡ b
+one-tk-class h x a b p q = same p q
+
+pub one-tk-edit : (e : Edit) (buffer : List ℕ) (n a b : ℕ) (s t : List ℕ) → TkEditPromise e buffer n a s → TkEditPromise e buffer n b t → (a ≡ b) × (s ≡ t)
+one-tk-edit e buffer n a b s t p q = both p q
+
+-- ---- the functions that serve these
+
 pub one-given : {A : Type 0} (given a b : A) → Gives given a → Gives given b → a ≡ b
 one-given given a b p q = same p q
 

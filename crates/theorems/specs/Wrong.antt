@@ -1,5 +1,6 @@
 -- Wrong programs that the promises shut out, each with the input at which it breaks one: those that document 01 names under "How tight each
--- promise is", and two for every other public function. The listing's stand in crate rows, the classes' in crate classes.
+-- promise is", and two for every other public function. Those about a record's image and about the functions for Rust and C stand in
+-- WrongPacked, the listing's in crate rows, the classes' in crate classes.
 use Prim.Native.Nat.{ℕ}
 use native.Mathlib.Omega.{arith}
 use mathlib.Core.Path.{_≡_, refl, ap, _∙_}
@@ -66,47 +67,47 @@ use Rattle.annex.specs.declared.Reading.{Reading}
 use Rattle.annex.specs.declared.Row.{Row}
 
 -- case 2: the shortest message; and an edit of each kind of M
-abbrev short : List ℕ
+abbrev pub short : List ℕ
 short = K ++ (0x00 ∷ [])
 
-abbrev shorter : Edit
+abbrev pub shorter : Edit
 shorter = Replacing (0x98 ∷ 0x02 ∷ 0x21 ∷ [])
 
-abbrev another : Edit
+abbrev pub another : Edit
 another = Appending (0x41 ∷ 0x01 ∷ [])
 
 -- M with two octets past it
-abbrev roomy : List ℕ
+abbrev pub roomy : List ℕ
 roomy = M ++ (0xEE ∷ 0xEE ∷ [])
 
 -- what the definitions say, computed once
-record Said : Type 0 where
-  verdict-cut : verdictOf K ≡ Refused 4 4
-  verdict-short : verdictOf short ≡ Accepted 5
-  reading-short : readingOf short .answer ≡ Accepted 5
-  reading-M : readingOf M .«record» ≡ pack recordOfM
-  own-call : findPart M (commonFound 0x83 M) ≡ 0x39 ∷ 0x30 ∷ 0x00 ∷ []
-  own-call-at : findAnswer M (commonFound 0x83 M) ≡ Accepted 3
-  no-partner : findAnswer M (commonFound 0x82 M) ≡ Refused 16 0
-  dialled : findPart M (transferFound 0x18 M) ≡ 0x03 ∷ 0x21 ∷ 0x0A ∷ []
-  dialled-at : findAnswer M (transferFound 0x18 M) ≡ Accepted 19
-  no-name : findAnswer M (transferFound 0x3F M) ≡ Refused 16 0
-  nine-rows : spansOf M 59 ≡ Accepted 9
-  no-room : spansOf M 8 ≡ Refused 15 0
-  area-row : rowAt M 5 ≡ record { offset = 12; header = 0x90; len = 3 }
-  no-row : rowAt M 9 ≡ record { offset = 0; header = 0; len = 0 }
-  written-answer : writingOf (pack recordOfK) 6 ≡ Accepted 5
-  written : writtenOf (pack recordOfK) (replicate 6 0xEE) ≡ short ++ (0xEE ∷ [])
-  replaced-answer : editingOf shorter M 23 ≡ Accepted 22
-  replaced-length : getD (bufferOf shorter M 23) 11 0 ≡ 0x09
-  appended-answer : editingOf another roomy 23 ≡ Accepted 25
-  appended-length : getD (bufferOf another roomy 23) 11 0 ≡ 0x0C
-  appended-end : getD (bufferOf another roomy 23) 24 0 ≡ 0x00
-  removed-answer : editingOf (Removing 0x18) M 23 ≡ Accepted 19
-  removed-length : getD (bufferOf (Removing 0x18) M 23) 11 0 ≡ 0x06
-  removed-rest : getD (bufferOf (Removing 0x18) M 23) 19 0 ≡ 0x00
+pub record Said : Type 0 where
+  pub verdict-cut : verdictOf K ≡ Refused 4 4
+  pub verdict-short : verdictOf short ≡ Accepted 5
+  pub reading-short : readingOf short .answer ≡ Accepted 5
+  pub reading-M : readingOf M .«record» ≡ pack recordOfM
+  pub own-call : findPart M (commonFound 0x83 M) ≡ 0x39 ∷ 0x30 ∷ 0x00 ∷ []
+  pub own-call-at : findAnswer M (commonFound 0x83 M) ≡ Accepted 3
+  pub no-partner : findAnswer M (commonFound 0x82 M) ≡ Refused 16 0
+  pub dialled : findPart M (transferFound 0x18 M) ≡ 0x03 ∷ 0x21 ∷ 0x0A ∷ []
+  pub dialled-at : findAnswer M (transferFound 0x18 M) ≡ Accepted 19
+  pub no-name : findAnswer M (transferFound 0x3F M) ≡ Refused 16 0
+  pub nine-rows : spansOf M 59 ≡ Accepted 9
+  pub no-room : spansOf M 8 ≡ Refused 15 0
+  pub area-row : rowAt M 5 ≡ record { offset = 12; header = 0x90; len = 3 }
+  pub no-row : rowAt M 9 ≡ record { offset = 0; header = 0; len = 0 }
+  pub written-answer : writingOf (pack recordOfK) 6 ≡ Accepted 5
+  pub written : writtenOf (pack recordOfK) (replicate 6 0xEE) ≡ short ++ (0xEE ∷ [])
+  pub replaced-answer : editingOf shorter M 23 ≡ Accepted 22
+  pub replaced-length : getD (bufferOf shorter M 23) 11 0 ≡ 0x09
+  pub appended-answer : editingOf another roomy 23 ≡ Accepted 25
+  pub appended-length : getD (bufferOf another roomy 23) 11 0 ≡ 0x0C
+  pub appended-end : getD (bufferOf another roomy 23) 24 0 ≡ 0x00
+  pub removed-answer : editingOf (Removing 0x18) M 23 ≡ Accepted 19
+  pub removed-length : getD (bufferOf (Removing 0x18) M 23) 11 0 ≡ 0x06
+  pub removed-rest : getD (bufferOf (Removing 0x18) M 23) 19 0 ≡ 0x00
 
-said : Said
+pub said : Said
 unfolding afterOf leadOf commonExtentOf extentOf nameUsed pliRight oftenOf zeroesOf formOf halves joined digitOf codeOf isCode halvesFault digitsFault digitsOf packed numberFault callingFault genericFault dialledFault twoFault faultOf holdingOf itemOf contentsOf ownOf layoutItem layoutItems layoutPart layout lengthRight formRight digitsRight valueRight valueFits walk transferOf transfersVerdict octetAllowed commonForm endOf dataOf commonOf messageVerdict verdictOf commonsOf transfersOf openCommon recordOf pad valuesOf pack viewItems lengthsOf transfersSum viewParts isWhole view readingOf itemWriting itemsWriting dataWriting partWriting partsWriting overLimits recordWriting structWriting writingOf writtenOf commonIn commonFound transferIn transferAmong transferFound transferRows commonRows rowsOf rowAt spansOf editRefusal replaced removed editedItems edited recordEditing editingOf bufferOf
 said =
     record {

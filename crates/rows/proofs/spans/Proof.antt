@@ -53,7 +53,8 @@ use Rattle.annex.specs.Answers.{givenOf}
 use Rattle.annex.specs.Spans.{noRow, rowAt, spansOf}
 use Rattle.annex.specs.declared.Row.{Row}
 use Rattle.annex.specs.declared.Answer.{Answer}
-use Rattle.rows.specs.Rows.{Within, filled, given-within, filled-none, length-filled, filled-more, filled-all}
+use Rattle.laws.specs.Listed.{Within, given-within}
+use Rattle.rows.specs.Rows.{filled, filled-none, length-filled, filled-more, filled-all}
 use Rattle.annex.proofs.Row as R
 use Rattle.annex.proofs.Row.Laws as R′
 use Rattle.annex.proofs.Answer as S

@@ -6,10 +6,10 @@ use mathlib.Core.List.{List, [], _∷_}
 use borrow.Author.Needs.{needs}
 use lib.ListN.{length, length-set, length-drop}
 use Rattle.annex.specs.Records.{view}
+use Rattle.annex.specs.Image.{imageParts, imageOf}
 use Rattle.laws.specs.Written.{lowOctets, written-length, written-then}
 use Rattle.laws.specs.Parts.{to-end}
 use Rattle.writer.specs.Along.{length-mapped}
-use Rattle.image.specs.Image.{imageParts, imageOf}
 use Rattle.image.specs.Laying.{parts-many}
 use Rattle.image.proofs.laying.put_image.Statement.{statement}
 use Rattle.image.proofs.laying.put_image.Tie as tie

@@ -6,11 +6,11 @@ use mathlib.Core.List.{List}
 use borrow.Author.Needs.{needs}
 use lib.ListN.{getD}
 use Rattle.annex.specs.Records.{rawItem}
+use Rattle.annex.specs.Image.{imageHead}
 use Rattle.laws.specs.Written.{atFront, octets-every}
 use Rattle.laws.specs.Laid.{own-values}
 use Rattle.parameter.specs.Laying.{itemFrom}
 use Rattle.octets.specs.Copied.{copied-behind}
-use Rattle.image.specs.Image.{imageHead}
 use Rattle.image.specs.Laying.{item-octets}
 use Rattle.image.proofs.laying.put_item.Statement.{statement}
 use Rattle.image.proofs.laying.put_item.Tie as tie

@@ -7,11 +7,11 @@ use borrow.Author.Needs.{needs}
 use lib.ListN.{length}
 use Rattle.annex.specs.Items.{Item}
 use Rattle.annex.specs.Records.{rawItem}
+use Rattle.annex.specs.Image.{imageItem, imageItems}
 use Rattle.laws.specs.Laid.{own-values}
 use Rattle.parameter.specs.Laying.{itemFrom}
 use Rattle.writer.specs.Along.{transferAt, ownAt, usedAt, itemsAt, Turn, turn, items-end, length-mapped}
 use Rattle.writer.proofs.Rooms.{Laid, laid-start, laid-length, laid-at, laid-count, laid-end, laid-fits, laid-room, laid-turn}
-use Rattle.image.specs.Image.{imageItem, imageItems}
 use Rattle.image.specs.Laying.{own-long, length-item}
 use Rattle.image.proofs.laying.put_items.Statement.{statement}
 use Rattle.image.proofs.laying.put_items.Tie as tie

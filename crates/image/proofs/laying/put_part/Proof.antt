@@ -1,8 +1,8 @@
 -- `put_part` meets its contract: the head stands first, and the transfer parameters behind it.
 use native.Mathlib.Omega.{arith}
 use borrow.Author.Needs.{needs}
+use Rattle.annex.specs.Image.{imageItems, imageCommon}
 use Rattle.writer.specs.Along.{itemsAt}
-use Rattle.image.specs.Image.{imageItems, imageCommon}
 use Rattle.image.proofs.Behind.{lent-behind}
 use Rattle.image.proofs.laying.put_part.Statement.{statement}
 use Rattle.image.proofs.laying.put_part.Tie as tie

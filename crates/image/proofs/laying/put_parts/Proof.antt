@@ -7,9 +7,9 @@ use mathlib.Core.List.{List, [], _++_}
 use borrow.Author.Needs.{needs}
 use lib.ListN.{length}
 use Rattle.annex.specs.Records.{transfersSum, commonsIn, view}
+use Rattle.annex.specs.Image.{imageParts}
 use Rattle.writer.specs.Along.{itemsAt, partsAt, transfersAt, parts-start, parts-end, length-mapped}
 use Rattle.writer.proofs.Rooms.{Laid, laid-start, laid-length, laid-at, laid-end, laid-fits, laid-room, laid-turn}
-use Rattle.image.specs.Image.{imageParts}
 use Rattle.image.specs.Laying.{partOctets, PartTurn, part-turn}
 use Rattle.image.proofs.laying.put_parts.Statement.{statement}
 use Rattle.image.proofs.laying.put_parts.Tie as tie

@@ -4,9 +4,9 @@ use mathlib.Core.Path.{sym, ap, _∙_}
 use borrow.Author.Needs.{needs}
 use lib.ListN.{length-set}
 use lib.Seq.{sets}
+use Rattle.annex.specs.Image.{imageHead}
 use Rattle.laws.specs.Written.{low-octets}
 use Rattle.writer.proofs.Rooms.{stored}
-use Rattle.image.specs.Image.{imageHead}
 use Rattle.image.specs.Laying.{head-octets}
 use Rattle.image.proofs.laying.put_transfer.Statement.{statement}
 use Rattle.image.proofs.laying.put_transfer.Tie as tie

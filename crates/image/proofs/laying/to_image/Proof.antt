@@ -9,6 +9,7 @@ use borrow.Author.Needs.{needs, elem-fits-field}
 use mir.Syntax.{w8}
 use lib.ListN.{length, getD, drop}
 use Rattle.annex.specs.Records.{transfersSum, commonsIn, isWhole, view}
+use Rattle.annex.specs.Image.{imageOf}
 use Rattle.annex.specs.declared.Answer.the-variants.{Accepted}
 use Rattle.annex.proofs.Common.{the-field as common-field}
 use Rattle.annex.proofs.Transfer.{the-field as transfer-field}
@@ -16,7 +17,6 @@ use Rattle.laws.specs.Written.{atFront, low-octets, octets-every}
 use Rattle.writer.specs.Along.{usedAt, Whole, length-mapped}
 use Rattle.writer.specs.Limits.{told-whole}
 use Rattle.writer.proofs.Fields.{each-element}
-use Rattle.image.specs.Image.{imageOf}
 use Rattle.image.specs.Laying.{OctetHead, imaging-whole, imaging-not, imaging-full, imaging-done}
 use Rattle.image.specs.Octets.{OctetCounts, FitsImage, image-length, image-octets}
 use Rattle.image.proofs.laying.to_image.Statement.{statement}

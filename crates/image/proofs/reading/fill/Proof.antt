@@ -10,9 +10,9 @@ use borrow.Author.Needs.{needs}
 use borrow.Author.Tests.{not-true, not-false, eq-eqb, ne-eqb}
 use lib.Dec.{eqb}
 use lib.ListN.{length, drop, length-drop}
+use Rattle.annex.specs.Image.{itemsAt, commonAt, partsAt, noImage, imagedBy}
 use Rattle.annex.specs.declared.Answer.the-variants.{Accepted}
 use Rattle.laws.specs.Parts.{to-end}
-use Rattle.image.specs.Image.{itemsAt, commonAt, partsAt, noImage, imagedBy}
 use Rattle.image.specs.Filling.{filledBy, imagedFrom, imaged-start, Next, parts-short, parts-over, parts-stop, parts-next, parts-end}
 use Rattle.image.proofs.reading.fill.Statement.{statement}
 use Rattle.image.proofs.reading.fill.Tie as tie

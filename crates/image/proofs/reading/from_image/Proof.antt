@@ -6,8 +6,8 @@ use mathlib.Core.List.{List}
 use denote.Ref.{now}
 use borrow.Author.Needs.{needs}
 use lib.ListN.{length, getD}
+use Rattle.annex.specs.Image.{partsAt, imagedBy}
 use Rattle.laws.specs.Parts.{to-end}
-use Rattle.image.specs.Image.{partsAt, imagedBy}
 use Rattle.image.specs.Filling.{image-none, image-counted}
 use Rattle.image.proofs.reading.from_image.Statement.{statement}
 use Rattle.image.proofs.reading.from_image.Tie as tie

@@ -6,8 +6,8 @@ use borrow.Author.Needs.{needs}
 use borrow.Author.Tests.{le-leb, lt-leb, lt-ltb, le-ltb}
 use lib.Dec.{leb}
 use lib.ListN.{length}
+use Rattle.annex.specs.Image.{headAt, itemSize}
 use Rattle.annex.specs.declared.Transfer.{Transfer}
-use Rattle.image.specs.Image.{headAt, itemSize}
 use Rattle.image.specs.Filling.{fitsAt}
 use Rattle.image.proofs.reading.takes.Statement.{statement}
 use Rattle.image.proofs.reading.takes.Tie as tie

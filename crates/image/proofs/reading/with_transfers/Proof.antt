@@ -10,9 +10,9 @@ use borrow.Author.Needs.{needs}
 use borrow.Author.Tests.{not-true, not-false, le-leb}
 use lib.ListN.{length, take, drop, length-drop}
 use lib.Seq.{sets, length-take-le}
+use Rattle.annex.specs.Image.{headAt, itemsAt}
 use Rattle.annex.specs.declared.Transfer.{Transfer}
 use Rattle.laws.specs.Parts.{to-end}
-use Rattle.image.specs.Image.{headAt, itemsAt}
 use Rattle.image.specs.Filling.{fitsAt, filledBy, Room, has-room, filled-stop, filled-turn, filled-end}
 use Rattle.image.proofs.reading.with_transfers.Statement.{statement}
 use Rattle.image.proofs.reading.with_transfers.Tie as tie

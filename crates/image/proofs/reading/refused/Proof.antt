@@ -1,8 +1,8 @@
 -- `refused` meets its contract: the struct in it is the empty one.
 use borrow.Author.Needs.{needs}
 use Rattle.laws.specs.Filling.{empty-packed}
-use Rattle.image.proofs.reading.Imaged.refused.Statement.{statement}
-use Rattle.image.proofs.reading.Imaged.refused.Tie as tie
+use Rattle.image.proofs.reading.refused.Statement.{statement}
+use Rattle.image.proofs.reading.refused.Tie as tie
 
 returns : tie.Need-returns
 returns c = rw (c .empty .ensures, empty-packed)

@@ -1,22 +1,21 @@
 -- A record's image as octets, for calls from Rust and C: the values of a record one after the other, and before what is counted its count.
 use Prim.Native.Nat.{ℕ, zero, suc, _+_, _*_, _/_, _%_}
-use mathlib.Core.Path.{_≡_}
 use mathlib.Core.Bool.{Bool, cond, not, _&&_}
 use mathlib.Core.List.{List, [], _∷_, _++_}
 use lib.Dec.{eqb, leb, ltb}
 use lib.ListN.{length, getD, take, drop}
 use Rattle.annex.specs.Answers.{over-limits, no-room, refuse}
 use Rattle.annex.specs.Heads.{transfer-data, most-commons, most-transfers}
 use Rattle.annex.specs.Items.{Item, Part}
 use Rattle.annex.specs.Allowed.{itemsIn}
 use Rattle.annex.specs.Records.{headOf, commonHeadOf, rawItem, valuesOf, pack, isWhole, view}
 use Rattle.annex.specs.Writing.{roomAfter}
 use Rattle.annex.specs.declared.Common.{Common}
 use Rattle.annex.specs.declared.Transfer.{Transfer}
 use Rattle.annex.specs.declared.Record.{Record}
 use Rattle.annex.specs.declared.Answer.{Answer}
 use Rattle.annex.specs.declared.Answer.the-variants.{Accepted, Refused}
-use Rattle.image.specs.declared.reading.Imaged.{Imaged}
+use Rattle.annex.specs.declared.Imaged.{Imaged}
 
 -- ---- from a record to its image
 
@@ -149,11 +148,3 @@ imagedBy n Short = noImage
 unfoldable pub imagedOf : List ℕ → Imaged
 imagedOf [] = noImage
 imagedOf (n ∷ s) = imagedBy (length s) (partsAt n s)
-
--- ---- the promises
-
-abbrev pub ToImagePromise : Record → List ℕ → Answer → List ℕ → Type 0
-ToImagePromise q room r now = (r ≡ imagingOf q (length room)) × (now ≡ imagedIn q room)
-
-abbrev pub FromImagePromise : List ℕ → Imaged → Type 0
-FromImagePromise m r = r ≡ imagedOf m

@@ -1,0 +1,88 @@
+-- What the functions for Rust and C give, in numbers and octets alone: an answer as one number, the refusal's number times 2^32, the place times
+-- 2^16, and the value, number 0 where accepted (places and values are below 2^16); a record as its image; a row as five octets.
+use Prim.Native.Nat.{ℕ, _+_, _*_, _/_, _%_}
+use mathlib.Core.List.{List, [], _∷_, _++_}
+use lib.Dec.{ltb}
+use lib.ListN.{length, drop}
+use Rattle.annex.specs.Answers.{no-room, refuse, andThen, classValueOf}
+use Rattle.annex.specs.Layout.{layout}
+use Rattle.annex.specs.Reading.{verdictOf, recordOf}
+use Rattle.annex.specs.Records.{view}
+use Rattle.annex.specs.Writing.{writingOf, roomAfter}
+use Rattle.annex.specs.Image.{twoOctets, imageOf, imagedOf}
+use Rattle.annex.specs.Spans.{rowsOf, spansOf}
+use Rattle.annex.specs.declared.Answer.{Answer}
+use Rattle.annex.specs.declared.Answer.the-variants.{Accepted, Refused}
+use Rattle.annex.specs.declared.ClassAnswer.{ClassAnswer}
+use Rattle.annex.specs.declared.ClassAnswer.the-variants as classes
+use Rattle.annex.specs.declared.Row.{Row}
+
+-- ---- answers
+
+abbrev pub packed : ℕ → ℕ → ℕ → ℕ
+packed number place value = number * 4294967296 + place % 65536 * 65536 + value % 65536
+
+-- a count, or number and place
+abbrev pub packedAnswer : Answer → ℕ
+packedAnswer (Accepted n) = packed 0 0 n
+packedAnswer (Refused k p) = packed k p 0
+
+-- where contents start and how many octets they have, or number and place
+abbrev pub packedLength : Answer → ℕ → ℕ
+packedLength (Accepted s) len = packed 0 s len
+packedLength (Refused k p) len = packed k p 0
+
+abbrev pub packedStretch : Answer → List ℕ → ℕ
+packedStretch a part = packedLength a (length part)
+
+-- 0 named, 1 held back, 2 spare, or number and place
+abbrev pub packedClass : ClassAnswer → ℕ
+packedClass (classes.Is c) = packed 0 0 (classValueOf c)
+packedClass (classes.Refused k p) = packed k p 0
+
+-- ---- a message read to its record's image
+
+-- the image's length, or number and place: reading's, then 15 where the room is shorter
+unfoldable pub imageReading : List ℕ → ℕ → Answer
+imageReading m room =
+    andThen (verdictOf m)
+    (λ _. refuse (ltb room (length (imageOf (recordOf m)))) no-room 0 (Accepted (length (imageOf (recordOf m)))))
+
+-- what the room then holds: the image at its front, octets past it as before; unchanged where refused
+unfoldable pub imageRead : List ℕ → List ℕ → List ℕ
+imageRead m room = roomAfter (imageReading m (length room)) (imageOf (recordOf m)) room
+
+-- ---- a message written from a record's image
+
+-- the message's length, or number and place: 1 where the octets are no image, then writing's
+unfoldable pub imageWriting : List ℕ → ℕ → Answer
+imageWriting image room = andThen (imagedOf image .answer) (λ _. writingOf (imagedOf image .held) room)
+
+-- what the room then holds
+unfoldable pub imageWritten : List ℕ → List ℕ → List ℕ
+imageWritten image room = roomAfter (imageWriting image (length room)) (layout (view (imagedOf image .held))) room
+
+-- ---- a message's rows
+
+-- a row: offset in two octets, header, length of the contents in two octets
+abbrev pub row-octets : ℕ
+row-octets = 5
+
+abbrev pub rowOctets : Row → List ℕ
+rowOctets r = twoOctets (r .offset) ++ (r .header ∷ twoOctets (r .len))
+
+unfoldable pub rowsOctets : List Row → List ℕ
+rowsOctets [] = []
+rowsOctets (r ∷ rs) = rowOctets r ++ rowsOctets rs
+
+-- the row count, or number and place, for a table of so many octets: it has room for the rows that are whole in it
+abbrev pub octetSpans : List ℕ → ℕ → Answer
+octetSpans m room = spansOf m (room / row-octets)
+
+-- what the table then holds: the rows at its front, octets past the last as before; unchanged where refused
+abbrev pub octetsBy : Answer → List ℕ → List ℕ → List ℕ
+octetsBy (Accepted n) octets table = octets ++ drop (row-octets * n) table
+octetsBy (Refused k p) octets table = table
+
+unfoldable pub octetTable : List ℕ → List ℕ → List ℕ
+octetTable m table = octetsBy (octetSpans m (length table)) (rowsOctets (rowsOf m)) table

@@ -1,0 +1,218 @@
+-- Wrong programs that the promises about a record's image and the functions for Rust and C shut out, at least two for each function, each with
+-- the input at which it breaks its promise.
+use Prim.Native.Nat.{ℕ, _+_, _*_, _%_, _<_}
+use native.Mathlib.Omega.{arith}
+use mathlib.Core.Path.{_≡_, refl, ap, _∙_}
+use mathlib.Core.List.{List, [], _∷_, _++_}
+use lib.ListN.{length, getD, replicate}
+use Rattle.annex.specs.Answers.{numberOf, givenOf}
+use Rattle.annex.specs.Units.{afterOf, leadOf, commonExtentOf}
+use Rattle.annex.specs.Heads.{zeroesOf}
+use Rattle.annex.specs.Items.{ownOf}
+use Rattle.annex.specs.Layout.{layoutItem, layoutItems, layoutPart, layout}
+use Rattle.annex.specs.Allowed.{valueRight, valueFits}
+use Rattle.annex.specs.Walk.{walk}
+use Rattle.annex.specs.Reading.{octetAllowed, commonForm, endOf, dataOf, commonOf, messageVerdict, verdictOf, commonsOf, openCommon, recordOf}
+use Rattle.annex.specs.Records.{pad, valuesOf, pack, viewItems, lengthsOf, transfersSum, viewParts, isWhole, view}
+use Rattle.annex.specs.Writing.{partWriting, partsWriting, overLimits, recordWriting, structWriting, writingOf}
+use Rattle.annex.specs.Image.{
+  imageItem,
+  imageItems,
+  imagePart,
+  imageParts,
+  imageOf,
+  imagingOf,
+  imagedIn,
+  itemsAt,
+  partsAt,
+  noImage,
+  isWithin,
+  imagedOf,
+}
+use Rattle.annex.specs.Finding.{commonFound, transferFound, findAnswer, findPart}
+use Rattle.annex.specs.Spans.{commonRows, rowsOf, spansOf}
+use Rattle.annex.specs.Editing.{Edit, editingOf, bufferOf}
+use Rattle.annex.specs.Editing.Edit.{Removing}
+use Rattle.annex.specs.Classes.{classOf}
+use Rattle.annex.specs.Packed.{
+  packedAnswer,
+  packedLength,
+  packedClass,
+  imageReading,
+  imageRead,
+  imageWriting,
+  imageWritten,
+  rowsOctets,
+  octetSpans,
+  octetTable,
+}
+use Rattle.annex.specs.Promises.{
+  ToImagePromise,
+  FromImagePromise,
+  TkReadPromise,
+  TkWritePromise,
+  TkRowsPromise,
+  TkFindCommonPromise,
+  TkFindTransferPromise,
+  TkClassPromise,
+  TkEditPromise,
+}
+use Rattle.annex.specs.Bench.{M, K, recordOfK}
+use Rattle.annex.specs.declared.Answer.{Answer}
+use Rattle.annex.specs.declared.Answer.the-variants.{Accepted, Refused}
+use Rattle.annex.specs.declared.Record.{Record}
+use Rattle.annex.specs.declared.Imaged.{Imaged}
+use Rattle.annex.specs.declared.Class.the-variants.{HeldBack}
+use Rattle.annex.specs.declared.ClassAnswer.the-variants as classes
+use Rattle.theorems.specs.Wrong.{short, shorter, another, roomy, said}
+
+-- the image of case 2's record, and with an octet left over
+abbrev imageOfK : List ℕ
+imageOfK = 2 ∷ 0x01 ∷ 0x01 ∷ 0 ∷ 0 ∷ 0 ∷ 0 ∷ 0x06 ∷ 0x11 ∷ 0 ∷ 0 ∷ 0 ∷ 0 ∷ []
+
+abbrev over : List ℕ
+over = imageOfK ++ (0 ∷ [])
+
+-- lent memory before a call
+abbrev lent : ℕ → List ℕ
+lent n = replicate n 0xEE
+
+-- what the definitions say, computed once
+record SaidPacked : Type 0 where
+  imaging-K : imagingOf (pack recordOfK) 13 ≡ Accepted 13
+  imaged-K : imagedIn (pack recordOfK) (lent 13) ≡ imageOfK
+  imaged-short : imagedIn (pack recordOfK) (lent 12) ≡ lent 12
+  back-K : imagedOf imageOfK .answer ≡ Accepted 2
+  back-over : imagedOf over .answer ≡ Refused 1 0
+  reading-K : imageReading short 13 ≡ Accepted 13
+  read-K : imageRead short (lent 13) ≡ imageOfK
+  writing-K : imageWriting imageOfK 6 ≡ Accepted 5
+  written-K : imageWritten imageOfK (lent 6) ≡ short ++ (0xEE ∷ [])
+  writing-over : imageWriting over 6 ≡ Refused 1 0
+  rows-short : octetSpans short 14 ≡ Refused 15 0
+  table-short : octetTable short (lent 16) ≡ 0 ∷ 0 ∷ 0x01 ∷ 1 ∷ 0 ∷ 2 ∷ 0 ∷ 0x06 ∷ 1 ∷ 0 ∷ 4 ∷ 0 ∷ 0x00 ∷ 0 ∷ 0 ∷ 0xEE ∷ []
+  held-back : classOf 0xD7 2 ≡ classes.Is HeldBack
+  no-list : classOf 0x01 1 ≡ classes.Refused 17 0
+
+said-packed : SaidPacked
+unfolding afterOf leadOf commonExtentOf zeroesOf ownOf layoutItem layoutItems layoutPart layout valueRight valueFits walk octetAllowed commonForm endOf dataOf commonOf messageVerdict verdictOf commonsOf openCommon recordOf pad valuesOf pack viewItems lengthsOf transfersSum viewParts isWhole view partWriting partsWriting overLimits recordWriting structWriting writingOf imageItem imageItems imagePart imageParts imageOf imagingOf imagedIn itemsAt partsAt isWithin imagedOf commonRows rowsOf spansOf classOf imageReading imageRead imageWriting imageWritten rowsOctets octetTable
+said-packed =
+    record {
+      imaging-K = refl;
+      imaged-K = refl;
+      imaged-short = refl;
+      back-K = refl;
+      back-over = refl;
+      reading-K = refl;
+      read-K = refl;
+      writing-K = refl;
+      written-K = refl;
+      writing-over = refl;
+      rows-short = refl;
+      table-short = refl;
+      held-back = refl;
+      no-list = refl;
+    }
+
+-- what lent memory holds at a place
+abbrev at : ℕ → List ℕ → ℕ
+at i l = getD l i 0
+
+-- ---- to_image: one that answers the length and writes nothing; one that writes as much as there is room for
+
+pub images-nothing : (a : Answer) → ToImagePromise (pack recordOfK) (lent 13) a (lent 13) → ⊥
+images-nothing a p = let z : _≡_ {A = ℕ} 0xEE 2 = ap (at 0) (p .1 ∙ said-packed .imaged-K) in omega arith
+
+pub images-a-part : (a : Answer) (rest : List ℕ) → ToImagePromise (pack recordOfK) (lent 12) a (2 ∷ rest) → ⊥
+images-a-part a rest p = let z : _≡_ {A = ℕ} 2 0xEE = ap (at 0) (p .1 ∙ said-packed .imaged-short) in omega arith
+
+-- ---- from_image: one that refuses everything; one that leaves octets over
+
+pub refuses-images : (k p : ℕ) (q : Record) → FromImagePromise imageOfK (record { answer = Refused k p; held = q }) → ⊥
+refuses-images k p q e =
+    let z : _≡_ {A = ℕ} 0 2 = ap (λ (r : Imaged). givenOf (r .answer)) e ∙ ap givenOf (said-packed .back-K) in
+    omega arith
+
+pub leaves-octets-over : (n : ℕ) (q : Record) → FromImagePromise over (record { answer = Accepted n; held = q }) → ⊥
+leaves-octets-over n q e =
+    let z : _≡_ {A = ℕ} 0 1 = ap (λ (r : Imaged). numberOf (r .answer)) e ∙ ap numberOf (said-packed .back-over) in
+    omega arith
+
+-- ---- tk_read: one that answers the length and writes nothing; one that gives the length as the place
+
+pub tk-reads-nothing : (r : ℕ) → TkReadPromise short (lent 13) r (lent 13) → ⊥
+tk-reads-nothing r p = let z : _≡_ {A = ℕ} 0xEE 2 = ap (at 0) (p .1 ∙ said-packed .read-K) in omega arith
+
+pub tk-length-as-place : (now : List ℕ) → TkReadPromise short (lent 13) (13 * 65536) now → ⊥
+tk-length-as-place now p =
+    let z : _≡_ {A = ℕ} (13 * 65536) 13 = p .0 ∙ ap packedAnswer (said-packed .reading-K) in
+    omega arith
+
+-- ---- tk_write: one that leaves octets over; one that answers the length and writes nothing
+
+pub tk-writes-with-octets-over : (now : List ℕ) → TkWritePromise over (lent 6) 5 now → ⊥
+tk-writes-with-octets-over now p =
+    let z : _≡_ {A = ℕ} 5 4294967296 = p .0 ∙ ap packedAnswer (said-packed .writing-over) in
+    omega arith
+
+pub tk-writes-nothing : (r : ℕ) → TkWritePromise imageOfK (lent 6) r (lent 6) → ⊥
+tk-writes-nothing r p = let z : _≡_ {A = ℕ} 0xEE 0x01 = ap (at 0) (p .1 ∙ said-packed .written-K) in omega arith
+
+-- ---- tk_rows: one that writes a row's length before its offset; one that writes the high octet first; one that takes the table's octets for rows
+
+pub tk-length-first : (r : ℕ) (now : List ℕ) → at 0 now ≡ 1 → TkRowsPromise short (lent 16) r now → ⊥
+tk-length-first r now h p = let z : at 0 now ≡ 0 = ap (at 0) (p .1 ∙ said-packed .table-short) in omega arith
+
+pub tk-high-octet-first : (r : ℕ) (now : List ℕ) → at 5 now ≡ 0 → TkRowsPromise short (lent 16) r now → ⊥
+tk-high-octet-first r now h p = let z : at 5 now ≡ 2 = ap (at 5) (p .1 ∙ said-packed .table-short) in omega arith
+
+pub tk-octets-for-rows : (now : List ℕ) → TkRowsPromise short (lent 14) 3 now → ⊥
+tk-octets-for-rows now p =
+    let z : _≡_ {A = ℕ} 3 (15 * 4294967296) = p .0 ∙ ap packedAnswer (said-packed .rows-short) in
+    omega arith
+
+-- ---- finding: one that tells only where the contents start; one that tells where the header stands; one that gives 16 as the value
+
+pub tk-common-no-length : TkFindCommonPromise M 0x83 (3 * 65536) → ⊥
+tk-common-no-length p = let z : _≡_ {A = ℕ} (3 * 65536) (3 * 65536 + 3) = p ∙ rw (said .own-call-at, said .own-call) in omega arith
+
+pub tk-common-at-header : TkFindCommonPromise M 0x83 (2 * 65536 + 3) → ⊥
+tk-common-at-header p = let z : _≡_ {A = ℕ} (2 * 65536 + 3) (3 * 65536 + 3) = p ∙ rw (said .own-call-at, said .own-call) in omega arith
+
+pub tk-transfer-at-header : TkFindTransferPromise M 0x18 (18 * 65536 + 3) → ⊥
+tk-transfer-at-header p = let z : _≡_ {A = ℕ} (18 * 65536 + 3) (19 * 65536 + 3) = p ∙ rw (said .dialled-at, said .dialled) in omega arith
+
+pub tk-absent-as-value : TkFindTransferPromise M 0x3F 16 → ⊥
+tk-absent-as-value p = let z : _≡_ {A = ℕ} 16 (16 * 4294967296) = p ∙ rw (said .no-name) in omega arith
+
+-- ---- tk_class: one that calls what is held back spare; one that gives 17 as the value
+
+pub tk-never-held-back : TkClassPromise 0xD7 2 2 → ⊥
+tk-never-held-back p = let z : _≡_ {A = ℕ} 2 1 = p ∙ ap packedClass (said-packed .held-back) in omega arith
+
+pub tk-no-list-as-value : TkClassPromise 0x01 1 17 → ⊥
+tk-no-list-as-value p = let z : _≡_ {A = ℕ} 17 (17 * 4294967296) = p ∙ ap packedClass (said-packed .no-list) in omega arith
+
+-- ---- editing: one that answers 0 for done, and not the new length; one that claims success and does nothing
+
+answers-done : (e : Edit) (buffer : List ℕ) (n k : ℕ) → editingOf e buffer n ≡ Accepted k → 0 < k → k < 65536 → (now : List ℕ) → TkEditPromise e buffer n 0 now → ⊥
+answers-done e buffer n k f l u now p = let z : _≡_ {A = ℕ} 0 (0 + k % 65536) = p .0 ∙ ap packedAnswer f in omega arith
+
+pub tk-replaces-answers-done : (now : List ℕ) → TkEditPromise shorter M 23 0 now → ⊥
+tk-replaces-answers-done = answers-done shorter M 23 22 (said .replaced-answer) (omega arith) (omega arith)
+
+pub tk-appends-answers-done : (now : List ℕ) → TkEditPromise another roomy 23 0 now → ⊥
+tk-appends-answers-done = answers-done another roomy 23 25 (said .appended-answer) (omega arith) (omega arith)
+
+pub tk-removes-answers-done : (now : List ℕ) → TkEditPromise (Removing 0x18) M 23 0 now → ⊥
+tk-removes-answers-done = answers-done (Removing 0x18) M 23 19 (said .removed-answer) (omega arith) (omega arith)
+
+-- C5's length octet stays
+pub tk-replaces-nothing : (r : ℕ) → TkEditPromise shorter M 23 r M → ⊥
+tk-replaces-nothing r p = let z : _≡_ {A = ℕ} 0x0A 0x09 = ap (at 11) (p .1) ∙ said .replaced-length in omega arith
+
+pub tk-appends-nothing : (r : ℕ) → TkEditPromise another roomy 23 r roomy → ⊥
+tk-appends-nothing r p = let z : _≡_ {A = ℕ} 0x0A 0x0C = ap (at 11) (p .1) ∙ said .appended-length in omega arith
+
+pub tk-removes-nothing : (r : ℕ) → TkEditPromise (Removing 0x18) M 23 r M → ⊥
+tk-removes-nothing r p = let z : _≡_ {A = ℕ} 0x0A 0x06 = ap (at 11) (p .1) ∙ said .removed-length in omega arith
