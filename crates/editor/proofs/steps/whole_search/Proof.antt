@@ -8,14 +8,15 @@ use borrow.Author.Needs.{needs}
 use borrow.Author.Tests.{eq-eqb, ne-eqb}
 use lib.ListN.{length, getD}
 use Rattle.annex.specs.Units.{afterOf, extentOf}
+use Rattle.annex.specs.declared.Key.the-variants.{Name}
 use Rattle.annex.specs.declared.Found.the-variants.{At}
-use Rattle.laws.specs.Finding.{isName}
-use Rattle.editor.specs.Whole.{wholeFrom, wholeSearch, whole-end, whole-cut, whole-turn}
+use Rattle.laws.specs.Finding.{isSought, searchFrom, search-end, search-cut, search-turn}
+use Rattle.editor.specs.Whole.{wholeSearch}
 use Rattle.editor.proofs.steps.whole_search.Statement.{statement}
 use Rattle.editor.proofs.steps.whole_search.Tie as tie
 
 abbrev Inv-loop : tie.InvT-loop
-Inv-loop t name i₀ i = (i ≤ length t) × (wholeSearch name t ≡ wholeFrom name i t)
+Inv-loop t name i₀ i = (i ≤ length t) × (wholeSearch name t ≡ searchFrom (Name name) i t)
 
 abbrev μ-loop : tie.MeasureT-loop
 μ-loop t name i₀ i = length t - i
@@ -31,8 +32,7 @@ returns : tie.Need-returns Inv-loop μ-loop
 returns c =
     let n = c .before in
     let l = n .before .before .before .before in
-    let h = rw (size-is n) at (c .if1 .taken) in
-    sym (l .before .loop .inv .1 ∙ whole-cut _ _ _ _ (n .before .octet-at .ensures) (l .loop-test .taken) h)
+    sym (l .before .loop .inv .1 ∙ search-cut (Name _) _ _ _ _ (l .loop-test .taken) (n .before .octet-at .ensures) (size-is n) (c .if1 .taken))
 
 -- a turn past a parameter that is not cut
 turn : (c : tie.Else1 Inv-loop μ-loop) →
@@ -41,11 +41,11 @@ turn : (c : tie.Else1 Inv-loop μ-loop) →
     let t = now (a .t) in
     let i = l .loop .i in
     let n = c .before .octets-after .result in
-    wholeSearch (a .name) t ≡ cond (isName (a .name) (getD t i 0)) (At i (i + 1 + n)) (wholeFrom (a .name) (i + 1 + n) t)
+    wholeSearch (a .name) t ≡ cond (isSought (Name (a .name)) (getD t i 0)) (At i (i + 1 + n)) (searchFrom (Name (a .name)) (i + 1 + n) t)
 turn c =
     let n = c .before in
     let l = n .before .before .before .before in
-    l .before .loop .inv .1 ∙ whole-turn _ _ _ _ (n .before .octet-at .ensures) (l .loop-test .taken) _ (size-is n) (c .if1 .left)
+    l .before .loop .inv .1 ∙ search-turn (Name _) _ _ _ _ (l .loop-test .taken) (n .before .octet-at .ensures) (size-is n) (c .if1 .left)
 
 add-end : tie.Need-add-end Inv-loop μ-loop
 add-end c = omega arith
@@ -60,7 +60,7 @@ loop-again : tie.Need-loop-again Inv-loop μ-loop
 loop-again c = (omega arith, rw (turn (c .before), ne-eqb _ _ (c .if2 .left)))
 
 returns-3 : tie.Need-returns-3 Inv-loop μ-loop
-returns-3 c = sym (c .before .loop .inv .1 ∙ whole-end _ _ _ (c .loop-test .left))
+returns-3 c = sym (c .before .loop .inv .1 ∙ search-end (Name _) _ _ (c .loop-test .left))
 
 pub whole-search-spec : {M : Type 1} → statement M
 whole-search-spec =
