@@ -433,7 +433,13 @@ impl Imaged {
     pub const TRANSFER_HEAD: usize = 11;
 }
 
-// Where contents stand in a message: from an octet to before another.
+// What a parameter is found by: a common one by its header, a transfer one by its name.
+pub enum Key {
+    Header(u8),
+    Name(u8),
+}
+
+// Where a parameter or its contents stand: from an octet to before another.
 pub enum Found {
     At(usize, usize),
     Nowhere,

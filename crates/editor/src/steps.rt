@@ -2,6 +2,7 @@
 use annex::Answer;
 use annex::Fault;
 use annex::Found;
+use annex::Key;
 use parameter::contents::contents_fault;
 use parameter::contents::octet_at;
 use parameter::heads::name_used;
@@ -9,6 +10,7 @@ use parameter::heads::pli_right;
 use parameter::units::extent_of;
 use parameter::units::lead;
 use parameter::units::octets_after;
+use reader::finding::search;
 use reader::verdict::verdict;
 ghost use mathlib.Core.List.{_∷_};
 ghost use Rattle.annex.specs.Promises.{Gives};
@@ -64,19 +66,5 @@ pub fn new_contents(header: u8, xs: &[u8]) -> Answer
 pub fn whole_search(t: &[u8], name: u8) -> Found
     ensures { λ r. ⌜ Gives (wholeSearch name (now (t .entry))) r ⌝ }
 {
-    let mut i = 0;
-    while i < t.len() {
-        let h = t[i];
-        let from = i + 1;
-        let n = octets_after(extent_of(h), octet_at(t, from));
-        if t.len() - from < n {
-            return Found::Nowhere;
-        }
-        let end = from + n;
-        if h % 64 == name {
-            return Found::At(i, end);
-        }
-        i = end;
-    }
-    Found::Nowhere
+    search(t, Key::Name(name))
 }

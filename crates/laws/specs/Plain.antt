@@ -10,13 +10,14 @@ use native.Mathlib.Omega.{arith}
 use borrow.Author.Tests.{leb-true, le-leb, lt-leb}
 use lib.Dec.{leb, eqb, ltb}
 use lib.ListN.{length, getD, take, drop, length-drop, drop-of-length-le}
-use lib.Seq.{drop-cons, drop-drop, length-take-le}
+use lib.Seq.{getD-drop, drop-cons, drop-drop, length-take-le}
 use Rattle.annex.specs.Units.{afterOf, extentOf, commonExtentOf, contentsIn}
 use Rattle.annex.specs.Answers.{over-limits}
 use Rattle.annex.specs.Heads.{end-mark, transfer-data, most-octets}
 use Rattle.annex.specs.Allowed.{Each}
 use Rattle.annex.specs.Walk.{Seen, unseen, counted, Par, Step, byStep, walk, judging, listing}
 use Rattle.annex.specs.Reading.{transferStep, transfersVerdict, transfersOf, endOf, dataOf, commonStep, commonClose, messageVerdict, verdictOf, wholeIn, commonsOf, dataIn}
+use Rattle.annex.specs.declared.Extent.{Extent}
 use Rattle.annex.specs.declared.Answer.{Answer}
 use Rattle.annex.specs.declared.Answer.the-variants.{Accepted, Refused}
 use Rattle.laws.specs.Steps.{passed, transfer-taken, common-taken, common-formed, common-within, data-taken}
@@ -25,11 +26,14 @@ use Rattle.laws.specs.Steps.{passed, transfer-taken, common-taken, commo
 abbrev pub Size : Type 0
 Size = ℕ → List ℕ → ℕ
 
+abbrev pub sizeBy : (ℕ → Extent) → Size
+sizeBy ext h xs = afterOf (ext h) (getD xs 0 0)
+
 abbrev pub commonSize : Size
-commonSize h xs = afterOf (commonExtentOf h) (getD xs 0 0)
+commonSize = sizeBy commonExtentOf
 
 abbrev pub transferSize : Size
-transferSize h xs = afterOf (extentOf h) (getD xs 0 0)
+transferSize = sizeBy extentOf
 
 abbrev parOf : ℕ → ℕ → ℕ → List ℕ → Par
 parOf p h n xs = record { place = p; head = h; own = take n xs }
@@ -59,7 +63,7 @@ module _ (size : Size) where
   pub pars-end : (p i : ℕ) (t : List ℕ) → length t ≤ i → pars size 0 p (drop i t) ≡ []
   pars-end p i t h = rw (drop-of-length-le t) (pars-none 0 p)
 
-  pub pars-cut : (p i : ℕ) (t : List ℕ) → i < length t → length (drop (i + 1) t) < size (getD t i 0) (drop (i + 1) t) → pars size 0 p (drop i t) ≡ []
+  pars-cut : (p i : ℕ) (t : List ℕ) → i < length t → length (drop (i + 1) t) < size (getD t i 0) (drop (i + 1) t) → pars size 0 p (drop i t) ≡ []
   unfolding pars
   pars-cut p i t h l = rw (drop-cons t i 0, ← add-one i, lt-leb _ _ l)
 
@@ -71,6 +75,19 @@ module _ (size : Size) where
   pub pars-turn : (p q i n : ℕ) (t : List ℕ) → i < length t → n ≡ size (getD t i 0) (drop (i + 1) t) → n ≤ length (drop (i + 1) t) → p + 1 + n ≡ q → pars size 0 p (drop i t) ≡ parOf p (getD t i 0) n (drop (i + 1) t) ∷ pars size 0 q (drop (i + 1 + n) t)
   pars-turn p q i n t h e l w =
       rw (drop-cons t i 0, ← add-one i, ← w, ← drop-drop n (i + 1) t) (pars-head p (getD t i 0) n (drop (i + 1) t) e l)
+
+-- the same, where n is told by the octet x right behind the header
+module _ (ext : ℕ → Extent) (t : List ℕ) (i x n : ℕ) (inside : i < length t) (next : x ≡ getD t (i + 1) 0) (told : n ≡ afterOf (ext (getD t i 0)) x) where
+  sized : n ≡ sizeBy ext (getD t i 0) (drop (i + 1) t)
+  sized =
+      let z : i + 1 + 0 ≡ i + 1 = omega arith in
+      told ∙ rw (next, getD-drop (i + 1) t 0 0, z)
+
+  pub pars-short : length t - (i + 1) < n → pars (sizeBy ext) 0 i (drop i t) ≡ []
+  pars-short h = pars-cut (sizeBy ext) i i t inside (rw (← sized, length-drop) h)
+
+  pub pars-next : n ≤ length t - (i + 1) → pars (sizeBy ext) 0 i (drop i t) ≡ parOf i (getD t i 0) n (drop (i + 1) t) ∷ pars (sizeBy ext) 0 (i + 1 + n) (drop (i + 1 + n) t)
+  pars-next h = pars-turn (sizeBy ext) i (i + 1 + n) i n t inside sized (rw length-drop h) refl
 
 -- one octet on
 onward : (m : List ℕ) (p x : ℕ) (xs : List ℕ) → drop p m ≡ x ∷ xs → (drop (p + 1) m ≡ xs) × (p + 1 ≤ length m) × (getD m p 0 ≡ x)

@@ -3,8 +3,8 @@ use mathlib.Core.Path.{_≡_, refl, sym, ap, _∙_}
 use mathlib.Core.List.{List, [], _∷_, _++_, map}
 use Prim.Native.Nat.{ℕ, suc, _+_, _-_, _≤_, _<_}
 use native.Mathlib.Omega.{arith}
-use lib.ListN.{length, getD, set, take, drop, length-drop, length-append}
-use lib.Seq.{sets, getD-drop, drop-drop}
+use lib.ListN.{length, getD, set, take, drop, length-append}
+use lib.Seq.{sets, drop-drop}
 use borrow.Author.Tests.{eq-eqb, ne-eqb}
 use Rattle.annex.specs.Units.{afterOf, leadOf, extentOf, commonExtentOf, contentsIn}
 use Rattle.annex.specs.Heads.{end-mark, transfer-data}
@@ -14,7 +14,7 @@ use Rattle.annex.specs.Records.{headOf, valuesOf}
 use Rattle.annex.specs.Reading.{openTransfer, openCommon, withoutEnd, dataIn}
 use Rattle.annex.specs.declared.Record.{Record}
 use Rattle.laws.specs.Parts.{from-to}
-use Rattle.laws.specs.Plain.{pars, transferSize, commonSize, pars-end, pars-cut, pars-turn, InnerSound, transfers-plain}
+use Rattle.laws.specs.Plain.{pars, transferSize, commonSize, pars-end, pars-turn, pars-short, pars-next, InnerSound, transfers-plain}
 use Rattle.laws.specs.Steps.{data-part}
 use Rattle.laws.specs.Filling.{withItems, items-turn, items-opened}
 use Rattle.reader.specs.declared.reading.Filled.{Filled}
@@ -32,22 +32,16 @@ itemsAt t i = map openTransfer (pars transferSize 0 i (drop i t))
 
 -- ---- one turn of filling
 
-pub size-at : (t : List ℕ) (i x : ℕ) → x ≡ getD t (i + 1) 0 → afterOf (extentOf (getD t i 0)) x ≡ transferSize (getD t i 0) (drop (i + 1) t)
-size-at t i x e =
-    let z : i + 1 + 0 ≡ i + 1 = omega arith in
-    rw (e, getD-drop (i + 1) t 0 0, z)
-
 module _ (t : List ℕ) (i x : ℕ) (inside : i < length t) (next : x ≡ getD t (i + 1) 0) where
   -- a parameter that is cut ends them
   pub items-cut : length t - (i + 1) < afterOf (extentOf (getD t i 0)) x → itemsAt t i ≡ []
-  items-cut h =
-      rw (pars-cut transferSize i i t inside (rw (← size-at t i x next, length-drop) h))
+  items-cut h = rw (pars-short extentOf t i x _ inside next refl h)
 
   -- a whole one comes first: its contents are the part from start to end
   pub items-more : (n l : ℕ) → n ≡ afterOf (extentOf (getD t i 0)) x → n ≤ length t - (i + 1) → l ≡ leadOf (extentOf (getD t i 0)) → itemsAt t i ≡ itemOf (getD t i 0) (take (i + 1 + n - (i + 1 + l)) (drop (i + 1 + l) t)) ∷ itemsAt t (i + 1 + n)
   items-more n l e h k =
       let c : contentsIn (extentOf (getD t i 0)) (take n (drop (i + 1) t)) ≡ take (i + 1 + n - (i + 1 + l)) (drop (i + 1 + l) t) = part n l k in
-      rw (pars-turn transferSize i (i + 1 + n) i n t inside (e ∙ size-at t i x next) (rw length-drop h) refl, c)
+      rw (pars-next extentOf t i x n inside next e h, c)
     where
       part : (n l : ℕ) → l ≡ leadOf (extentOf (getD t i 0)) → contentsIn (extentOf (getD t i 0)) (take n (drop (i + 1) t)) ≡ take (i + 1 + n - (i + 1 + l)) (drop (i + 1 + l) t)
       part n l k =
@@ -85,11 +79,6 @@ partsAt m i = map openCommon (withoutEnd (parsAt m i))
 abbrev pub parAt : List ℕ → ℕ → ℕ → Par
 parAt m i n = record { place = i; head = getD m i 0; own = take n (drop (i + 1) m) }
 
-common-size-at : (m : List ℕ) (i x : ℕ) → x ≡ getD m (i + 1) 0 → afterOf (commonExtentOf (getD m i 0)) x ≡ commonSize (getD m i 0) (drop (i + 1) m)
-common-size-at m i x e =
-    let z : i + 1 + 0 ≡ i + 1 = omega arith in
-    rw (e, getD-drop (i + 1) m 0 0, z)
-
 pub parts-end : (m : List ℕ) (i : ℕ) → length m ≤ i → partsAt m i ≡ []
 parts-end m i h = rw (pars-end commonSize i i m h)
 
@@ -106,11 +95,10 @@ module _ (m : List ℕ) (i : ℕ) (inside : i < length m) where
 
   module _ (x : ℕ) (next : x ≡ getD m (i + 1) 0) where
     pub parts-cut : length m - (i + 1) < afterOf (commonExtentOf (getD m i 0)) x → partsAt m i ≡ []
-    parts-cut h = rw (pars-cut commonSize i i m inside (rw (← common-size-at m i x next, length-drop) h))
+    parts-cut h = rw (pars-short commonExtentOf m i x _ inside next refl h)
 
     pub pars-more : (n : ℕ) → n ≡ afterOf (commonExtentOf (getD m i 0)) x → n ≤ length m - (i + 1) → parsAt m i ≡ parAt m i n ∷ parsAt m (i + 1 + n)
-    pars-more n e h =
-        pars-turn commonSize i (i + 1 + n) i n m inside (e ∙ common-size-at m i x next) (rw length-drop h) refl
+    pars-more n e h = pars-next commonExtentOf m i x n inside next e h
 
     pub parts-more : (n : ℕ) → n ≡ afterOf (commonExtentOf (getD m i 0)) x → n ≤ length m - (i + 1) → (getD m i 0 ≡ end-mark → ⊥) → partsAt m i ≡ openCommon (parAt m i n) ∷ partsAt m (i + 1 + n)
     parts-more n e h u = rw (pars-more n e h, ne-eqb (getD m i 0) end-mark u)

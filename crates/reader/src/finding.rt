@@ -4,12 +4,14 @@ use annex::Answer;
 use annex::Common;
 use annex::Extent;
 use annex::Found;
+use annex::Key;
 use parameter::contents::octet_at;
 use parameter::units::common_extent_of;
 use parameter::units::extent_of;
 use parameter::units::lead;
 use parameter::units::octets_after;
 ghost use mathlib.Core.Path.{_≡_};
+ghost use Rattle.annex.specs.Finding.{findPart};
 ghost use Rattle.annex.specs.Promises.{
   FindCommonPromise,
   FindCommonAnswerPromise,
@@ -17,59 +19,63 @@ ghost use Rattle.annex.specs.Promises.{
   FindTransferAnswerPromise,
   Gives,
 };
-ghost use Rattle.laws.specs.Finding.{contentsAfter, commonSearch, transferSearch, commonPlain, transferPlain};
+ghost use Rattle.laws.specs.Finding.{isSought, extentBy, searchFrom, contentsBy, commonPlain, transferPlain, plainBy, foundBy};
+ghost use Rattle.reader.specs.Finding.{Tells};
 
-// The contents among the octets xs after a header, counted from behind it; nowhere if they are cut.
-fn contents_after(e: Extent, xs: &[u8]) -> Found
-    ensures { λ r. ⌜ r ≡ contentsAfter e (now (xs .entry)) ⌝ }
+// What finding gives: the answer to the second question, and where the contents start and end, 0 and 0 if refused.
+struct Finding(Answer, usize, usize);
+
+// Whether a parameter with the header h is sought.
+fn is_sought(k: Key, h: u8) -> bool
+    ensures { λ r. ⌜ r ≡ isSought k h ⌝ }
 {
-    let n = octets_after(e, octet_at(xs, 0));
-    if xs.len() < n {
-        return Found::Nowhere;
+    match k {
+        Key::Header(header) => h == header,
+        Key::Name(name) => h % 64 == name,
     }
-    Found::At(lead(e), n)
 }
 
-// The contents of the common parameter with this header, by the length rule alone.
-fn common_search(m: &[u8], header: u8) -> Found
-    ensures { λ r. ⌜ r ≡ commonSearch header (now (m .entry)) ⌝ }
+// What the PLI of the header h says, among parameters of the kind sought.
+fn extent_by(k: Key, h: u8) -> Extent
+    ensures { λ r. ⌜ r ≡ extentBy k h ⌝ }
 {
-    let mut i = 0;
-    while i < m.len() {
-        let h = m[i];
-        let from = i + 1;
-        let Found::At(s, e) = contents_after(common_extent_of(h), &m[from..]) else {
-            return Found::Nowhere;
-        };
-        let end = from + e;
-        if h == header {
-            let start = from + s;
-            return Found::At(start, end);
-        }
-        i = end;
+    match k {
+        Key::Header(_) => common_extent_of(h),
+        Key::Name(_) => extent_of(h),
     }
-    Found::Nowhere
 }
 
-// The contents of the transfer parameter with this name in the transfer data t, by the length rule alone.
-fn transfer_search(t: &[u8], name: u8) -> Found
-    ensures { λ r. ⌜ r ≡ transferSearch name (now (t .entry)) ⌝ }
+// The first parameter sought among those of t, from its header to its end, by the length rule alone.
+pub fn search(t: &[u8], k: Key) -> Found
+    ensures { λ r. ⌜ Gives (searchFrom k 0 (now (t .entry))) r ⌝ }
 {
     let mut i = 0;
     while i < t.len() {
         let h = t[i];
         let from = i + 1;
-        let Found::At(s, e) = contents_after(extent_of(h), &t[from..]) else {
+        let n = octets_after(extent_by(k, h), octet_at(t, from));
+        if t.len() - from < n {
             return Found::Nowhere;
-        };
-        let end = from + e;
-        if h % 64 == name {
-            let start = from + s;
-            return Found::At(start, end);
+        }
+        let end = from + n;
+        if is_sought(k, h) {
+            return Found::At(i, end);
         }
         i = end;
     }
     Found::Nowhere
+}
+
+// The contents of that parameter.
+fn contents(t: &[u8], k: Key) -> Found
+    ensures { λ r. ⌜ r ≡ contentsBy k (now (t .entry)) ⌝ }
+{
+    let Found::At(i, end) = search(t, k) else {
+        return Found::Nowhere;
+    };
+    let before = lead(extent_by(k, t[i]));
+    let start = i + 1 + before;
+    Found::At(start, end)
 }
 
 // In a message that is accepted: where the contents of a common parameter stand. The end mark has none to be found.
@@ -79,17 +85,17 @@ pub fn common_plain(m: &[u8], header: u8) -> Found
     if header == Common::END_MARK {
         return Found::Nowhere;
     }
-    common_search(m, header)
+    contents(m, Key::Header(header))
 }
 
 // In a message that is accepted: where the contents of a transfer parameter stand, in those of its C5.
 fn transfer_plain(m: &[u8], name: u8) -> Found
     ensures { λ r. ⌜ r ≡ transferPlain name (now (m .entry)) ⌝ }
 {
-    let Found::At(s, e) = common_search(m, Common::TRANSFER_DATA) else {
+    let Found::At(s, e) = contents(m, Key::Header(Common::TRANSFER_DATA)) else {
         return Found::Nowhere;
     };
-    let Found::At(a, b) = transfer_search(&m[s..e], name) else {
+    let Found::At(a, b) = contents(&m[s..e], Key::Name(name)) else {
         return Found::Nowhere;
     };
     let start = s + a;
@@ -97,58 +103,64 @@ fn transfer_plain(m: &[u8], name: u8) -> Found
     Found::At(start, end)
 }
 
+// In a message that is accepted: where the contents stand of the parameter sought.
+fn plain(m: &[u8], k: Key) -> Found
+    ensures { λ r. ⌜ r ≡ plainBy k (now (m .entry)) ⌝ }
+{
+    match k {
+        Key::Header(header) => common_plain(m, header),
+        Key::Name(name) => transfer_plain(m, name),
+    }
+}
+
+// Reading's refusals, then 16, or where the contents stand of the parameter sought.
+fn find(m: &[u8], k: Key) -> Finding
+    ensures { λ r. ⌜ Tells (now (m .entry)) (foundBy k (now (m .entry))) r ⌝ }
+{
+    let a = verdict(m);
+    let Answer::Accepted(_) = a else {
+        return Finding(a, 0, 0);
+    };
+    let Found::At(start, end) = plain(m, k) else {
+        return Finding(Answer::Refused(Answer::ABSENT, 0), 0, 0);
+    };
+    Finding(Answer::Accepted(start), start, end)
+}
+
+// The part of the message that they are, the empty part if refused.
+fn part(m: &[u8], k: Key) -> &[u8]
+    ensures { λ r. ⌜ now r ≡ findPart (now (m .entry)) (foundBy k (now (m .entry))) ⌝ }
+{
+    let f = find(m, k);
+    let start = f.1;
+    let end = f.2;
+    &m[start..end]
+}
+
 // The contents of the common parameter with this header, the empty part if refused.
 pub fn find_common(m: &[u8], header: u8) -> &[u8]
     ensures { λ r. ⌜ FindCommonPromise (now (m .entry)) header (now r) ⌝ }
 {
-    let a = verdict(m);
-    let Answer::Accepted(_) = a else {
-        return &m[0..0];
-    };
-    let Found::At(s, e) = common_plain(m, header) else {
-        return &m[0..0];
-    };
-    &m[s..e]
+    part(m, Key::Header(header))
 }
 
 // The second question: accepted, with where those contents start, or number and place.
 pub fn find_common_answer(m: &[u8], header: u8) -> Answer
     ensures { λ r. ⌜ FindCommonAnswerPromise (now (m .entry)) header r ⌝ }
 {
-    let a = verdict(m);
-    let Answer::Accepted(_) = a else {
-        return a;
-    };
-    let Found::At(s, _) = common_plain(m, header) else {
-        return Answer::Refused(Answer::ABSENT, 0);
-    };
-    Answer::Accepted(s)
+    find(m, Key::Header(header)).0
 }
 
 // The contents of the transfer parameter with this name, the empty part if refused.
 pub fn find_transfer(m: &[u8], name: u8) -> &[u8]
     ensures { λ r. ⌜ FindTransferPromise (now (m .entry)) name (now r) ⌝ }
 {
-    let a = verdict(m);
-    let Answer::Accepted(_) = a else {
-        return &m[0..0];
-    };
-    let Found::At(s, e) = transfer_plain(m, name) else {
-        return &m[0..0];
-    };
-    &m[s..e]
+    part(m, Key::Name(name))
 }
 
 // The second question: accepted, with where those contents start, or number and place.
 pub fn find_transfer_answer(m: &[u8], name: u8) -> Answer
     ensures { λ r. ⌜ FindTransferAnswerPromise (now (m .entry)) name r ⌝ }
 {
-    let a = verdict(m);
-    let Answer::Accepted(_) = a else {
-        return a;
-    };
-    let Found::At(s, _) = transfer_plain(m, name) else {
-        return Answer::Refused(Answer::ABSENT, 0);
-    };
-    Answer::Accepted(s)
+    find(m, Key::Name(name)).0
 }

@@ -8,7 +8,7 @@ returns : tie.Need-returns
 returns c = rw (eq-eqb _ _ (c .if1 .taken))
 
 returns-2 : tie.Need-returns-2
-returns-2 c = rw (ne-eqb _ _ (c .before .if1 .left)) (c .common-search .ensures)
+returns-2 c = rw (ne-eqb _ _ (c .before .if1 .left)) (c .contents .ensures)
 
 pub common-plain-spec : {M : Type 1} → statement M
 common-plain-spec = tie.close (tie.spec returns (λ c κs. search needs) returns-2)

@@ -5,15 +5,15 @@ use denote.Ref.{now}
 use borrow.Author.Needs.{needs}
 use native.Mathlib.Omega.{arith}
 use lib.ListN.{length}
-use Rattle.annex.specs.Units.{commonExtentOf}
 use Rattle.annex.specs.Heads.{transfer-data}
+use Rattle.annex.specs.declared.Key.the-variants.{Header, Name}
 use Rattle.annex.specs.declared.Found.the-variants.{At}
-use Rattle.laws.specs.Finding.{isHeader, search-inside, transferPlain, transfer-inside}
+use Rattle.laws.specs.Finding.{search-inside, transferPlain, plain-inside}
 use Rattle.reader.proofs.finding.transfer_plain.Statement.{statement}
 use Rattle.reader.proofs.finding.transfer_plain.Tie as tie
 
 returns : tie.Need-returns
-returns c = rw (← c .before .before .common-search .ensures, c .enum-told .given .1)
+returns c = rw (← c .before .before .contents .ensures, c .enum-told .given .1)
 
 -- C5's contents lie within the message
 data-within : (c : tie.After-known-told) →
@@ -21,13 +21,13 @@ data-within : (c : tie.After-known-told) →
     (c .before .s .given .0 .0 ≤ c .before .s .given .0 .1 .0) × (c .before .s .given .0 .1 .0 ≤ length m)
 data-within c =
     let f = c .before .before .before in
-    search-inside (isHeader transfer-data) commonExtentOf _ .at _ _ (sym (f .common-search .ensures) ∙ c .before .s .given .1)
+    search-inside (Header transfer-data) _ .at _ _ (sym (f .contents .ensures) ∙ c .before .s .given .1)
 
 returns-2 : tie.Need-returns-2
 returns-2 c =
     let t = c .before .before in
     let s = t .before .before .before in
-    rw (← s .before .before .common-search .ensures, s .s .given .1, ← t .transfer-search .ensures, c .enum-told2 .given .1)
+    rw (← s .before .before .contents .ensures, s .s .given .1, ← t .contents2 .ensures, c .enum-told2 .given .1)
 
 -- where the contents stand in the message
 found : (c : tie.After-known-told2) →
@@ -37,13 +37,13 @@ found : (c : tie.After-known-told2) →
 found c =
     let t = c .before .before .before in
     let s = t .before .before .before in
-    rw (← s .before .before .common-search .ensures, s .s .given .1, ← t .transfer-search .ensures, c .before .a .given .1)
+    rw (← s .before .before .contents .ensures, s .s .given .1, ← t .contents2 .ensures, c .before .a .given .1)
 
 add-start : tie.Need-add-start
-add-start c = omega (arith, transfer-inside _ _ .at _ _ (found c))
+add-start c = omega (arith, plain-inside (Name _) _ .at _ _ (found c))
 
 add-end : tie.Need-add-end
-add-end c = omega (arith, transfer-inside _ _ .at _ _ (found c))
+add-end c = omega (arith, plain-inside (Name _) _ .at _ _ (found c))
 
 pub transfer-plain-spec : {M : Type 1} → statement M
 transfer-plain-spec =

@@ -1,38 +1,36 @@
--- `whole_search` meets its contract. The invariant: what is found in the whole is what is found from i on.
+-- `search` meets its contract. The invariant: what is found in the whole is what is found from i on.
 use Prim.Native.Nat.{_≤_, _+_, _-_}
 use native.Mathlib.Omega.{arith}
 use mathlib.Core.Path.{_≡_, sym, ap, _∙_}
 use mathlib.Core.Bool.{cond}
 use denote.Ref.{now}
 use borrow.Author.Needs.{needs}
-use borrow.Author.Tests.{eq-eqb, ne-eqb}
 use lib.ListN.{length, getD}
-use Rattle.annex.specs.Units.{afterOf, extentOf}
+use Rattle.annex.specs.Units.{afterOf}
 use Rattle.annex.specs.declared.Found.the-variants.{At}
-use Rattle.laws.specs.Finding.{isName}
-use Rattle.editor.specs.Whole.{wholeFrom, wholeSearch, whole-end, whole-cut, whole-turn}
-use Rattle.editor.proofs.steps.whole_search.Statement.{statement}
-use Rattle.editor.proofs.steps.whole_search.Tie as tie
+use Rattle.laws.specs.Finding.{isSought, extentBy, searchFrom, search-end, search-cut, search-turn}
+use Rattle.reader.proofs.finding.search.Statement.{statement}
+use Rattle.reader.proofs.finding.search.Tie as tie
 
 abbrev Inv-loop : tie.InvT-loop
-Inv-loop t name i₀ i = (i ≤ length t) × (wholeSearch name t ≡ wholeFrom name i t)
+Inv-loop t k i₀ i = (i ≤ length t) × (searchFrom k 0 t ≡ searchFrom k i t)
 
 abbrev μ-loop : tie.MeasureT-loop
-μ-loop t name i₀ i = length t - i
+μ-loop t k i₀ i = length t - i
 
 -- the length rule
 size-is : (c : tie.After-octets-after Inv-loop μ-loop) →
     let l = c .before .before .before .before .before in
-    c .octets-after .result ≡ afterOf (extentOf (getD (now (l .before .before .args .t)) (l .loop .i) 0)) (c .before .octet-at .result)
+    let a = l .before .before .args in
+    c .octets-after .result ≡ afterOf (extentBy (a .k) (getD (now (a .t)) (l .loop .i) 0)) (c .before .octet-at .result)
 size-is c =
-    c .octets-after .ensures ∙ ap (λ x. afterOf x (c .before .octet-at .result)) (c .before .before .extent-of .ensures)
+    c .octets-after .ensures ∙ ap (λ x. afterOf x (c .before .octet-at .result)) (c .before .before .extent-by .ensures)
 
 returns : tie.Need-returns Inv-loop μ-loop
 returns c =
     let n = c .before in
     let l = n .before .before .before .before in
-    let h = rw (size-is n) at (c .if1 .taken) in
-    sym (l .before .loop .inv .1 ∙ whole-cut _ _ _ _ (n .before .octet-at .ensures) (l .loop-test .taken) h)
+    sym (l .before .loop .inv .1 ∙ search-cut _ _ _ _ _ (l .loop-test .taken) (n .before .octet-at .ensures) (size-is n) (c .if1 .taken))
 
 -- a turn past a parameter that is not cut
 turn : (c : tie.Else1 Inv-loop μ-loop) →
@@ -41,29 +39,29 @@ turn : (c : tie.Else1 Inv-loop μ-loop) →
     let t = now (a .t) in
     let i = l .loop .i in
     let n = c .before .octets-after .result in
-    wholeSearch (a .name) t ≡ cond (isName (a .name) (getD t i 0)) (At i (i + 1 + n)) (wholeFrom (a .name) (i + 1 + n) t)
+    searchFrom (a .k) 0 t ≡ cond (isSought (a .k) (getD t i 0)) (At i (i + 1 + n)) (searchFrom (a .k) (i + 1 + n) t)
 turn c =
     let n = c .before in
     let l = n .before .before .before .before in
-    l .before .loop .inv .1 ∙ whole-turn _ _ _ _ (n .before .octet-at .ensures) (l .loop-test .taken) _ (size-is n) (c .if1 .left)
+    l .before .loop .inv .1 ∙ search-turn _ _ _ _ _ (l .loop-test .taken) (n .before .octet-at .ensures) (size-is n) (c .if1 .left)
 
 add-end : tie.Need-add-end Inv-loop μ-loop
 add-end c = omega arith
 
 returns-2 : tie.Need-returns-2 Inv-loop μ-loop
-returns-2 c = rw (turn (c .before), eq-eqb _ _ (c .if2 .taken))
+returns-2 c = rw (turn (c .before .before), ← c .before .is-sought .ensures, c .if2 .taken)
 
 loop-less : tie.Need-loop-less Inv-loop μ-loop
 loop-less c = omega arith
 
 loop-again : tie.Need-loop-again Inv-loop μ-loop
-loop-again c = (omega arith, rw (turn (c .before), ne-eqb _ _ (c .if2 .left)))
+loop-again c = (omega arith, rw (turn (c .before .before), ← c .before .is-sought .ensures, c .if2 .left))
 
 returns-3 : tie.Need-returns-3 Inv-loop μ-loop
-returns-3 c = sym (c .before .loop .inv .1 ∙ whole-end _ _ _ (c .loop-test .left))
+returns-3 c = sym (c .before .loop .inv .1 ∙ search-end _ _ _ (c .loop-test .left))
 
-pub whole-search-spec : {M : Type 1} → statement M
-whole-search-spec =
+pub search-spec : {M : Type 1} → statement M
+search-spec =
     tie.close
     (tie.spec
     Inv-loop
@@ -77,6 +75,7 @@ whole-search-spec =
     (λ c. search needs)
     returns
     add-end
+    (λ c κs. search needs)
     returns-2
     loop-less
     loop-again
