@@ -1,6 +1,6 @@
 -- Laws of finding by the length rule alone: one turn of the search, that what is found lies within the octets, and that in an accepted
 -- message it is what the definition finds.
-use mathlib.Core.Path.{_≡_, refl, sym, ap, _∙_}
+use mathlib.Core.Path.{_≡_, refl, ap, _∙_}
 use mathlib.Core.Bool.{Bool, true, false, cond}
 use mathlib.Core.List.{List, [], _∷_}
 use Prim.Native.Nat.{ℕ, _+_, _-_, _≤_, _<_}
@@ -13,7 +13,7 @@ use Rattle.annex.specs.Units.{nameOf, afterOf, leadOf, extentOf, commonExtentOf
 use Rattle.annex.specs.Heads.{end-mark, transfer-data}
 use Rattle.annex.specs.Allowed.{Each}
 use Rattle.annex.specs.Walk.{Par}
-use Rattle.annex.specs.Reading.{transfersOf, verdictOf, commonsOf, dataIn}
+use Rattle.annex.specs.Reading.{transfersOf, verdictOf, dataIn}
 use Rattle.annex.specs.Finding.{stretchOf, commonIn, commonFound, transferIn, transferAmong, transferFound}
 use Rattle.annex.specs.declared.Answer.the-variants.{Accepted}
 use Rattle.annex.specs.declared.Extent.{Extent}

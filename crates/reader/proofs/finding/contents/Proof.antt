@@ -1,10 +1,9 @@
 -- `contents` meets its contract: they stand behind the header and what leads, within the parameter that was found.
-use Prim.Native.Nat.{_+_, _<_}
+use Prim.Native.Nat.{_+_}
 use mathlib.Core.Path.{_≡_, sym, ap, _∙_}
 use denote.Ref.{now}
 use borrow.Author.Needs.{needs}
 use native.Mathlib.Omega.{arith}
-use lib.ListN.{length}
 use Rattle.annex.specs.declared.Found.the-variants.{At}
 use Rattle.laws.specs.Finding.{contentsAt, contentsBy, search-inside}
 use Rattle.reader.proofs.finding.contents.Statement.{statement}
