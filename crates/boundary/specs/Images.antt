@@ -7,7 +7,7 @@ use Rattle.annex.specs.Allowed.{every, isOctet}
 use Rattle.annex.specs.Reading.{verdictOf, recordOf}
 use Rattle.annex.specs.Records.{pack, readBy, readingOf}
 use Rattle.annex.specs.Writing.{writtenOf}
-use Rattle.annex.specs.Image.{imagingOf, imagedIn, imagedOf}
+use Rattle.annex.specs.Image.{imagingOf, imagedIn}
 use Rattle.annex.specs.Packed.{packedAnswer, imageReading, imageRead, imageWriting, imageWritten}
 use Rattle.annex.specs.Promises.{ReadPromise, WritePromise, ToImagePromise, FromImagePromise, TkReadPromise, TkWritePromise}
 use Rattle.annex.specs.declared.Answer.{Answer}

@@ -1,6 +1,6 @@
 -- What `tk_read` writes, `tk_write` takes back to the message.
 use Prim.Native.Nat.{ℕ, _≤_}
-use mathlib.Core.Path.{_≡_, sym, ap, _∙_}
+use mathlib.Core.Path.{_≡_, sym, ap}
 use mathlib.Core.Bool.{true}
 use mathlib.Core.List.{List, _++_}
 use borrow.Author.Tests.{le-ltb}

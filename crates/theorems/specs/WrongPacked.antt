@@ -4,7 +4,7 @@ use Prim.Native.Nat.{ℕ, _+_, _*_, _%_, _<_}
 use native.Mathlib.Omega.{arith}
 use mathlib.Core.Path.{_≡_, refl, ap, _∙_}
 use mathlib.Core.List.{List, [], _∷_, _++_}
-use lib.ListN.{length, getD, replicate}
+use lib.ListN.{getD, replicate}
 use Rattle.annex.specs.Answers.{numberOf, givenOf}
 use Rattle.annex.specs.Units.{afterOf, leadOf, commonExtentOf}
 use Rattle.annex.specs.Heads.{zeroesOf}
@@ -15,37 +15,12 @@ use Rattle.annex.specs.Walk.{walk}
 use Rattle.annex.specs.Reading.{octetAllowed, commonForm, endOf, dataOf, commonOf, messageVerdict, verdictOf, commonsOf, openCommon, recordOf}
 use Rattle.annex.specs.Records.{pad, valuesOf, pack, viewItems, lengthsOf, transfersSum, viewParts, isWhole, view}
 use Rattle.annex.specs.Writing.{partWriting, partsWriting, overLimits, recordWriting, structWriting, writingOf}
-use Rattle.annex.specs.Image.{
-  imageItem,
-  imageItems,
-  imagePart,
-  imageParts,
-  imageOf,
-  imagingOf,
-  imagedIn,
-  itemsAt,
-  partsAt,
-  noImage,
-  isWithin,
-  imagedOf,
-}
-use Rattle.annex.specs.Finding.{commonFound, transferFound, findAnswer, findPart}
+use Rattle.annex.specs.Image.{imageItem, imageItems, imagePart, imageParts, imageOf, imagingOf, imagedIn, itemsAt, partsAt, isWithin, imagedOf}
 use Rattle.annex.specs.Spans.{commonRows, rowsOf, spansOf}
-use Rattle.annex.specs.Editing.{Edit, editingOf, bufferOf}
+use Rattle.annex.specs.Editing.{Edit, editingOf}
 use Rattle.annex.specs.Editing.Edit.{Removing}
 use Rattle.annex.specs.Classes.{classOf}
-use Rattle.annex.specs.Packed.{
-  packedAnswer,
-  packedLength,
-  packedClass,
-  imageReading,
-  imageRead,
-  imageWriting,
-  imageWritten,
-  rowsOctets,
-  octetSpans,
-  octetTable,
-}
+use Rattle.annex.specs.Packed.{packedAnswer, packedClass, imageReading, imageRead, imageWriting, imageWritten, rowsOctets, octetSpans, octetTable}
 use Rattle.annex.specs.Promises.{
   ToImagePromise,
   FromImagePromise,
@@ -57,7 +32,7 @@ use Rattle.annex.specs.Promises.{
   TkClassPromise,
   TkEditPromise,
 }
-use Rattle.annex.specs.Bench.{M, K, recordOfK}
+use Rattle.annex.specs.Bench.{M, recordOfK}
 use Rattle.annex.specs.declared.Answer.{Answer}
 use Rattle.annex.specs.declared.Answer.the-variants.{Accepted, Refused}
 use Rattle.annex.specs.declared.Record.{Record}
