@@ -27,7 +27,7 @@ use Rattle.image.specs.Laying.{OctetHead, head-octets, common-octets, le
 
 -- ---- lengths
 
-items-long : (is : List Item) → length (imageItems is) ≡ 11 * length is + length (valuesOf is)
+pub items-long : (is : List Item) → length (imageItems is) ≡ 11 * length is + length (valuesOf is)
 unfolding imageItems valuesOf
 items-long [] = refl
 items-long (i ∷ is) =
@@ -42,7 +42,7 @@ part-long : (p : Part) → length (imagePart p) ≡ 6 + length (imageItems (p .i
 unfolding imagePart
 part-long p = omega arith
 
-parts-long : (r : List Part) → length (imageParts r) ≡ 6 * length r + length (imageItems (itemsIn r))
+pub parts-long : (r : List Part) → length (imageParts r) ≡ 6 * length r + length (imageItems (itemsIn r))
 unfolding imageParts imageItems
 parts-long [] = refl
 parts-long (p ∷ r) =

@@ -1,0 +1,305 @@
+-- Places and values are below 2^16 in every answer that is packed, so that nothing of it is lost: packed, its number, place and value can be
+-- told again.
+use Prim.Native.Nat.{ℕ, zero, suc, _+_, _-_, _/_, _%_, _≤_, _<_}
+use native.Mathlib.Omega.{arith}
+use mathlib.Core.Path.{_≡_, refl}
+use mathlib.Core.Bool.{Bool, true, false, cond, not, _||_}
+use mathlib.Core.List.{List, [], _∷_}
+use borrow.Author.Tests.{ltb-false}
+use lib.Dec.{eqb, leb, ltb}
+use lib.ListN.{length, getD, take, drop, length-take, length-drop}
+use Rattle.annex.specs.Answers.{
+  over-limits,
+  unlisted,
+  repeated,
+  cut-short,
+  not-allowed,
+  missing,
+  left-over,
+  unused-name,
+  other-pli,
+  repeated-name,
+  cut-contents,
+  bad-form,
+  transfer-over,
+  no-room,
+  absent,
+  numberOf,
+  placeOf,
+  givenOf,
+  refuse,
+  andThen,
+  shifted,
+  classValueOf,
+  classPlaceOf,
+  classGivenOf,
+}
+use Rattle.annex.specs.Units.{nameOf, afterOf, leadOf, extentOf, contentsIn, commonExtentOf}
+use Rattle.annex.specs.Heads.{among, listedHeaders, end-mark, transfer-data, most-octets, most-transfer-octets, nameUsed, pliRight, oftenOf, zeroesOf}
+use Rattle.annex.specs.Contents.{clear, faultOf}
+use Rattle.annex.specs.Items.{Item, Part}
+use Rattle.annex.specs.Layout.{layoutItems, layout}
+use Rattle.annex.specs.Allowed.{every, isOctet, headersOf, itemsIn, namesOf, timesIn}
+use Rattle.annex.specs.Walk.{Seen, unseen, timesSeen, counted, Step, byStep, walk, judging}
+use Rattle.annex.specs.Reading.{
+  soundThen,
+  transferOf,
+  transferStep,
+  transfersVerdict,
+  octetAllowed,
+  wholeIn,
+  commonForm,
+  endOf,
+  dataOf,
+  commonOf,
+  commonStep,
+  commonClose,
+  messageVerdict,
+  verdictOf,
+  recordOf,
+}
+use Rattle.annex.specs.Packed.{packed, packedAnswer, row-octets, octetSpans}
+use Rattle.annex.specs.Finding.{foundAnswer, foundPart, commonFound, transferFound, findAnswer, findPart}
+use Rattle.annex.specs.Spans.{rowsOf, spansOf}
+use Rattle.annex.specs.Editing.{Edit, newHeader, newAfter, newContents, present, editRefusal, edited, recordEditing, editingOf}
+use Rattle.annex.specs.Editing.Edit.{Replacing, Appending, Removing}
+use Rattle.annex.specs.Classes.{ClassList, classLists, classBy, classIn, classOf}
+use Rattle.annex.specs.declared.Answer.{Answer}
+use Rattle.annex.specs.declared.Answer.the-variants.{Accepted, Refused}
+use Rattle.annex.specs.declared.Fault.{Fault}
+use Rattle.annex.specs.declared.Fault.the-variants.{Sound, Bad}
+use Rattle.annex.specs.declared.Found.{Found}
+use Rattle.annex.specs.declared.Found.the-variants.{At, Nowhere}
+use Rattle.annex.specs.declared.Class.{Class}
+use Rattle.annex.specs.declared.Class.the-variants.{Named, HeldBack, Spare}
+use Rattle.annex.specs.declared.ClassAnswer.{ClassAnswer}
+use Rattle.annex.specs.declared.ClassAnswer.the-variants as classes
+use Rattle.laws.specs.Bools.{or-right}
+use Rattle.laws.specs.Few.{rows-few}
+use Rattle.laws.specs.Finding.{Inside, commonPlain, common-inside, transferPlain, transfer-inside, common-plain, transfer-plain}
+use Rattle.theorems.specs.Messages.{message-read}
+use Rattle.theorems.specs.Layouts.{laid-then-read}
+use Rattle.theorems.specs.Edits.{OfOctets, edited-allowed}
+
+-- ---- what is packed
+
+-- neither the place nor the count is over n
+abbrev pub Upto : ℕ → Answer → Type 0
+Upto n a = (placeOf a ≤ n) × (givenOf a ≤ n)
+
+pub parts-back : (k p v : ℕ) → p < 65536 → v < 65536 → (packed k p v / 4294967296 ≡ k) × (packed k p v / 65536 % 65536 ≡ p) × (packed k p v % 65536 ≡ v)
+parts-back k p v h l = (omega arith, omega arith, omega arith)
+
+pub answer-back : (a : Answer) → Upto 65535 a → (packedAnswer a / 4294967296 ≡ numberOf a) × (packedAnswer a / 65536 % 65536 ≡ placeOf a) × (packedAnswer a % 65536 ≡ givenOf a)
+answer-back (Accepted n) u = parts-back 0 0 n (omega arith) (omega (arith, u .1))
+answer-back (Refused k p) u = parts-back k p 0 (omega (arith, u .0)) (omega arith)
+
+-- ---- refusals in their order
+
+pub upto-more : (a : Answer) (k n : ℕ) → k ≤ n → Upto k a → Upto n a
+upto-more a k n h u = (omega (arith, u .0), omega (arith, u .1))
+
+pub upto-refuse : (b : Bool) (k p n : ℕ) (a : Answer) → p ≤ n → Upto n a → Upto n (refuse b k p a)
+upto-refuse true k p n a h u = (h, omega arith)
+upto-refuse false k p n a h u = u
+
+pub upto-then : (a : Answer) (f : ℕ → Answer) (k n : ℕ) → k ≤ n → Upto k a → ((q : ℕ) → q ≤ k → Upto n (f q)) → Upto n (andThen a f)
+upto-then (Accepted q) f k n h u g = g q (u .1)
+upto-then (Refused j p) f k n h u g = (omega (arith, u .0), omega arith)
+
+place-refuse : (b : Bool) (k p n : ℕ) (a : Answer) → p ≤ n → placeOf a ≤ n → placeOf (refuse b k p a) ≤ n
+place-refuse true k p n a h u = h
+place-refuse false k p n a h u = u
+
+-- four at the first octet
+place-four : (a b c d : Bool) (i j k l n : ℕ) (rest : Answer) → placeOf rest ≤ n → placeOf (refuse a i 0 (refuse b j 0 (refuse c k 0 (refuse d l 0 rest)))) ≤ n
+place-four true b c d i j k l n rest h = omega arith
+place-four false true c d i j k l n rest h = omega arith
+place-four false false true d i j k l n rest h = omega arith
+place-four false false false d i j k l n rest h = place-refuse d l 0 n rest (omega arith) h
+
+place-then : (a : Answer) (f : ℕ → Answer) (n : ℕ) → placeOf a ≤ n → ((q : ℕ) → placeOf (f q) ≤ n) → placeOf (andThen a f) ≤ n
+place-then (Accepted q) f n u g = g q
+place-then (Refused j p) f n u g = u
+
+place-sound : (f : Fault) (n k : ℕ) → placeOf (soundThen f (Accepted n)) ≤ k
+place-sound Sound n k = omega arith
+place-sound (Bad j i) n k = omega arith
+
+place-cond : (b : Bool) (a c : Answer) (n : ℕ) → placeOf a ≤ n → placeOf c ≤ n → placeOf (cond b a c) ≤ n
+place-cond true a c n h l = h
+place-cond false a c n h l = l
+
+place-shifted : (s : ℕ) (a : Answer) (n : ℕ) → placeOf a ≤ n → placeOf (shifted s a) ≤ s + n
+place-shifted s (Accepted k) n h = omega arith
+place-shifted s (Refused k p) n h = omega arith
+
+-- ---- reading
+
+-- a walk whose steps refuse at most c places behind their octets
+module _ (step : Step) (close : Seen → ℕ → Answer) (c : ℕ)
+    (steps : (seen : Seen) (h : ℕ) (xs : List ℕ) → placeOf (step seen h xs) ≤ c + length xs)
+    (closes : (seen : Seen) (p : ℕ) → Upto p (close seen p)) where
+  walk-upto : (xs : List ℕ) (seen : Seen) (k at : ℕ) → Upto (at + length xs + c) (walk (judging step close) seen k at xs)
+  unfolding walk
+  walk-upto [] seen k at = upto-more (close seen at) at (at + 0 + c) (omega arith) (closes seen at)
+  walk-upto (x ∷ xs) seen (suc k) at =
+      upto-more (walk (judging step close) seen k (at + 1) xs) (at + 1 + length xs + c) (at + suc (length xs) + c) (omega arith) (walk-upto xs seen k (at + 1))
+  walk-upto (x ∷ xs) seen zero at = go (step seen x xs) (steps seen x xs) (λ n. walk-upto xs (counted seen x) n (at + 1))
+    where
+      go : (a : Answer) → placeOf a ≤ c + length xs → ((n : ℕ) → Upto (at + 1 + length xs + c) (walk (judging step close) (counted seen x) n (at + 1) xs)) → Upto (at + suc (length xs) + c) (byStep a (λ k q. Refused k (at + q)) (λ n. walk (judging step close) (counted seen x) n (at + 1) xs))
+      go (Accepted n) h ih =
+          upto-more (walk (judging step close) (counted seen x) n (at + 1) xs) (at + 1 + length xs + c) (at + suc (length xs) + c) (omega arith) (ih n)
+      go (Refused k q) h ih = (omega arith, omega arith)
+
+transfer-place : (seen : Seen) (h : ℕ) (xs : List ℕ) → placeOf (transferStep seen h xs) ≤ 0 + length xs
+unfolding transferOf
+transfer-place seen h xs =
+    let n = afterOf (extentOf h) (getD xs 0 0) in
+    let f = faultOf h (contentsIn (extentOf h) (take n xs)) in
+    place-four (not (nameUsed h)) (not (pliRight h)) (leb (oftenOf (nameOf h)) (timesSeen seen h)) (ltb (length xs) n) unused-name other-pli repeated-name cut-contents (0 + length xs) (soundThen f (Accepted n)) (place-sound f n (0 + length xs))
+
+transfers-upto : (t : List ℕ) → Upto (length t) (transfersVerdict t)
+unfolding transfersVerdict
+transfers-upto t =
+    upto-more (walk (judging transferStep (λ seen p. Accepted p)) unseen 0 0 t) (0 + length t + 0) (length t) (omega arith)
+    (walk-upto transferStep (λ seen p. Accepted p) 0 transfer-place (λ seen p. (omega arith, omega arith)) t unseen 0 0)
+
+common-place : (seen : Seen) (h : ℕ) (xs : List ℕ) → placeOf (commonStep seen h xs) ≤ 2 + length xs
+unfolding commonOf commonForm endOf dataOf
+common-place seen h xs =
+    let n = afterOf (commonExtentOf h) (getD xs 0 0) in
+    let most = 2 + length xs in
+    let late = refuse (ltb 0 (length xs)) left-over 1 (Accepted 0) in
+    place-then (commonForm (timesSeen seen h) h xs) (λ k. cond (eqb h end-mark) (endOf (wholeIn seen) xs) (cond (eqb h transfer-data) (dataOf k xs) (Accepted k))) most
+    (place-four (not (among h listedHeaders)) (ltb 0 (timesSeen seen h)) (ltb (length xs) n) (not (octetAllowed h (getD xs 0 0))) unlisted repeated cut-short not-allowed most (Accepted n) (omega arith))
+    (λ k.
+    place-cond (eqb h end-mark) (endOf (wholeIn seen) xs) (cond (eqb h transfer-data) (dataOf k xs) (Accepted k)) most
+    (place-refuse (not (wholeIn seen)) missing 0 most late (omega arith) (place-refuse (ltb 0 (length xs)) left-over 1 most (Accepted 0) (omega arith) (omega arith)))
+    (place-cond (eqb h transfer-data) (dataOf k xs) (Accepted k) most (place-then (shifted 2 (transfersVerdict (contentsIn (commonExtentOf transfer-data) (take k xs)))) (λ _. Accepted k) most (inner k) (λ q. omega arith)) (omega arith)))
+  where
+    inner : (k : ℕ) → placeOf (shifted 2 (transfersVerdict (contentsIn (commonExtentOf transfer-data) (take k xs)))) ≤ 2 + length xs
+    inner k =
+        let t = contentsIn (commonExtentOf transfer-data) (take k xs) in
+        let l : length t ≤ length xs = omega (arith, length-drop (leadOf (commonExtentOf transfer-data)) (take k xs), length-take k xs) in
+        place-shifted 2 (transfersVerdict t) (length xs) (omega (arith, transfers-upto t .0))
+
+-- neither the place nor the length that a verdict tells is over 274
+pub verdict-upto : (m : List ℕ) → Upto 274 (verdictOf m)
+unfolding verdictOf messageVerdict
+verdict-upto m = go (eqb (length m) 0 || ltb most-octets (length m)) refl
+  where
+    go : (b : Bool) → eqb (length m) 0 || ltb most-octets (length m) ≡ b → Upto 274 (refuse b over-limits 0 (messageVerdict m))
+    go true e = (omega arith, omega arith)
+    go false e =
+        let l : length m ≤ most-octets = ltb-false most-octets (length m) (or-right (eqb (length m) 0) (ltb most-octets (length m)) e) in
+        upto-more (messageVerdict m) (0 + length m + 2) 274 (omega arith)
+        (walk-upto commonStep commonClose 2 common-place (λ seen p. upto-refuse (not (ltb 0 (timesSeen seen end-mark))) cut-short p p (Accepted p) (omega arith) (omega arith, omega arith)) m unseen 0 0)
+
+-- ---- rows
+
+pub rows-upto : (m : List ℕ) (room : ℕ) → Upto 274 (octetSpans m room)
+unfolding spansOf
+rows-upto m room =
+    let given = Accepted (length (rowsOf m)) in
+    let full = ltb (room / row-octets) (length (rowsOf m)) in
+    upto-then (verdictOf m) (λ _. refuse full no-room 0 given) 274 274 (omega arith) (verdict-upto m)
+    (λ q _. upto-refuse full no-room 0 274 given (omega arith) (omega arith, omega (arith, rows-few m)))
+
+-- ---- finding
+
+-- where the contents start, and how many octets they have
+module _ (m : List ℕ) where
+  found-upto : (f : Found) → Inside (length m) f → (length m ≤ most-octets) → Upto most-octets (foundAnswer f) × (length (foundPart m f) ≤ most-octets)
+  found-upto (At s e) i l =
+      let w = i .at s e refl in
+      ((omega arith, omega arith), omega (arith, length-take (e - s) (drop s m), length-drop s m))
+  found-upto Nowhere i l = ((omega arith, omega arith), omega arith)
+
+  abbrev Told : Found → Type 0
+  Told f = Upto 274 (findAnswer m f) × (length (findPart m f) ≤ 274)
+
+  told-by : (f g : Found) → ((n : ℕ) → verdictOf m ≡ Accepted n → f ≡ g) → Inside (length m) g → Told f
+  told-by f g same i = go (verdictOf m) refl (verdict-upto m)
+    where
+      go : (a : Answer) → verdictOf m ≡ a → Upto 274 a → Told f
+      go (Accepted n) e u =
+          let w = found-upto g i (message-read m n e .few) in
+          rw (e, same n e) ((omega (arith, w .0 .0), omega (arith, w .0 .1)), omega (arith, w .1))
+      go (Refused k p) e u = rw e ((u .0, omega arith), omega arith)
+
+  pub common-upto : (h : ℕ) → Told (commonFound h m)
+  common-upto h = told-by (commonFound h m) (commonPlain h m) (common-plain h m) (common-inside h m)
+
+  pub transfer-upto : (x : ℕ) → Told (transferFound x m)
+  transfer-upto x = told-by (transferFound x m) (transferPlain x m) (transfer-plain x m) (transfer-inside x m)
+
+-- ---- editing
+
+-- what the new octets are refused for
+new-place : (new : List ℕ) → placeOf (newContents new) ≤ 274
+new-place new =
+    let h = newHeader new in
+    let xs = newAfter new in
+    let f = faultOf h (contentsIn (extentOf h) xs) in
+    place-refuse (not (eqb (length xs) (afterOf (extentOf h) (getD xs 0 0)))) cut-contents 0 274 (soundThen f (Accepted 0)) (omega arith) (place-sound f 0 274)
+
+edit-place : (e : Edit) (is : List Item) → placeOf (editRefusal e is) ≤ 274
+unfolding editRefusal
+edit-place (Replacing new) is =
+    let h = newHeader new in
+    place-four (eqb (length new) 0) (not (nameUsed h)) (not (pliRight h)) (not (present (nameOf h) is)) cut-contents unused-name other-pli absent 274 (newContents new) (new-place new)
+edit-place (Appending new) is =
+    let h = newHeader new in
+    place-four (eqb (length new) 0) (not (nameUsed h)) (not (pliRight h)) (leb (oftenOf (nameOf h)) (timesIn (nameOf h) (namesOf is))) cut-contents unused-name other-pli repeated-name 274 (newContents new) (new-place new)
+edit-place (Removing x) is = place-refuse (not (present x is)) absent 0 274 (Accepted 0) (omega arith) (omega arith)
+
+record-place : (e : Edit) (r : List Part) (room : ℕ) → placeOf (recordEditing e r room) ≤ 274
+unfolding recordEditing
+record-place e r room =
+    let n = length (layout (edited e r)) in
+    let over = ltb most-transfer-octets (length (layoutItems (itemsIn (edited e r)))) in
+    let last = refuse (ltb room n) no-room 0 (Accepted n) in
+    place-refuse (not (among transfer-data (headersOf r))) absent 0 274 (andThen (editRefusal e (itemsIn r)) (λ _. refuse over transfer-over 0 last)) (omega arith)
+    (place-then (editRefusal e (itemsIn r)) (λ _. refuse over transfer-over 0 last) 274 (edit-place e (itemsIn r))
+    (λ q. place-refuse over transfer-over 0 274 last (omega arith) (place-refuse (ltb room n) no-room 0 274 (Accepted n) (omega arith) (omega arith))))
+
+editing-place : (e : Edit) (d : List ℕ) (n : ℕ) → placeOf (editingOf e d n) ≤ 274
+unfolding editingOf
+editing-place e d n =
+    let m = take n d in
+    place-refuse (ltb (length d) n) no-room 0 274 (andThen (verdictOf m) (λ _. recordEditing e (recordOf m) (length d))) (omega arith)
+    (place-then (verdictOf m) (λ _. recordEditing e (recordOf m) (length d)) 274 (verdict-upto m .0) (λ q. record-place e (recordOf m) (length d)))
+
+-- the message so edited is that of an allowed record
+pub editing-upto : (e : Edit) (d : List ℕ) (n : ℕ) → every isOctet d ≡ true → OfOctets e → Upto 274 (editingOf e d n)
+editing-upto e d n o w = (editing-place e d n, go (editingOf e d n) refl)
+  where
+    go : (a : Answer) → editingOf e d n ≡ a → givenOf (editingOf e d n) ≤ 274
+    go (Accepted k) f =
+        let t = edited-allowed e d n k o w f in
+        rw f (omega (arith, t .1, laid-then-read _ (t .0) .3))
+    go (Refused k p) f = rw f (omega arith)
+
+-- ---- classes
+
+class-value : (c : Class) → classValueOf c ≤ 2
+class-value Named = omega arith
+class-value HeldBack = omega arith
+class-value Spare = omega arith
+
+abbrev Few : ClassAnswer → Type 0
+Few a = (classPlaceOf a ≡ 0) × (classGivenOf a ≤ 2)
+
+pub class-few : (h x : ℕ) → Few (classOf h x)
+unfolding classOf
+class-few h x = among-few classLists
+  where
+    one : (b c : Bool) (k : Class) (rest : ClassAnswer) → Few rest → Few (cond b (cond c (classes.Is k) (classes.Refused bad-form 0)) rest)
+    one true true k rest u = (refl, class-value k)
+    one true false k rest u = (refl, omega arith)
+    one false c k rest u = u
+
+    among-few : (ls : List ClassList) → Few (classIn ls h x)
+    among-few [] = (refl, omega arith)
+    among-few (l ∷ ls) = one (eqb h (l .header)) (clear (zeroesOf h) x) (classBy l x) (classIn ls h x) (among-few ls)

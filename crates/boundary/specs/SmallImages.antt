@@ -1,0 +1,197 @@
+-- Places and values are below 2^16 where a message is read to an image, or written from one.
+use Prim.Native.Nat.{ℕ, _+_, _-_, _*_, _≤_}
+use native.Mathlib.Omega.{arith}
+use mathlib.Core.Path.{_≡_, refl, ap, _∙_}
+use mathlib.Core.Bool.{Bool, true, false, cond, not, _||_, _&&_}
+use mathlib.Core.List.{List, [], _∷_, _++_}
+use borrow.Author.Tests.{ltb-false}
+use lib.Dec.{eqb, leb, ltb}
+use lib.ListN.{length, length-append}
+use Rattle.annex.specs.Answers.{
+  over-limits,
+  unlisted,
+  repeated,
+  not-allowed,
+  missing,
+  unused-name,
+  other-pli,
+  repeated-name,
+  cut-contents,
+  bad-form,
+  bad-digit,
+  transfer-over,
+  no-room,
+  refuse,
+  andThen,
+}
+use Rattle.annex.specs.Units.{nameOf, extentOf}
+use Rattle.annex.specs.Heads.{
+  among,
+  commonHeaders,
+  transfer-data,
+  isCall,
+  most-commons,
+  most-transfers,
+  most-transfer-octets,
+  nameUsed,
+  pliRight,
+  oftenOf,
+}
+use Rattle.annex.specs.Items.{Item, Part}
+use Rattle.annex.specs.Layout.{callOctets, dataOctets, layoutItem, layoutItems, layoutPart, layout}
+use Rattle.annex.specs.Allowed.{every, isOctet, lengthRight, formRight, digitsRight, valueRight, valueFits, itemsIn, contentsSum}
+use Rattle.annex.specs.Walk.{Seen, unseen, timesSeen, counted}
+use Rattle.annex.specs.Reading.{wholeIn, verdictOf, recordOf}
+use Rattle.annex.specs.Records.{pack, isWhole, view}
+use Rattle.annex.specs.Writing.{
+  itemWriting,
+  itemsWriting,
+  dataWriting,
+  partWriting,
+  partsWriting,
+  overLimits,
+  recordWriting,
+  structWriting,
+  writingOf,
+}
+use Rattle.annex.specs.Image.{Front, imageOf, partsAt, noImage, isWithin, imagedBy, imagedOf}
+use Rattle.annex.specs.Image.Front.{Taken, Short}
+use Rattle.annex.specs.Packed.{imageReading, imageWriting}
+use Rattle.annex.specs.declared.Answer.{Answer}
+use Rattle.annex.specs.declared.Answer.the-variants.{Accepted, Refused}
+use Rattle.annex.specs.declared.Record.{Record}
+use Rattle.laws.specs.Laid.{length-layout, lead-small}
+use Rattle.theorems.specs.Messages.{read-then-laid}
+use Rattle.theorems.specs.Records.{layout-append, allowed-within}
+use Rattle.image.specs.Octets.{items-long, parts-long}
+use Rattle.boundary.specs.Small.{Upto, upto-more, upto-refuse, upto-then, verdict-upto}
+
+-- ---- read to an image
+
+-- at most 6 common parameters, 52 transfer parameters and 512 values
+pub image-upto : (m : List ℕ) (room : ℕ) → every isOctet m ≡ true → Upto 1121 (imageReading m room)
+unfolding imageReading imageOf
+image-upto m room o = go (verdictOf m) refl (verdict-upto m)
+  where
+    go : (a : Answer) → verdictOf m ≡ a → Upto 274 a → Upto 1121 (andThen a (λ _. refuse (ltb room (length (imageOf (recordOf m)))) no-room 0 (Accepted (length (imageOf (recordOf m))))))
+    go (Accepted n) e u =
+        let r = recordOf m in
+        let w = allowed-within r (read-then-laid m o n e .1) in
+        let l : length (imageOf r) ≤ 1121 = omega (arith, parts-long r, items-long (itemsIn r), w .commons, w .transfers, w .values) in
+        upto-refuse (ltb room (length (imageOf r))) no-room 0 1121 (Accepted (length (imageOf r))) (omega arith) (omega arith, l)
+    go (Refused k p) e u = (omega (arith, u .0), omega arith)
+
+-- ---- writing
+
+-- refusals at the same place
+upto-three : (a b c : Bool) (i j k p n : ℕ) (rest : Answer) → p ≤ n → Upto n rest → Upto n (refuse a i p (refuse b j p (refuse c k p rest)))
+upto-three a b c i j k p n rest h u =
+    upto-refuse a i p n (refuse b j p (refuse c k p rest)) h (upto-refuse b j p n (refuse c k p rest) h (upto-refuse c k p n rest h u))
+
+-- no place is behind the octets that are written
+item-upto : (times p : ℕ) (i : Item) → Upto (p + length (layoutItem i)) (itemWriting times p i)
+unfolding itemWriting
+item-upto times p i =
+    let n = p + length (layoutItem i) in
+    let late = refuse (not (lengthRight i)) cut-contents p (refuse (not (formRight i)) bad-form p (refuse (not (digitsRight i)) bad-digit p (Accepted n))) in
+    upto-three (not (nameUsed (i .header))) (not (pliRight (i .header))) (leb (oftenOf (nameOf (i .header))) times) unused-name other-pli repeated-name p n late (omega arith)
+    (upto-three (not (lengthRight i)) (not (formRight i)) (not (digitsRight i)) cut-contents bad-form bad-digit p n (Accepted n) (omega arith) (omega arith, omega arith))
+
+items-upto : (is : List Item) (seen : Seen) (p : ℕ) → Upto (p + length (layoutItems is)) (itemsWriting seen p is)
+unfolding itemsWriting layoutItems
+items-upto [] seen p = (omega arith, omega arith)
+items-upto (i ∷ is) seen p =
+    let l = length-append (layoutItem i) (layoutItems is) in
+    let n = p + length (layoutItem i ++ layoutItems is) in
+    upto-then (itemWriting (timesSeen seen (i .header)) p i) (λ q. itemsWriting (counted seen (i .header)) q is) (p + length (layoutItem i)) n (omega arith) (item-upto (timesSeen seen (i .header)) p i)
+    (λ q h. upto-more (itemsWriting (counted seen (i .header)) q is) (q + length (layoutItems is)) n (omega arith) (items-upto is (counted seen (i .header)) q))
+
+data-upto : (p : ℕ) (is : List Item) → Upto (p + 2 + length (layoutItems is)) (dataWriting p is)
+unfolding dataWriting
+data-upto p is =
+    let n = p + 2 + length (layoutItems is) in
+    upto-then (itemsWriting unseen (p + 2) is) (λ q. refuse (ltb most-transfer-octets (q - (p + 2))) transfer-over p (Accepted q)) n n (omega arith) (items-upto is unseen (p + 2))
+    (λ q h. upto-refuse (ltb most-transfer-octets (q - (p + 2))) transfer-over p n (Accepted q) (omega arith) (omega arith, h))
+
+part-upto : (times p : ℕ) (q : Part) → Upto (p + length (layoutPart q)) (partWriting times p q)
+unfolding partWriting layoutPart
+part-upto times p q =
+    let n = p + length (layoutPart q) in
+    let late = cond (eqb (q .header) transfer-data) (dataWriting p (q .items)) (Accepted n) in
+    upto-three (not (among (q .header) commonHeaders)) (ltb 0 times) (not (valueRight q)) unlisted repeated not-allowed p n (refuse (not (valueFits q)) bad-form p late) (omega arith)
+    (upto-refuse (not (valueFits q)) bad-form p n late (omega arith) (go (eqb (q .header) transfer-data) (cond (isCall (q .header)) (callOctets (q .value)) (q .value ∷ []))))
+  where
+    go : (b : Bool) (other : List ℕ) → Upto (p + length (q .header ∷ cond b (dataOctets (layoutItems (q .items))) other)) (cond b (dataWriting p (q .items)) (Accepted (p + length (q .header ∷ cond b (dataOctets (layoutItems (q .items))) other))))
+    go true other =
+        upto-more (dataWriting p (q .items)) (p + 2 + length (layoutItems (q .items))) (p + length (q .header ∷ dataOctets (layoutItems (q .items)))) (omega arith) (data-upto p (q .items))
+    go false other = (omega arith, omega arith)
+
+parts-upto : (r : List Part) (seen : Seen) (p : ℕ) → Upto (p + length (layout r)) (partsWriting seen p r)
+unfolding partsWriting layout
+parts-upto [] seen p = upto-refuse (not (wholeIn seen)) missing p (p + 1) (Accepted (p + 1)) (omega arith) (omega arith, omega arith)
+parts-upto (q ∷ qs) seen p =
+    let l = length-append (layoutPart q) (layout qs) in
+    let n = p + length (layoutPart q ++ layout qs) in
+    upto-then (partWriting (timesSeen seen (q .header)) p q) (λ k. partsWriting (counted seen (q .header)) k qs) (p + length (layoutPart q)) n (omega arith) (part-upto (timesSeen seen (q .header)) p q)
+    (λ k h. upto-more (partsWriting (counted seen (q .header)) k qs) (k + length (layout qs)) n (omega arith) (parts-upto qs (counted seen (q .header)) k))
+
+-- a header and a length octet at most, before the contents
+items-few : (is : List Item) → length (layoutItems is) ≤ 2 * length is + contentsSum is
+unfolding layoutItems
+items-few [] = omega arith
+items-few (i ∷ is) =
+    omega (arith, length-append (layoutItem i) (layoutItems is), length-layout i, lead-small (extentOf (i .header)), items-few is)
+
+part-few : (p : Part) → length (layoutPart p) ≤ 4 + length (layoutItems (p .items))
+unfolding layoutPart
+part-few p = go (eqb (p .header) transfer-data) (isCall (p .header))
+  where
+    go : (b c : Bool) → length (p .header ∷ cond b (dataOctets (layoutItems (p .items))) (cond c (callOctets (p .value)) (p .value ∷ []))) ≤ 4 + length (layoutItems (p .items))
+    go true c = omega arith
+    go false true = omega arith
+    go false false = omega arith
+
+parts-few : (r : List Part) → length (layout r) ≤ 1 + 4 * length r + length (layoutItems (itemsIn r))
+unfolding layout layoutItems
+parts-few [] = omega arith
+parts-few (p ∷ r) =
+    let a = ap (λ (l : List ℕ). length l) (layout-append (p .items) (itemsIn r)) ∙ length-append (layoutItems (p .items)) (layoutItems (itemsIn r)) in
+    omega (arith, length-append (layoutPart p) (layout r), part-few p, parts-few r, a)
+
+-- at most 6 common parameters, 52 transfer parameters and 255 octets of contents
+record-upto : (r : List Part) → Upto 384 (recordWriting r)
+unfolding recordWriting overLimits
+record-upto r =
+    go (ltb most-commons (length r)) (ltb most-transfers (length (itemsIn r))) (ltb most-transfer-octets (contentsSum (itemsIn r)))
+    (ltb-false most-commons (length r))
+    (ltb-false most-transfers (length (itemsIn r)))
+    (ltb-false most-transfer-octets (contentsSum (itemsIn r)))
+  where
+    go : (a b c : Bool) → (a ≡ false → length r ≤ most-commons) → (b ≡ false → length (itemsIn r) ≤ most-transfers) → (c ≡ false → contentsSum (itemsIn r) ≤ most-transfer-octets) → Upto 384 (refuse (a || (b || c)) over-limits 0 (partsWriting unseen 0 r))
+    go true b c h i j = (omega arith, omega arith)
+    go false true c h i j = (omega arith, omega arith)
+    go false false true h i j = (omega arith, omega arith)
+    go false false false h i j =
+        upto-more (partsWriting unseen 0 r) (0 + length (layout r)) 384 (omega (arith, parts-few r, items-few (itemsIn r), h refl, i refl, j refl)) (parts-upto r unseen 0)
+
+writing-upto : (s : Record) (room : ℕ) → Upto 384 (writingOf s room)
+unfolding writingOf structWriting
+writing-upto s room =
+    upto-then (structWriting s) (λ n. refuse (ltb room n) no-room 0 (Accepted n)) 384 384 (omega arith)
+    (upto-refuse (not (isWhole s)) over-limits 0 384 (recordWriting (view s)) (omega arith) (record-upto (view s)))
+    (λ n h. upto-refuse (ltb room n) no-room 0 384 (Accepted n) (omega arith) (omega arith, h))
+
+-- ---- written from an image
+
+pub write-upto : (image : List ℕ) (room : ℕ) → Upto 384 (imageWriting image room)
+unfolding imageWriting imagedOf
+write-upto [] room = (omega arith, omega arith)
+write-upto (n ∷ s) room = go (partsAt n s)
+  where
+    go : (f : Front Part) → Upto 384 (andThen (imagedBy (length s) f .answer) (λ _. writingOf (imagedBy (length s) f .held) room))
+    go Short = (omega arith, omega arith)
+    go (Taken r k) = told (eqb k (length s) && isWithin r)
+      where
+        told : (b : Bool) → Upto 384 (andThen (cond b (record { answer = Accepted (length r); held = pack r }) noImage .answer) (λ _. writingOf (cond b (record { answer = Accepted (length r); held = pack r }) noImage .held) room))
+        told true = writing-upto (pack r) room
+        told false = (omega arith, omega arith)
