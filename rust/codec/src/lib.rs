@@ -36,6 +36,11 @@ pub use refusal::Refusal;
 
 use answer::{unpack, Accepted};
 
+// The example in the README is compiled with the tests.
+#[cfg(doctest)]
+#[doc = include_str!("../../README.md")]
+struct Readme;
+
 /// The most octets of a message.
 pub const MESSAGE_MAX: usize = 272;
 /// The most rows of a message, the end mark's among them.

@@ -58,19 +58,16 @@ fn class(class: plain::Class) -> Class {
 fn over_many_inputs() {
     for index in 0..COUNT {
         let input = input_at(SEED, index);
-        agree(&input).unwrap_or_else(|| panic!("the codecs differ: {input:02X?}"));
+        assert!(agree(&input), "the codecs differ: {input:02X?}");
     }
 }
 
-/// None if the two answers are not the same.
-fn agree(input: &Input) -> Option<()> {
-    let same = match input {
+/// Whether the two answers are the same.
+fn agree(input: &Input) -> bool {
+    match input {
         Input::Read { message, .. } => reading_agrees(message),
         Input::Write { image, room } => writing_agrees(image, room),
-        Input::Rows { message, .. } => {
-            let rows = plain::rows(message).map(|rows| rows.into_iter().map(row).collect());
-            codec::rows(message) == rows.map_err(refusal)
-        }
+        Input::Rows { message, .. } => rows_agree(message),
         Input::FindCommon { message, header } => {
             let found = plain::find_common(message, *header).map(|range| &message[range]);
             same_part(codec::find_common(message, *header), found)
@@ -79,44 +76,37 @@ fn agree(input: &Input) -> Option<()> {
             let found = plain::find_transfer(message, *name).map(|range| &message[range]);
             same_part(codec::find_transfer(message, *name), found)
         }
-        Input::Class { header, octet } => {
-            let classed = plain::class_of(*header, *octet).map(class);
-            codec::class_of(*header, *octet) == classed.map_err(refusal)
-        }
+        Input::Class { header, octet } => class_agrees(*header, *octet),
         Input::Replace { buffer, n, new } => {
-            let n = usize::from(*n);
-            same_edit(
-                buffer,
-                |b| codec::replace(b, n, new),
-                |b| plain::replace(b, n, new),
-            )
+            edit_agrees(buffer, *n, &new[..], codec::replace, plain::replace)
         }
         Input::Append { buffer, n, new } => {
-            let n = usize::from(*n);
-            same_edit(
-                buffer,
-                |b| codec::append(b, n, new),
-                |b| plain::append(b, n, new),
-            )
+            edit_agrees(buffer, *n, &new[..], codec::append, plain::append)
         }
         Input::Remove { buffer, n, name } => {
-            let (n, name) = (usize::from(*n), *name);
-            same_edit(
-                buffer,
-                |b| codec::remove(b, n, name),
-                |b| plain::remove(b, n, name),
-            )
+            edit_agrees(buffer, *n, *name, codec::remove, plain::remove)
         }
-    };
-    same.then_some(())
+    }
+}
+
+fn rows_agree(message: &[u8]) -> bool {
+    let rows = plain::rows(message).map(|rows| rows.into_iter().map(row).collect());
+    codec::rows(message) == rows.map_err(refusal)
+}
+
+fn class_agrees(header: u8, octet: u8) -> bool {
+    let classed = plain::class_of(header, octet).map(class);
+    codec::class_of(header, octet) == classed.map_err(refusal)
 }
 
 /// The same record or refusal; and the record, written, is the message.
 fn reading_agrees(message: &[u8]) -> bool {
     let read = codec::read(message);
-    let back = read.as_ref().map(codec::write_to_vec);
-    read == plain::read(message).map(record).map_err(refusal)
-        && back.is_ok_and(|back| back.as_deref() == Ok(message)) | read.is_err()
+    let returns = match &read {
+        Ok(record) => codec::write_to_vec(record).as_deref() == Ok(message),
+        Err(_) => true,
+    };
+    returns && read == plain::read(message).map(record).map_err(refusal)
 }
 
 fn writing_agrees(image: &[u8], room: &[u8]) -> bool {
@@ -124,7 +114,7 @@ fn writing_agrees(image: &[u8], room: &[u8]) -> bool {
         return true;
     };
     let ours = record(held.clone());
-    same_edit(
+    same_lent(
         room,
         |room| codec::write(&ours, room),
         |room| plain::write(&held, room),
@@ -137,8 +127,24 @@ fn same_part(ours: Result<&[u8], Refusal>, theirs: Result<&[u8], plain::Refusal>
     ours.map(place) == theirs.map(place).map_err(refusal)
 }
 
-/// The same answer, and the same octets afterwards.
-fn same_edit(
+/// The same answer to an edit with this argument, and the same buffer afterwards.
+fn edit_agrees<A: Copy>(
+    buffer: &[u8],
+    n: u16,
+    argument: A,
+    ours: fn(&mut [u8], usize, A) -> Result<usize, Refusal>,
+    theirs: fn(&mut [u8], usize, A) -> Result<usize, plain::Refusal>,
+) -> bool {
+    let n = usize::from(n);
+    same_lent(
+        buffer,
+        |buffer| ours(buffer, n, argument),
+        |buffer| theirs(buffer, n, argument),
+    )
+}
+
+/// The same answer, and the same octets in lent memory afterwards.
+fn same_lent(
     memory: &[u8],
     ours: impl FnOnce(&mut [u8]) -> Result<usize, Refusal>,
     theirs: impl FnOnce(&mut [u8]) -> Result<usize, plain::Refusal>,
@@ -171,13 +177,20 @@ fn records_over_their_limits() {
 
 #[test]
 fn what_a_parameter_does_not_have_is_not_looked_at() {
-    let mut common = vec![Common::new(0x01, 1), Common::new(0x06, 0x11)];
-    let message = [0x01, 0x01, 0x06, 0x11, 0x00];
+    let area = Transfer {
+        plan: 9,
+        ..Transfer::new(0x90, [1, 2])
+    };
+    let mut common = vec![
+        Common::new(0x01, 1),
+        Common::new(0x06, 0x11),
+        Common::transfer_data(vec![area]),
+    ];
     common[0].transfers = vec![Transfer::new(0x00, [9; 300]); 300];
-    assert_eq!(
-        codec::write_to_vec(&Record { common }).as_deref(),
-        Ok(&message[..])
-    );
+    common[2].value = 9;
+    let message = [0x01, 0x01, 0x06, 0x11, 0xC5, 0x03, 0x90, 0x02, 0x21, 0x00];
+    let written = codec::write_to_vec(&Record { common });
+    assert_eq!(written.as_deref(), Ok(&message[..]));
 }
 
 #[test]
