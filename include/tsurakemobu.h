@@ -28,24 +28,24 @@ extern "C" {
 
 /* Why a call was refused. */
 enum tk_number {
-    TK_ACCEPTED = 0,      /* not refused */
-    TK_OVER_LIMITS = 1,   /* a message without octets or with more than 272, or a record beyond what a record may hold */
-    TK_UNLISTED = 2,      /* a common header that is not in the list */
-    TK_REPEATED = 3,      /* a common parameter for the second time */
-    TK_CUT_SHORT = 4,     /* no end mark, or a common parameter runs past the message's end */
-    TK_NOT_ALLOWED = 5,   /* a user class or signal kind that is not among those allowed */
-    TK_MISSING = 6,       /* the end mark comes without user class or signal kind before it */
-    TK_LEFT_OVER = 7,     /* something follows the end mark */
-    TK_UNUSED_NAME = 8,   /* a transfer name that is not in use */
-    TK_OTHER_PLI = 9,     /* a transfer name under a PLI that it does not have */
+    TK_ACCEPTED = 0,       /* not refused */
+    TK_OVER_LIMITS = 1,    /* a message without octets or with more than 272, or a record beyond what a record may hold */
+    TK_UNLISTED = 2,       /* a common header that is not in the list */
+    TK_REPEATED = 3,       /* a common parameter for the second time */
+    TK_CUT_SHORT = 4,      /* no end mark, or a common parameter runs past the message's end */
+    TK_NOT_ALLOWED = 5,    /* a user class or signal kind that is not among those allowed */
+    TK_MISSING = 6,        /* the end mark comes without user class or signal kind before it */
+    TK_LEFT_OVER = 7,      /* something follows the end mark */
+    TK_UNUSED_NAME = 8,    /* a transfer name that is not in use */
+    TK_OTHER_PLI = 9,      /* a transfer name under a PLI that it does not have */
     TK_REPEATED_NAME = 10, /* a transfer name for the second time */
-    TK_CUT_CONTENTS = 11, /* contents that run past their end, or are not as long as their PLI says */
-    TK_BAD_FORM = 12,     /* a bit that must be 0 is not, contents of the wrong form, or a value too large for its bits */
-    TK_BAD_DIGIT = 13,    /* a digit code without a meaning, or half an octet left over that is not 0 */
+    TK_CUT_CONTENTS = 11,  /* contents that run past their end, or are not as long as their PLI says */
+    TK_BAD_FORM = 12,      /* a bit that must be 0 is not, contents of the wrong form, or a value too large for its bits */
+    TK_BAD_DIGIT = 13,     /* a digit code without a meaning, or half an octet left over that is not 0 */
     TK_TRANSFER_OVER = 14, /* transfer data longer than 255 octets */
-    TK_NO_ROOM = 15,      /* what is lent is too short */
-    TK_ABSENT = 16,       /* the parameter, or the transfer data, is not there */
-    TK_NO_CLASS_LIST = 17 /* the header's code values have no classes */
+    TK_NO_ROOM = 15,       /* what is lent is too short */
+    TK_ABSENT = 16,        /* the parameter, or the transfer data, is not there */
+    TK_NO_CLASS_LIST = 17  /* the header's code values have no classes */
 };
 
 /* The class of a code value. */
