@@ -21,7 +21,7 @@ struct head {
 /* What comes first in an answer; the lent octets stand right after it. */
 struct answer {
     uint64_t packed;  /* what the function returned */
-    uint64_t outside; /* how many octets beside the lent ones were written; it must be 0 */
+    uint64_t outside; /* how much was written that was not lent; it must be 0 */
 };
 
 /* The system's numbers, of x86-64. */
@@ -63,7 +63,7 @@ void *memmove(void *to, const void *from, size_t len) {
 void *memcpy(void *to, const void *from, size_t len) { return memmove(to, from, len); }
 
 /* Reads or writes all of the octets; 0 where the input ends before the first of them. */
-static int transfer(long number, void *octets, size_t len) {
+static int move_octets(long number, void *octets, size_t len) {
     const long descriptor = number == SYS_READ ? 0 : 1;
     size_t done = 0;
     while (done < len) {
@@ -88,6 +88,13 @@ static uint64_t changed_in_guard(const uint8_t *at) {
     uint64_t changed = 0;
     for (size_t i = 0; i < GUARD; i++) changed += at[i] != guard_octet(i);
     return changed;
+}
+
+/* A number by which changed octets are noticed. */
+static uint64_t digest(const uint8_t *octets, size_t len) {
+    uint64_t digest = 0;
+    for (size_t i = 0; i < len; i++) digest = digest * 0x100000001B3 + octets[i] + 1;
+    return digest;
 }
 
 /* Memory for at least so many octets, kept from one request to the next. */
@@ -129,17 +136,19 @@ static void answer_one(const struct head *h) {
     put_guard(front);
     put_guard(middle);
     put_guard(behind);
-    if (!transfer(SYS_READ, fixed, h->fixed_len) || !transfer(SYS_READ, lent, h->lent_len)) leave(1);
+    if (!move_octets(SYS_READ, fixed, h->fixed_len) || !move_octets(SYS_READ, lent, h->lent_len)) leave(1);
+    const uint64_t before = digest(fixed, h->fixed_len);
     struct answer answer;
     answer.packed = call(h, fixed, lent);
     answer.outside = changed_in_guard(front) + changed_in_guard(middle) + changed_in_guard(behind);
+    answer.outside += digest(fixed, h->fixed_len) != before;
     uint8_t *out = memcpy(lent - sizeof answer, &answer, sizeof answer);
-    transfer(SYS_WRITE, out, sizeof answer + h->lent_len);
+    move_octets(SYS_WRITE, out, sizeof answer + h->lent_len);
 }
 
 /* Entered with the stack as the system leaves it, which is aligned for a jump and not for a call. */
 __attribute__((force_align_arg_pointer)) _Noreturn void _start(void) {
     struct head head;
-    while (transfer(SYS_READ, &head, sizeof head)) answer_one(&head);
+    while (move_octets(SYS_READ, &head, sizeof head)) answer_one(&head);
     leave(0);
 }

@@ -11,20 +11,32 @@ use codec::boundary;
 use std::fmt;
 use trial::{answer, input_at, Coverage, Input, Outcome};
 
+/// Octets that stand before and behind lent memory, and must stay.
+const GUARD: [u8; 16] = *b"nothing lent !!!";
+
 /// Puts the input to the proved codec.
+///
+/// # Panics
+///
+/// If octets beside the lent memory were written.
 pub fn proved(input: &Input) -> Outcome {
-    let mut memory = input.lent().to_vec();
+    let len = input.lent().len();
+    let mut memory = [&GUARD, input.lent(), &GUARD].concat();
+    let lent = &mut memory[GUARD.len()..][..len];
     let packed = match input {
-        Input::Read { message, .. } => boundary::read(message, &mut memory),
-        Input::Write { image, .. } => boundary::write(image, &mut memory),
-        Input::Rows { message, .. } => boundary::rows(message, &mut memory),
+        Input::Read { message, .. } => boundary::read(message, lent),
+        Input::Write { image, .. } => boundary::write(image, lent),
+        Input::Rows { message, .. } => boundary::rows(message, lent),
         Input::FindCommon { message, header } => boundary::find_common(message, *header),
         Input::FindTransfer { message, name } => boundary::find_transfer(message, *name),
         Input::Class { header, octet } => boundary::class(*header, *octet),
-        Input::Replace { n, new, .. } => boundary::replace(&mut memory, (*n).into(), new),
-        Input::Append { n, new, .. } => boundary::append(&mut memory, (*n).into(), new),
-        Input::Remove { n, name, .. } => boundary::remove(&mut memory, (*n).into(), *name),
+        Input::Replace { n, new, .. } => boundary::replace(lent, (*n).into(), new),
+        Input::Append { n, new, .. } => boundary::append(lent, (*n).into(), new),
+        Input::Remove { n, name, .. } => boundary::remove(lent, (*n).into(), *name),
     };
+    let around = memory.starts_with(&GUARD) && memory.ends_with(&GUARD);
+    assert!(around, "written beside the lent memory: {input:02X?}");
+    let memory = memory[GUARD.len()..][..len].to_vec();
     Outcome { packed, memory }
 }
 
