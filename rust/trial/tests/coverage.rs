@@ -45,6 +45,32 @@ fn every_possible_answer_occurs() {
     );
 }
 
+#[test]
+fn every_size_occurs() {
+    let (mut full, mut short, mut many_rows) = (0, 0, 0);
+    let (mut past, mut tight) = (0, 0);
+    for index in 0..COUNT / 10 {
+        let input = input_at(SEED, index);
+        let outcome = answer(&input);
+        let accepted = outcome.number() == 0;
+        match &input {
+            Input::Read { message, .. } if accepted => {
+                full += usize::from(message.len() == 272);
+                short += usize::from(message.len() < 12);
+            }
+            Input::Rows { .. } if accepted => many_rows += usize::from(outcome.value() > 50),
+            Input::Replace { buffer, .. } | Input::Append { buffer, .. } if accepted => {
+                past += usize::from(outcome.value() < buffer.len());
+                tight += usize::from(outcome.value() == buffer.len());
+            }
+            _ => {}
+        }
+    }
+    for count in [full, short, many_rows, past, tight] {
+        assert!(count > 10, "{full} {short} {many_rows} {past} {tight}");
+    }
+}
+
 fn counts(names: &Names) -> Vec<(u8, usize)> {
     names.iter().map(|(&n, names)| (n, names.len())).collect()
 }

@@ -1,0 +1,211 @@
+//! The proved codec for NTT's No. 7 service control messages, in Rust's types.
+//!
+//! A message is a sequence of common parameters and an end mark; one of the
+//! parameters, the transfer data, holds transfer parameters of its own. Every
+//! function here asks the codec that is written in Rattle and proved, through
+//! its static library, and only turns arguments and answers into Rust's types:
+//! what is accepted, refused and written is decided there.
+//!
+//! No function panics, whatever it is handed. An answer is what was asked for,
+//! or a [`Refusal`] with a number and a place; lent memory is as it was before
+//! where a call is refused.
+//!
+//! ```
+//! let message = [0x01, 0x01, 0x06, 0x11, 0xC5, 0x03, 0x98, 0x02, 0x21, 0x00];
+//! let record = codec::read(&message)?;
+//! assert_eq!(record.transfer(0x18).map(|dialled| &dialled.values[..]), Some(&[1, 2][..]));
+//! assert_eq!(codec::write_to_vec(&record)?, message);
+//!
+//! let refusal = codec::read(&message[..9]).unwrap_err();
+//! assert_eq!((refusal.number, refusal.place), (codec::Refusal::CUT_SHORT, 9));
+//! # Ok::<(), codec::Refusal>(())
+//! ```
+
+#![deny(unsafe_code)]
+#![warn(missing_docs)]
+
+mod answer;
+#[allow(unsafe_code)]
+pub mod boundary;
+mod image;
+pub mod record;
+mod refusal;
+
+pub use record::{Common, Record, Transfer};
+pub use refusal::Refusal;
+
+use answer::{unpack, Accepted};
+
+// The example in the README is compiled with the tests.
+#[cfg(doctest)]
+#[doc = include_str!("../../README.md")]
+struct Readme;
+
+/// The most octets of a message.
+pub const MESSAGE_MAX: usize = 272;
+/// The most rows of a message, the end mark's among them.
+pub const ROWS_MAX: usize = 59;
+/// Octets of a row in the table that the static library fills.
+const ROW_LEN: usize = 5;
+
+/// Where a parameter stands in a message.
+#[derive(Clone, Copy, Debug, PartialEq, Eq, Hash)]
+pub struct Row {
+    /// The offset of the header.
+    pub offset: usize,
+    /// The header.
+    pub header: u8,
+    /// How many octets the contents have.
+    pub len: usize,
+}
+
+/// What a code value is.
+#[derive(Clone, Copy, Debug, PartialEq, Eq, Hash)]
+pub enum Class {
+    /// It has a meaning.
+    Named,
+    /// It is kept for a use of its own.
+    HeldBack,
+    /// It has no meaning.
+    Spare,
+}
+
+/// The record of a message.
+///
+/// # Errors
+///
+/// Numbers 1 to 13, tried from left to right.
+pub fn read(message: &[u8]) -> Result<Record, Refusal> {
+    let mut octets = [0; image::IMAGE_MAX];
+    let len = unpack(boundary::read(message, &mut octets))?.value;
+    Ok(image::record_of(octets.get(..len).unwrap_or(&octets)))
+}
+
+/// Writes the message of `record` into the front of `room`; gives its length.
+/// The octets behind it stay.
+///
+/// # Errors
+///
+/// Number 1, then 2, 3, 5 and 8 to 14 in the reader's order, at the places
+/// where octets would stand, 6 at the end, and 15 if the room is too short.
+pub fn write(record: &Record, room: &mut [u8]) -> Result<usize, Refusal> {
+    let over = Refusal::new(Refusal::OVER_LIMITS, 0);
+    let octets = image::image_of(record).ok_or(over)?;
+    Ok(unpack(boundary::write(&octets, room))?.value)
+}
+
+/// The message of `record`.
+///
+/// # Errors
+///
+/// As [`write()`], but never 15.
+pub fn write_to_vec(record: &Record) -> Result<Vec<u8>, Refusal> {
+    let mut message = vec![0; MESSAGE_MAX];
+    let len = write(record, &mut message)?;
+    message.truncate(len);
+    Ok(message)
+}
+
+/// A row for each parameter of `message` in the order of their offsets, the
+/// end mark's last.
+///
+/// # Errors
+///
+/// Those of [`read`].
+pub fn rows(message: &[u8]) -> Result<Vec<Row>, Refusal> {
+    let mut table = [0; ROWS_MAX * ROW_LEN];
+    let count = unpack(boundary::rows(message, &mut table))?.value;
+    Ok(table
+        .chunks_exact(ROW_LEN)
+        .take(count)
+        .map(row_of)
+        .collect())
+}
+
+fn row_of(octets: &[u8]) -> Row {
+    let number = |low: usize| usize::from(u16::from_le_bytes([octets[low], octets[low + 1]]));
+    Row {
+        offset: number(0),
+        header: octets[2],
+        len: number(3),
+    }
+}
+
+/// The contents of the common parameter `header`, in `message` itself; those of
+/// C5 are the whole transfer data.
+///
+/// # Errors
+///
+/// Those of [`read`], then 16 at 0 if there is no such parameter, and for 00.
+pub fn find_common(message: &[u8], header: u8) -> Result<&[u8], Refusal> {
+    found_in(message, boundary::find_common(message, header))
+}
+
+/// The contents of the transfer parameter `name`, in `message` itself. The name
+/// is the lower six bits of the header.
+///
+/// # Errors
+///
+/// Those of [`read`], then 16 at 0 if there is no such parameter.
+pub fn find_transfer(message: &[u8], name: u8) -> Result<&[u8], Refusal> {
+    found_in(message, boundary::find_transfer(message, name))
+}
+
+fn found_in(message: &[u8], answer: u64) -> Result<&[u8], Refusal> {
+    let Accepted { place, value } = unpack(answer)?;
+    Ok(message.get(place..place + value).unwrap_or_default())
+}
+
+/// The class of `octet` under the transfer header `header`.
+///
+/// # Errors
+///
+/// 17 at 0 if the header has no classes, 12 at 0 if a bit of the octet is set
+/// that must be 0.
+pub fn class_of(header: u8, octet: u8) -> Result<Class, Refusal> {
+    Ok(match unpack(boundary::class(header, octet))?.value {
+        0 => Class::Named,
+        1 => Class::HeldBack,
+        _ => Class::Spare,
+    })
+}
+
+/// Puts the transfer parameter `new` (its octets, header first) in the place of
+/// the one with its name, in the message in the first `n` octets of `buffer`;
+/// gives the message's new length.
+///
+/// Where the message shrinks, the octets from its new end to the old become 0.
+///
+/// # Errors
+///
+/// 15 at 0 if `n` is beyond the buffer, those of [`read`], then all at 0: 16
+/// without transfer data, 11 without octets, 8, 9, 16 if the name is absent, 11
+/// if octets are too few or too many, 12, 13, 14, and 15 if the buffer is too
+/// short.
+pub fn replace(buffer: &mut [u8], n: usize, new: &[u8]) -> Result<usize, Refusal> {
+    Ok(unpack(boundary::replace(buffer, n, new))?.value)
+}
+
+/// Puts the transfer parameter `new` behind the last of the transfer data, in
+/// the message in the first `n` octets of `buffer`; gives the message's new
+/// length.
+///
+/// # Errors
+///
+/// As [`replace`], but 10 if the name is present where that has 16 if it is
+/// absent.
+pub fn append(buffer: &mut [u8], n: usize, new: &[u8]) -> Result<usize, Refusal> {
+    Ok(unpack(boundary::append(buffer, n, new))?.value)
+}
+
+/// Takes the transfer parameter `name` out of the message in the first `n`
+/// octets of `buffer`; gives the message's new length. The octets from its new
+/// end to the old become 0.
+///
+/// # Errors
+///
+/// 15 at 0 if `n` is beyond the buffer, those of [`read`], then 16 at 0 if there
+/// is no such parameter.
+pub fn remove(buffer: &mut [u8], n: usize, name: u8) -> Result<usize, Refusal> {
+    Ok(unpack(boundary::remove(buffer, n, name))?.value)
+}

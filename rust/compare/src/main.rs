@@ -1,0 +1,64 @@
+//! Compares the two codecs on inputs by seed.
+
+use compare::{compare, proved};
+use std::process::ExitCode;
+use std::time::Instant;
+use trial::{answer, input_at, Outcome};
+
+const USAGE: &str = "\
+usage: compare SEED COUNT        puts so many inputs to both codecs; stops at the first difference
+       compare show SEED INDEX   one input, and what each codec makes of it";
+
+fn main() -> ExitCode {
+    let arguments: Vec<String> = std::env::args().skip(1).collect();
+    let words: Vec<&str> = arguments.iter().map(String::as_str).collect();
+    run(&words).unwrap_or_else(|| {
+        eprintln!("{USAGE}");
+        ExitCode::FAILURE
+    })
+}
+
+/// Does what the words ask; none if they ask nothing that is known.
+fn run(words: &[&str]) -> Option<ExitCode> {
+    match *words {
+        ["show", seed, index] => Some(show(seed.parse().ok()?, index.parse().ok()?)),
+        [seed, count] => Some(compare_all(seed.parse().ok()?, count.parse().ok()?)),
+        _ => None,
+    }
+}
+
+fn compare_all(seed: u64, count: u64) -> ExitCode {
+    let start = Instant::now();
+    match compare(seed, count) {
+        Ok(coverage) => {
+            let seconds = start.elapsed().as_secs_f64();
+            println!("{coverage}\n{count} inputs without a difference in {seconds:.2} s");
+            ExitCode::SUCCESS
+        }
+        Err(difference) => {
+            println!("{difference}");
+            ExitCode::FAILURE
+        }
+    }
+}
+
+fn show(seed: u64, index: u64) -> ExitCode {
+    let input = input_at(seed, index);
+    let (proved, plain) = (proved(&input), answer(&input));
+    println!("{input:02X?}");
+    tell("proved", &proved);
+    tell("plain", &plain);
+    if proved == plain {
+        println!("the same");
+        ExitCode::SUCCESS
+    } else {
+        println!("DIFFERENT");
+        ExitCode::FAILURE
+    }
+}
+
+fn tell(codec: &str, outcome: &Outcome) {
+    let (number, place, value) = (outcome.number(), outcome.place(), outcome.value());
+    println!("{codec}: number {number} place {place} value {value}");
+    println!("memory {:02X?}", outcome.memory);
+}

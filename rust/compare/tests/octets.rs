@@ -1,0 +1,71 @@
+//! The two codecs give the same answers and leave the same octets.
+
+use codec::boundary;
+use trial::input::KINDS;
+use trial::{answer, Input};
+
+const SEED: u64 = 7;
+const COUNT: u64 = 200_000;
+
+#[test]
+fn over_many_inputs() {
+    let coverage =
+        compare::compare(SEED, COUNT).unwrap_or_else(|difference| panic!("{difference}"));
+    println!("{coverage}");
+    for kind in KINDS {
+        assert_eq!(coverage.occurred(kind), kind.possible(), "{kind:?}");
+    }
+}
+
+#[test]
+fn over_all_code_values() {
+    for header in 0..=255 {
+        for octet in 0..=255 {
+            let input = Input::Class { header, octet };
+            assert_eq!(compare::proved(&input), answer(&input), "{input:02X?}");
+        }
+    }
+}
+
+/// The packed form of a refusal.
+fn refused(number: u64, place: u64) -> u64 {
+    number << 32 | place << 16
+}
+
+#[test]
+fn lengths_beyond_any_message() {
+    let long = vec![0x01; 70_000];
+    let mut lent = vec![0x5A; 70_000];
+    assert_eq!(boundary::read(&long, &mut lent), refused(1, 0));
+    assert_eq!(boundary::write(&long, &mut lent), refused(1, 0));
+    assert_eq!(boundary::rows(&long, &mut lent), refused(1, 0));
+    assert_eq!(boundary::find_common(&long, 0x01), refused(1, 0));
+    assert_eq!(boundary::find_transfer(&long, 0x10), refused(1, 0));
+    for n in [70_001, 1 << 32, usize::MAX] {
+        assert_eq!(boundary::replace(&mut lent, n, &long), refused(15, 0));
+        assert_eq!(boundary::append(&mut lent, n, &long), refused(15, 0));
+        assert_eq!(boundary::remove(&mut lent, n, 0x10), refused(15, 0));
+    }
+    assert_eq!(boundary::remove(&mut lent, 70_000, 0x10), refused(1, 0));
+    assert!(lent.iter().all(|&octet| octet == 0x5A));
+}
+
+#[test]
+fn room_beyond_any_message() {
+    let message = [0x01, 0x01, 0x06, 0x11, 0xC5, 0x00, 0x00];
+    let mut buffer = vec![0x5A; 70_000];
+    buffer[..7].copy_from_slice(&message);
+    assert_eq!(boundary::append(&mut buffer, 7, &[0x41, 0x01]), 9);
+    let edited = [0x01, 0x01, 0x06, 0x11, 0xC5, 0x02, 0x41, 0x01, 0x00, 0x5A];
+    assert_eq!(buffer[..10], edited);
+
+    let mut image = vec![0x5A; 70_000];
+    let len = boundary::read(&message, &mut image) as usize;
+    assert_eq!(len, 1 + 3 * 6);
+    assert_eq!(boundary::write(&image[..len], &mut buffer), 7);
+    assert_eq!(buffer[..7], message);
+    assert_eq!(boundary::rows(&message, &mut image), 4);
+    for memory in [image, buffer] {
+        assert!(memory[20..].iter().all(|&octet| octet == 0x5A));
+    }
+}
