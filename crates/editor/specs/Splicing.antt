@@ -26,9 +26,8 @@ use Rattle.editor.specs.Steps.{roomAnswer}
 -- n octets of d, a length octet before it
 pub record Placed (d : List ℕ) (n start end from to : ℕ) : Type 0 where
   pub counted : 1 ≤ start
-  pub inside : start ≤ from
   pub order : from ≤ to
-  pub within : to ≤ end
+  pub within : start + to ≤ end
   pub message : end ≤ n
   pub whole : n ≤ length d
 
@@ -48,7 +47,7 @@ spliceAnswer d n start end old new =
 -- the message so spliced, with C5's length octet
 abbrev pub splicedWith : List ℕ → ℕ → ℕ → ℕ → ℕ → ℕ → List ℕ → List ℕ
 splicedWith d n start end from to new =
-    set (take from d) (start - 1) (dataLength start end (to - from) new) ++ (new ++ drop to (take n d))
+    set (take (start + from) d) (start - 1) (dataLength start end (to - from) new) ++ (new ++ drop (start + to) (take n d))
 
 abbrev pub SplicePromise : List ℕ → ℕ → ℕ → ℕ → ℕ → ℕ → List ℕ → Answer → List ℕ → Type 0
 SplicePromise d n start end from to new r now =
@@ -58,15 +57,15 @@ SplicePromise d n start end from to new r now =
 
 module _ (d : List ℕ) (n start end from to : ℕ) (new : List ℕ) (p : Placed d n start end from to) where
   -- of the splice's tests only the room is left
-  pub no-room-left : spliceFits d n from (to - from) new ≡ false → length d < messageLength n (to - from) new
+  pub no-room-left : spliceFits d n (start + from) (to - from) new ≡ false → length d < messageLength n (to - from) new
   no-room-left e =
-      let a : from + (to - from) ≤ n = omega (arith, p .order, p .within, p .message) in
-      leb-false (messageLength n (to - from) new) (length d) (rw (le-leb (from + (to - from)) n a, le-leb n (length d) (p .whole)) at e)
+      let a : start + from + (to - from) ≤ n = omega (arith, p .order, p .within, p .message) in
+      leb-false (messageLength n (to - from) new) (length d) (rw (le-leb (start + from + (to - from)) n a, le-leb n (length d) (p .whole)) at e)
 
-  pub length-stored : Fitting d n from (to - from) new → set (spliced d n from (to - from) new) (start - 1) (dataLength start end (to - from) new) ≡ holding d n (splicedWith d n start end from to new)
+  pub length-stored : Fitting d n (start + from) (to - from) new → set (spliced d n (start + from) (to - from) new) (start - 1) (dataLength start end (to - from) new) ≡ holding d n (splicedWith d n start end from to new)
   length-stored f =
-      let e : from + (to - from) ≡ to = omega (arith, p .order) in
-      rw e at (set-spliced d n from (to - from) new f (start - 1) (dataLength start end (to - from) new) (omega (arith, p .counted, p .inside)))
+      let e : start + from + (to - from) ≡ start + to = omega (arith, p .order) in
+      rw e at (set-spliced d n (start + from) (to - from) new f (start - 1) (dataLength start end (to - from) new) (omega (arith, p .counted)))
 
 -- ---- the numbers of an edit
 
@@ -75,8 +74,8 @@ pub record Cut (e : Edit) (d : List ℕ) (n start end from to : ℕ) (new : List
   pub splice : Spliced e (take n d) (editedIn e d n)
   pub start-is : start ≡ length (splice .before) + 2
   pub end-is : end ≡ length (splice .before) + 2 + length (splice .front ++ (splice .old ++ splice .back))
-  pub from-is : from ≡ length (splice .before) + 2 + length (splice .front)
-  pub to-is : to ≡ length (splice .before) + 2 + length (splice .front) + length (splice .old)
+  pub from-is : from ≡ length (splice .front)
+  pub to-is : to ≡ length (splice .front) + length (splice .old)
   pub new-is : new ≡ splice .new
   pub room : editingOf e d n ≡ roomAnswer e d n
 
@@ -94,9 +93,8 @@ module _ {e : Edit} {d : List ℕ} {n start end from to : ℕ} {new : List ℕ} 
   cut-placed =
       record {
         counted = omega (arith, c .start-is);
-        inside = omega (arith, c .start-is, c .from-is);
         order = omega (arith, c .from-is, c .to-is);
-        within = omega (arith, c .to-is, c .end-is, parts);
+        within = omega (arith, c .start-is, c .to-is, c .end-is, parts);
         message = omega (arith, c .end-is, parts, whole);
         whole = c .within;
       }
@@ -113,9 +111,10 @@ module _ {e : Edit} {d : List ℕ} {n start end from to : ℕ} {new : List ℕ} 
   message-is : splicedWith d n start end from to new ≡ layout (editedIn e d n)
   message-is =
       let p : start - 1 ≡ length (c .splice .before) + 1 = omega (arith, c .start-is) in
-      let l : from ≤ n = omega (arith, c .from-is, whole) in
-      let t : take from d ≡ take from (take n d) = sym (take-take from n d l) in
-      rw (data-long, p, t, c .from-is, c .to-is, c .new-is) (octets-become e (take n d) (editedIn e d n) (c .splice))
+      let f : start + from ≡ length (c .splice .before) + 2 + length (c .splice .front) = omega (arith, c .start-is, c .from-is) in
+      let g : start + to ≡ length (c .splice .before) + 2 + length (c .splice .front) + length (c .splice .old) = omega (arith, c .start-is, c .to-is) in
+      let t : take (start + from) d ≡ take (start + from) (take n d) = sym (take-take (start + from) n d (omega (arith, f, whole))) in
+      rw (data-long, p, t, f, g, c .new-is) (octets-become e (take n d) (editedIn e d n) (c .splice))
 
   pub cut-edits : (r : Answer) (now : List ℕ) → SplicePromise d n start end from to new r now → EditPromise e d n r now
   unfolding spliceAnswer bufferOf

@@ -8,16 +8,19 @@ use annex::Found;
 use annex::Transfer;
 use octets::splice;
 use reader::finding::common_plain;
-use steps::message_in;
-use steps::new_contents;
-use steps::new_head;
-use steps::whole_search;
+use reader::verdict::verdict;
+use steps::Kind;
+use steps::contents_answer;
+use steps::head_answer;
+use steps::no_spot;
+use steps::spot_in;
 ghost use Rattle.annex.specs.Editing.Edit.{Replacing, Appending, Removing};
 ghost use Rattle.annex.specs.Promises.{EditPromise};
+ghost use Rattle.editor.specs.Steps.{editOf, Brings};
 ghost use Rattle.editor.specs.Splicing.{Placed, SplicePromise};
 
-// The last step: 14, then 15, or new in the place of the octets from index from to before to. They lie in the transfer data, which stands
-// from index start to before end, C5's length octet right before it.
+// The last step: 14, then 15, or new in the place of the octets from index from to before to of the transfer data. That stands from index
+// start to before end, C5's length octet right before it.
 fn splice_in(
     buffer: &mut [u8],
     n: usize,
@@ -36,78 +39,59 @@ fn splice_in(
     if Transfer::MOST_OCTETS < length {
         return Answer::Refused(Answer::TRANSFER_OVER, 0);
     }
-    if !splice(buffer, n, from, old, new) {
+    if !splice(buffer, n, start + from, old, new) {
         return Answer::Refused(Answer::NO_ROOM, 0);
     }
     buffer[start - 1] = length as u8;
     Answer::Accepted(n - old + new.len())
 }
 
-// Replaces the transfer parameter that has the name of new.
-pub fn replace(buffer: &mut [u8], n: usize, new: &[u8]) -> Answer
-    ensures { λ r. ⌜ EditPromise (Replacing (now (new .entry))) (now (buffer .entry)) n r (now (buffer .exit)) ⌝ }
+// The edit of this kind that brings new; a removal brings nothing.
+fn edit(buffer: &mut [u8], n: usize, kind: Kind, new: &[u8]) -> Answer
+    requires { ⌜ Brings kind (now new) ⌝ }
+    ensures { λ r. ⌜ EditPromise (editOf kind (now (new .entry))) (now (buffer .entry)) n r (now (buffer .exit)) ⌝ }
 {
-    let message = message_in(&buffer[..], n);
+    if buffer.len() < n {
+        return Answer::Refused(Answer::NO_ROOM, 0);
+    }
+    let message = verdict(&buffer[..n]);
     let Answer::Accepted(_) = message else {
         return message;
     };
     let Found::At(start, end) = common_plain(&buffer[..n], Common::TRANSFER_DATA) else {
         return Answer::Refused(Answer::ABSENT, 0);
     };
-    let head = new_head(new);
+    let head = head_answer(kind, new);
     let Answer::Accepted(_) = head else {
         return head;
     };
-    let header = new[0];
-    let Found::At(from, to) = whole_search(&buffer[start..end], header % 64) else {
-        return Answer::Refused(Answer::ABSENT, 0);
+    let Found::At(from, to) = spot_in(&buffer[start..end], kind, new) else {
+        return Answer::Refused(no_spot(kind), 0);
     };
-    let contents = new_contents(header, &new[1..]);
+    let contents = contents_answer(new);
     let Answer::Accepted(_) = contents else {
         return contents;
     };
-    splice_in(buffer, n, start, end, start + from, start + to, new)
+    splice_in(buffer, n, start, end, from, to, new)
+}
+
+// Replaces the transfer parameter that has the name of new.
+pub fn replace(buffer: &mut [u8], n: usize, new: &[u8]) -> Answer
+    ensures { λ r. ⌜ EditPromise (Replacing (now (new .entry))) (now (buffer .entry)) n r (now (buffer .exit)) ⌝ }
+{
+    edit(buffer, n, Kind::Replacing, new)
 }
 
 // Puts a transfer parameter behind the others in C5.
 pub fn append(buffer: &mut [u8], n: usize, new: &[u8]) -> Answer
     ensures { λ r. ⌜ EditPromise (Appending (now (new .entry))) (now (buffer .entry)) n r (now (buffer .exit)) ⌝ }
 {
-    let message = message_in(&buffer[..], n);
-    let Answer::Accepted(_) = message else {
-        return message;
-    };
-    let Found::At(start, end) = common_plain(&buffer[..n], Common::TRANSFER_DATA) else {
-        return Answer::Refused(Answer::ABSENT, 0);
-    };
-    let head = new_head(new);
-    let Answer::Accepted(_) = head else {
-        return head;
-    };
-    let header = new[0];
-    let Found::Nowhere = whole_search(&buffer[start..end], header % 64) else {
-        return Answer::Refused(Answer::REPEATED_NAME, 0);
-    };
-    let contents = new_contents(header, &new[1..]);
-    let Answer::Accepted(_) = contents else {
-        return contents;
-    };
-    splice_in(buffer, n, start, end, end, end, new)
+    edit(buffer, n, Kind::Appending, new)
 }
 
 // Removes the transfer parameter of this name.
 pub fn remove(buffer: &mut [u8], n: usize, name: u8) -> Answer
     ensures { λ r. ⌜ EditPromise (Removing name) (now (buffer .entry)) n r (now (buffer .exit)) ⌝ }
 {
-    let message = message_in(&buffer[..], n);
-    let Answer::Accepted(_) = message else {
-        return message;
-    };
-    let Found::At(start, end) = common_plain(&buffer[..n], Common::TRANSFER_DATA) else {
-        return Answer::Refused(Answer::ABSENT, 0);
-    };
-    let Found::At(from, to) = whole_search(&buffer[start..end], name) else {
-        return Answer::Refused(Answer::ABSENT, 0);
-    };
-    splice_in(buffer, n, start, end, start + from, start + to, b"")
+    edit(buffer, n, Kind::Removing(name), b"")
 }

@@ -1,4 +1,4 @@
-// The steps of an edit that come before anything is written: the message, the new parameter by itself, and where the edit is made.
+// The steps of an edit between reading the message and the last: what the edit brings, by itself, and where in the transfer data it goes.
 use annex::Answer;
 use annex::Fault;
 use annex::Found;
@@ -11,26 +11,22 @@ use parameter::units::extent_of;
 use parameter::units::lead;
 use parameter::units::octets_after;
 use reader::finding::search;
-use reader::verdict::verdict;
-ghost use mathlib.Core.List.{_∷_};
+ghost use mathlib.Core.Path.{_≡_};
+ghost use Rattle.annex.specs.Editing.{newHead};
 ghost use Rattle.annex.specs.Promises.{Gives};
-ghost use Rattle.annex.specs.Editing.{newContents};
-ghost use Rattle.editor.specs.Steps.{messageAnswer, headAnswer};
-ghost use Rattle.editor.specs.Whole.{wholeSearch};
+ghost use Rattle.annex.specs.declared.Answer.the-variants.{Accepted};
+ghost use Rattle.editor.specs.Steps.{headAnswer, spotIn, noSpot, contentsAnswer};
 
-// The message in the buffer's first n octets: 15 if n is beyond the buffer, then reading's numbers.
-pub fn message_in(buffer: &[u8], n: usize) -> Answer
-    ensures { λ r. ⌜ Gives (messageAnswer (now (buffer .entry)) n) r ⌝ }
-{
-    if buffer.len() < n {
-        return Answer::Refused(Answer::NO_ROOM, 0);
-    }
-    verdict(&buffer[..n])
+// The kinds of edit. One that removes is told the name, the others have it in the octets that they bring.
+pub enum Kind {
+    Replacing,
+    Appending,
+    Removing(u8),
 }
 
 // A new parameter's header: 11 if there is none, 8, 9.
-pub fn new_head(new: &[u8]) -> Answer
-    ensures { λ r. ⌜ Gives (headAnswer (now (new .entry))) r ⌝ }
+fn new_head(new: &[u8]) -> Answer
+    ensures { λ r. ⌜ r ≡ newHead (now (new .entry)) (Accepted 0) ⌝ }
 {
     if new.len() == 0 {
         return Answer::Refused(Answer::CUT_CONTENTS, 0);
@@ -45,26 +41,63 @@ pub fn new_head(new: &[u8]) -> Answer
     Answer::Accepted(0)
 }
 
-// The octets xs after its header: 11 if they are too few or some are left over, 12, 13.
-pub fn new_contents(header: u8, xs: &[u8]) -> Answer
-    ensures { λ r. ⌜ Gives (newContents (header ∷ now (xs .entry))) r ⌝ }
+// The header of what an edit brings; a removal brings nothing.
+pub fn head_answer(kind: Kind, new: &[u8]) -> Answer
+    ensures { λ r. ⌜ Gives (headAnswer kind (now (new .entry))) r ⌝ }
 {
+    match kind {
+        Kind::Replacing => new_head(new),
+        Kind::Appending => new_head(new),
+        Kind::Removing(_) => Answer::Accepted(0),
+    }
+}
+
+// The octets after that header: 11 if they are too few or some are left over, 12, 13. Nothing brought is accepted.
+pub fn contents_answer(new: &[u8]) -> Answer
+    ensures { λ r. ⌜ Gives (contentsAnswer (now (new .entry))) r ⌝ }
+{
+    if new.len() == 0 {
+        return Answer::Accepted(0);
+    }
+    let header = new[0];
     let e = extent_of(header);
-    let n = octets_after(e, octet_at(xs, 0));
-    if xs.len() != n {
+    let n = octets_after(e, octet_at(new, 1));
+    if new.len() - 1 != n {
         return Answer::Refused(Answer::CUT_CONTENTS, 0);
     }
-    let start = lead(e);
-    let f = contents_fault(header, &xs[start..]);
+    let start = 1 + lead(e);
+    let f = contents_fault(header, &new[start..]);
     match f {
         Fault::Sound => Answer::Accepted(0),
         Fault::Bad(k, _) => Answer::Refused(k, 0),
     }
 }
 
-// The whole parameter of this name in the transfer data t, from its header to its end, by the length rule alone.
-pub fn whole_search(t: &[u8], name: u8) -> Found
-    ensures { λ r. ⌜ Gives (wholeSearch name (now (t .entry))) r ⌝ }
+// Where in the transfer data t an edit is made: at the whole parameter of its name; if it appends, at the end, unless the name stands in t.
+pub fn spot_in(t: &[u8], kind: Kind, new: &[u8]) -> Found
+    ensures { λ r. ⌜ Gives (spotIn kind (now (new .entry)) (now (t .entry))) r ⌝ }
 {
-    search(t, Key::Name(name))
+    let name = octet_at(new, 0) % 64;
+    match kind {
+        Kind::Replacing => search(t, Key::Name(name)),
+        Kind::Appending => {
+            let Found::Nowhere = search(t, Key::Name(name)) else {
+                return Found::Nowhere;
+            };
+            let end = t.len();
+            Found::At(end, end)
+        }
+        Kind::Removing(x) => search(t, Key::Name(x)),
+    }
+}
+
+// The number of the refusal if it is nowhere: 10 if it appends, else 16.
+pub fn no_spot(kind: Kind) -> u8
+    ensures { λ r. ⌜ Gives (noSpot kind) r ⌝ }
+{
+    match kind {
+        Kind::Replacing => Answer::ABSENT,
+        Kind::Appending => Answer::REPEATED_NAME,
+        Kind::Removing(_) => Answer::ABSENT,
+    }
 }

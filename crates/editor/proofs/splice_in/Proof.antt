@@ -1,5 +1,5 @@
 -- `splice_in` meets its contract: its test is 14, the splice refuses for want of room alone, and the octet stored is C5's length octet.
-use Prim.Native.Nat.{_-_}
+use Prim.Native.Nat.{_+_, _-_}
 use mathlib.Core.Path.{refl, sym, _∙_}
 use borrow.Author.Needs.{needs}
 use borrow.Author.Tests.{lt-ltb, le-ltb, not-true, not-false}
@@ -27,7 +27,7 @@ returns-3 c =
     let s = c .before .before .before in
     let a = s .before .before .before .before .before in
     let t = not-false _ (c .if2 .left) in
-    let fit = told-fitting (a .args .buffer .now) (a .args .n) (a .args .from) (a .args .to - a .args .from) (a .args .new .now) (sym (s .splice .ensures .0) ∙ t) in
+    let fit = told-fitting (a .args .buffer .now) (a .args .n) (a .args .start + a .args .from) (a .args .to - a .args .from) (a .args .new .now) (sym (s .splice .ensures .0) ∙ t) in
     (rw (le-ltb _ _ (s .before .before .if1 .left), le-ltb _ _ (fit .room)), rw (s .splice .ensures .1, t) (length-stored _ _ _ _ _ _ _ (a .pre) fit))
 
 pub splice-in-spec : {M : Type 1} → statement M
@@ -39,6 +39,7 @@ splice-in-spec =
     (λ c. search needs)
     (λ c. search needs)
     returns
+    (λ c. search needs)
     (λ c κs. search needs)
     (λ c. search needs)
     returns-2
