@@ -108,9 +108,9 @@ abbrev pub startOf : Found → ℕ
 startOf (At s e) = s
 startOf Nowhere = 0
 
-abbrev pub endOf : Found → ℕ
-endOf (At s e) = e
-endOf Nowhere = 0
+abbrev pub stopOf : Found → ℕ
+stopOf (At s e) = e
+stopOf Nowhere = 0
 
 -- the classes as numbers, and the number, place and class of a class answer
 abbrev pub classValueOf : Class → ℕ

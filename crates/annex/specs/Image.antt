@@ -79,8 +79,8 @@ more x n (Taken xs k) = Taken (x ∷ xs) (n + k)
 more x n Short = Short
 
 -- the transfer parameter at the front of octets; its fields are taken as they stand
-abbrev pub headAt : List ℕ → Transfer
-headAt s =
+abbrev pub headFront : List ℕ → Transfer
+headFront s =
     record {
       header = getD s 0 0;
       notification = getD s 1 0;
@@ -94,41 +94,41 @@ headAt s =
       len = getD s 9 0 + 256 * getD s 10 0;
     }
 
-abbrev pub itemAt : List ℕ → Item
-itemAt s = rawItem (headAt s) (take (headAt s .len) (drop 11 s))
+abbrev pub itemFront : List ℕ → Item
+itemFront s = rawItem (headFront s) (take (headFront s .len) (drop 11 s))
 
 -- and the octets that it takes
 abbrev pub itemSize : List ℕ → ℕ
-itemSize s = 11 + headAt s .len
+itemSize s = 11 + headFront s .len
 
 -- n of them
-unfoldable pub itemsAt : ℕ → List ℕ → Front Item
-itemsAt zero s = Taken [] 0
-itemsAt (suc n) s =
-    cond (leb (itemSize s) (length s)) (more (itemAt s) (itemSize s) (itemsAt n (drop (itemSize s) s))) Short
+unfoldable pub itemsFront : ℕ → List ℕ → Front Item
+itemsFront zero s = Taken [] 0
+itemsFront (suc n) s =
+    cond (leb (itemSize s) (length s)) (more (itemFront s) (itemSize s) (itemsFront n (drop (itemSize s) s))) Short
 
 -- the common parameter at the front of octets; where it is no C5 its count is not looked at
-abbrev pub commonAt : List ℕ → Common
-commonAt s =
+abbrev pub commonFront : List ℕ → Common
+commonFront s =
     record {
       header = getD s 0 0;
       value = getD s 1 0 + 256 * getD s 2 0 + 65536 * getD s 3 0 + 16777216 * getD s 4 0;
       transfers = cond (eqb (getD s 0 0) transfer-data) (getD s 5 0) 0;
     }
 
-abbrev pub partAt : List ℕ → List Item → Part
-partAt s is = record { header = commonAt s .header; value = commonAt s .value; items = is }
+abbrev pub partFront : List ℕ → List Item → Part
+partFront s is = record { header = commonFront s .header; value = commonFront s .value; items = is }
 
 -- the head s with these transfer parameters behind it, and what follows them
 abbrev pub partThen : List ℕ → Front Item → (ℕ → Front Part) → Front Part
-partThen s (Taken is k) rest = more (partAt s is) (6 + k) (rest (6 + k))
+partThen s (Taken is k) rest = more (partFront s is) (6 + k) (rest (6 + k))
 partThen s Short rest = Short
 
 -- n of them
-unfoldable pub partsAt : ℕ → List ℕ → Front Part
-partsAt zero s = Taken [] 0
-partsAt (suc n) s =
-    cond (leb 6 (length s)) (partThen s (itemsAt (commonAt s .transfers) (drop 6 s)) (λ k. partsAt n (drop k s))) Short
+unfoldable pub partsFront : ℕ → List ℕ → Front Part
+partsFront zero s = Taken [] 0
+partsFront (suc n) s =
+    cond (leb 6 (length s)) (partThen s (itemsFront (commonFront s .transfers) (drop 6 s)) (λ k. partsFront n (drop k s))) Short
 
 -- no record: 1 at 0, and the empty struct
 abbrev pub noImage : Imaged
@@ -147,4 +147,4 @@ imagedBy n Short = noImage
 -- the record of an image: the count of its common parameters comes first
 unfoldable pub imagedOf : List ℕ → Imaged
 imagedOf [] = noImage
-imagedOf (n ∷ s) = imagedBy (length s) (partsAt n s)
+imagedOf (n ∷ s) = imagedBy (length s) (partsFront n s)

@@ -19,26 +19,26 @@ use Rattle.annex.specs.declared.Row.{Row}
 
 -- ---- answers
 
-abbrev pub packed : ℕ → ℕ → ℕ → ℕ
-packed number place value = number * 4294967296 + place % 65536 * 65536 + value % 65536
+abbrev pub oneNumber : ℕ → ℕ → ℕ → ℕ
+oneNumber number place value = number * 4294967296 + place % 65536 * 65536 + value % 65536
 
 -- a count, or number and place
 abbrev pub packedAnswer : Answer → ℕ
-packedAnswer (Accepted n) = packed 0 0 n
-packedAnswer (Refused k p) = packed k p 0
+packedAnswer (Accepted n) = oneNumber 0 0 n
+packedAnswer (Refused k p) = oneNumber k p 0
 
 -- where contents start and how many octets they have, or number and place
 abbrev pub packedLength : Answer → ℕ → ℕ
-packedLength (Accepted s) len = packed 0 s len
-packedLength (Refused k p) len = packed k p 0
+packedLength (Accepted s) len = oneNumber 0 s len
+packedLength (Refused k p) len = oneNumber k p 0
 
 abbrev pub packedStretch : Answer → List ℕ → ℕ
 packedStretch a part = packedLength a (length part)
 
 -- 0 named, 1 held back, 2 spare, or number and place
 abbrev pub packedClass : ClassAnswer → ℕ
-packedClass (classes.Is c) = packed 0 0 (classValueOf c)
-packedClass (classes.Refused k p) = packed k p 0
+packedClass (classes.Is c) = oneNumber 0 0 (classValueOf c)
+packedClass (classes.Refused k p) = oneNumber k p 0
 
 -- ---- a message read to its record's image
 

@@ -1,4 +1,4 @@
--- Places and values are below 2^16 in every answer that is packed, so that nothing of it is lost: packed, its number, place and value can be
+-- Places and values are below 2^16 in every answer that is oneNumber, so that nothing of it is lost: oneNumber, its number, place and value can be
 -- told again.
 use Prim.Native.Nat.{ℕ, zero, suc, _+_, _-_, _/_, _%_, _≤_, _<_}
 use native.Mathlib.Omega.{arith}
@@ -58,7 +58,7 @@ use Rattle.annex.specs.Reading.{
   verdictOf,
   recordOf,
 }
-use Rattle.annex.specs.Packed.{packed, packedAnswer, row-octets, octetSpans}
+use Rattle.annex.specs.Packed.{oneNumber, packedAnswer, row-octets, octetSpans}
 use Rattle.annex.specs.Finding.{foundAnswer, foundPart, commonFound, transferFound, findAnswer, findPart}
 use Rattle.annex.specs.Spans.{rowsOf, spansOf}
 use Rattle.annex.specs.Editing.{Edit, newHeader, newAfter, newContents, present, editRefusal, edited, recordEditing, editingOf}
@@ -81,13 +81,13 @@ use Rattle.theorems.specs.Messages.{message-read}
 use Rattle.theorems.specs.Layouts.{laid-then-read}
 use Rattle.theorems.specs.Edits.{OfOctets, edited-allowed}
 
--- ---- what is packed
+-- ---- what is oneNumber
 
 -- neither the place nor the count is over n
 abbrev pub Upto : ℕ → Answer → Type 0
 Upto n a = (placeOf a ≤ n) × (givenOf a ≤ n)
 
-pub parts-back : (k p v : ℕ) → p < 65536 → v < 65536 → (packed k p v / 4294967296 ≡ k) × (packed k p v / 65536 % 65536 ≡ p) × (packed k p v % 65536 ≡ v)
+pub parts-back : (k p v : ℕ) → p < 65536 → v < 65536 → (oneNumber k p v / 4294967296 ≡ k) × (oneNumber k p v / 65536 % 65536 ≡ p) × (oneNumber k p v % 65536 ≡ v)
 parts-back k p v h l = (omega arith, omega arith, omega arith)
 
 pub answer-back : (a : Answer) → Upto 65535 a → (packedAnswer a / 4294967296 ≡ numberOf a) × (packedAnswer a / 65536 % 65536 ≡ placeOf a) × (packedAnswer a % 65536 ≡ givenOf a)

@@ -54,7 +54,7 @@ use Rattle.annex.specs.Writing.{
   structWriting,
   writingOf,
 }
-use Rattle.annex.specs.Image.{Front, imageOf, partsAt, noImage, isWithin, imagedBy, imagedOf}
+use Rattle.annex.specs.Image.{Front, imageOf, partsFront, noImage, isWithin, imagedBy, imagedOf}
 use Rattle.annex.specs.Image.Front.{Taken, Short}
 use Rattle.annex.specs.Packed.{imageReading, imageWriting}
 use Rattle.annex.specs.declared.Answer.{Answer}
@@ -186,7 +186,7 @@ writing-upto s room =
 pub write-upto : (image : List ℕ) (room : ℕ) → Upto 384 (imageWriting image room)
 unfolding imageWriting imagedOf
 write-upto [] room = (omega arith, omega arith)
-write-upto (n ∷ s) room = go (partsAt n s)
+write-upto (n ∷ s) room = go (partsFront n s)
   where
     go : (f : Front Part) → Upto 384 (andThen (imagedBy (length s) f .answer) (λ _. writingOf (imagedBy (length s) f .held) room))
     go Short = (omega arith, omega arith)

@@ -25,11 +25,11 @@ ghost use Prim.Native.Nat.{_≤_};
 ghost use lib.ListN.{length, drop};
 ghost use Rattle.annex.specs.Answers.{classValueOf};
 ghost use Rattle.annex.specs.Editing.{Edit.Replacing, Edit.Appending, Edit.Removing};
-ghost use Rattle.annex.specs.Packed.{packed, packedAnswer, packedLength, rowOctets};
+ghost use Rattle.annex.specs.Packed.{oneNumber, packedAnswer, packedLength, rowOctets};
 ghost use Rattle.annex.specs.Promises.{TkReadPromise, TkWritePromise, TkRowsPromise, TkFindCommonPromise, TkFindTransferPromise, TkClassPromise, TkEditPromise};
 
 fn pack(number: u8, place: usize, value: usize) -> u64
-    ensures { λ r. ⌜ r ≡ packed number place value ⌝ }
+    ensures { λ r. ⌜ r ≡ oneNumber number place value ⌝ }
 {
     let upper = number as u64 * 4294967296;
     let middle = (place % 65536) as u64 * 65536;

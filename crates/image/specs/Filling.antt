@@ -12,7 +12,7 @@ use Rattle.annex.specs.Heads.{most-commons, most-transfers}
 use Rattle.annex.specs.Items.{Item, Part}
 use Rattle.annex.specs.Allowed.{itemsIn}
 use Rattle.annex.specs.Records.{headOf, commonHeadOf, valuesOf, pack}
-use Rattle.annex.specs.Image.{Front, more, headAt, itemAt, itemSize, itemsAt, commonAt, partAt, partThen, partsAt, noImage, isWithin, imagedBy, imagedOf}
+use Rattle.annex.specs.Image.{Front, more, headFront, itemFront, itemSize, itemsFront, commonFront, partFront, partThen, partsFront, noImage, isWithin, imagedBy, imagedOf}
 use Rattle.annex.specs.Image.Front.{Taken, Short}
 use Rattle.annex.specs.declared.Common.{Common}
 use Rattle.annex.specs.declared.Record.{Record}
@@ -24,7 +24,7 @@ use Rattle.image.specs.declared.reading.Filled.{Filled}
 
 -- the transfer parameter at the front of octets is whole, and has a place after k others and room for its values after the used ones
 abbrev pub fitsAt : List ℕ → ℕ → ℕ → Bool
-fitsAt s k used = leb (itemSize s) (length s) && (ltb k most-transfers && leb (used + headAt s .len) 512)
+fitsAt s k used = leb (itemSize s) (length s) && (ltb k most-transfers && leb (used + headFront s .len) 512)
 
 abbrev pub unfilled : Filled
 unfilled = record { whole = false; held = emptyRecord; transfers = 0; used = 0; octets = 0 }
@@ -48,23 +48,23 @@ filledBy q k used i Short = unfilled
 pub record Room (s : List ℕ) (k used : ℕ) : Type 0 where
   pub whole : itemSize s ≤ length s
   pub place : k < most-transfers
-  pub values : used + headAt s .len ≤ 512
+  pub values : used + headFront s .len ≤ 512
 
 pub has-room : (s : List ℕ) (k used : ℕ) → fitsAt s k used ≡ true → Room s k used
 has-room s k used e =
     let w = leb (itemSize s) (length s) in
     let p = ltb k most-transfers in
-    let v = leb (used + headAt s .len) 512 in
+    let v = leb (used + headFront s .len) 512 in
     let r = and-right w (p && v) e in
     record {
       whole = leb-true (itemSize s) (length s) (and-left w (p && v) e);
       place = ltb-true k most-transfers (and-left p v r);
-      values = leb-true (used + headAt s .len) 512 (and-right p v r);
+      values = leb-true (used + headFront s .len) 512 (and-right p v r);
     }
 
 -- a whole parameter has the values that its head tells
-pub values-told : (s : List ℕ) → itemSize s ≤ length s → length (itemAt s .values) ≡ headAt s .len
-values-told s h = length-take-le (headAt s .len) (drop 11 s) (rw (length-drop 11 s) (omega arith))
+pub values-told : (s : List ℕ) → itemSize s ≤ length s → length (itemFront s .values) ≡ headFront s .len
+values-told s h = length-take-le (headFront s .len) (drop 11 s) (rw (length-drop 11 s) (omega arith))
 
 -- a parameter put in, the rest behind it
 filled-more : (q : Record) (x : Item) (k used i n : ℕ) (f : Front Item) → filledBy q k used i (more x n f) ≡ filledBy (record { commons = q .commons; common = q .common; transfer = set (q .transfer) k (headOf x); values = sets (q .values) used (x .values) }) (k + 1) (used + length (x .values)) (i + n) f
@@ -90,35 +90,35 @@ filled-over q x k used i n (Taken is m) h =
     neither (leb (k + suc (length is)) most-transfers) (leb (used + length (x .values ++ valuesOf is)) 512) _ unfilled
     (λ a b. h (omega (arith, leb-true (k + suc (length is)) most-transfers a)) (omega (arith, leb-true (used + length (x .values ++ valuesOf is)) 512 b, length-append (x .values) (valuesOf is))))
 
-pub filled-stop : (q : Record) (s : List ℕ) (k used i n : ℕ) → fitsAt s k used ≡ false → filledBy q k used i (itemsAt (suc n) s) ≡ unfilled
-unfolding itemsAt
+pub filled-stop : (q : Record) (s : List ℕ) (k used i n : ℕ) → fitsAt s k used ≡ false → filledBy q k used i (itemsFront (suc n) s) ≡ unfilled
+unfolding itemsFront
 filled-stop q s k used i n e = go (leb (itemSize s) (length s)) refl e
   where
-    go : (b : Bool) → leb (itemSize s) (length s) ≡ b → b && (ltb k most-transfers && leb (used + headAt s .len) 512) ≡ false → filledBy q k used i (cond b (more (itemAt s) (itemSize s) (itemsAt n (drop (itemSize s) s))) Short) ≡ unfilled
+    go : (b : Bool) → leb (itemSize s) (length s) ≡ b → b && (ltb k most-transfers && leb (used + headFront s .len) 512) ≡ false → filledBy q k used i (cond b (more (itemFront s) (itemSize s) (itemsFront n (drop (itemSize s) s))) Short) ≡ unfilled
     go false w f = refl
     go true w f =
-        filled-over q (itemAt s) k used i (itemSize s) (itemsAt n (drop (itemSize s) s))
+        filled-over q (itemFront s) k used i (itemSize s) (itemsFront n (drop (itemSize s) s))
         (λ p v.
-        let l : used + headAt s .len ≤ 512 = omega (arith, values-told s (leb-true (itemSize s) (length s) w)) in
-        let t = rw (lt-ltb k most-transfers p, le-leb (used + headAt s .len) 512 l) at f in
+        let l : used + headFront s .len ≤ 512 = omega (arith, values-told s (leb-true (itemSize s) (length s) w)) in
+        let t = rw (lt-ltb k most-transfers p, le-leb (used + headFront s .len) 512 l) at f in
         let z : _≡_ {A = ℕ} 0 1 = cc in omega arith)
 
 -- the parameter at i of the octets, with its values from there to its end
 pub filled-turn : (q : Record) (s : List ℕ) (k used i n : ℕ) → fitsAt (drop i s) k used ≡ true →
-    let t = headAt (drop i s) in
-    filledBy q k used i (itemsAt (suc n) (drop i s)) ≡ filledBy (record { commons = q .commons; common = q .common; transfer = set (q .transfer) k t; values = sets (q .values) used (take (t .len) (drop (i + 11) s)) }) (k + 1) (used + t .len) (i + 11 + t .len) (itemsAt n (drop (i + 11 + t .len) s))
-unfolding itemsAt
+    let t = headFront (drop i s) in
+    filledBy q k used i (itemsFront (suc n) (drop i s)) ≡ filledBy (record { commons = q .commons; common = q .common; transfer = set (q .transfer) k t; values = sets (q .values) used (take (t .len) (drop (i + 11) s)) }) (k + 1) (used + t .len) (i + 11 + t .len) (itemsFront n (drop (i + 11 + t .len) s))
+unfolding itemsFront
 filled-turn q s k used i n e =
     let d = drop i s in
     let r = has-room d k used e in
     let l = values-told d (r .whole) in
-    let a : i + (11 + headAt d .len) ≡ i + 11 + headAt d .len = omega arith in
-    let o : drop (itemSize d) d ≡ drop (i + 11 + headAt d .len) s = drop-drop (itemSize d) i s ∙ ap (λ (m : ℕ). drop m s) a in
-    rw (le-leb (itemSize d) (length d) (r .whole)) (filled-more q (itemAt d) k used i (itemSize d) (itemsAt n (drop (itemSize d) d)) ∙ rw (l, a, o, drop-drop 11 i s))
+    let a : i + (11 + headFront d .len) ≡ i + 11 + headFront d .len = omega arith in
+    let o : drop (itemSize d) d ≡ drop (i + 11 + headFront d .len) s = drop-drop (itemSize d) i s ∙ ap (λ (m : ℕ). drop m s) a in
+    rw (le-leb (itemSize d) (length d) (r .whole)) (filled-more q (itemFront d) k used i (itemSize d) (itemsFront n (drop (itemSize d) d)) ∙ rw (l, a, o, drop-drop 11 i s))
 
 -- none left
-pub filled-end : (q : Record) (s : List ℕ) (k used i : ℕ) → k ≤ most-transfers → used ≤ 512 → filledBy q k used i (itemsAt 0 s) ≡ record { whole = true; held = q; transfers = k; used = used; octets = i }
-unfolding itemsAt valuesOf
+pub filled-end : (q : Record) (s : List ℕ) (k used i : ℕ) → k ≤ most-transfers → used ≤ 512 → filledBy q k used i (itemsFront 0 s) ≡ record { whole = true; held = q; transfers = k; used = used; octets = i }
+unfolding itemsFront valuesOf
 filled-end q s k used i hk hu =
     let ek : k + 0 ≡ k = omega arith in
     let eu : used + 0 ≡ used = omega arith in
@@ -205,15 +205,15 @@ counted-more : {A : Type 0} (x : A) (n l m : ℕ) (f : Front A) → m ≤ l → 
 counted-more x n l m Short h c = tt
 counted-more x n l m (Taken xs k) h c = (ap suc (c .0), omega (arith, c .1))
 
-pub items-counted : (n : ℕ) (s : List ℕ) → Counted n (length s) (itemsAt n s)
-unfolding itemsAt
+pub items-counted : (n : ℕ) (s : List ℕ) → Counted n (length s) (itemsFront n s)
+unfolding itemsFront
 items-counted zero s = (refl, omega arith)
 items-counted (suc n) s = go (leb (itemSize s) (length s)) refl (rw (length-drop (itemSize s) s) at (items-counted n (drop (itemSize s) s)))
   where
-    go : (b : Bool) → leb (itemSize s) (length s) ≡ b → Counted n (length s - itemSize s) (itemsAt n (drop (itemSize s) s)) → Counted (suc n) (length s) (cond b (more (itemAt s) (itemSize s) (itemsAt n (drop (itemSize s) s))) Short)
+    go : (b : Bool) → leb (itemSize s) (length s) ≡ b → Counted n (length s - itemSize s) (itemsFront n (drop (itemSize s) s)) → Counted (suc n) (length s) (cond b (more (itemFront s) (itemSize s) (itemsFront n (drop (itemSize s) s))) Short)
     go false e c = tt
     go true e c =
-        counted-more (itemAt s) n (length s) (itemSize s) (itemsAt n (drop (itemSize s) s)) (leb-true (itemSize s) (length s) e) c
+        counted-more (itemFront s) n (length s) (itemSize s) (itemsFront n (drop (itemSize s) s)) (leb-true (itemSize s) (length s) e) c
 
 -- the transfer parameters of a part put in
 record Put (q : Record) (k used : ℕ) (is : List Item) (m : ℕ) (f : Filled) : Type 0 where
@@ -244,12 +244,12 @@ filled-put q k used is m f e w = go (leb (k + length is) most-transfers) refl (l
 -- a part after six others, or whose transfer parameters are not whole or have no room
 part-over : (n : ℕ) (q : Record) (k used i : ℕ) (s : List ℕ) (j : Front Item) (rest : ℕ → Front Part) → most-commons ≤ q .commons → imagedFrom n q k used i (partThen s j rest) ≡ noImage
 part-over n q k used i s Short rest h = refl
-part-over n q k used i s (Taken is m) rest h = imaged-over n q k used i (6 + m) (partAt s is) (rest (6 + m)) (λ c t v. omega arith)
+part-over n q k used i s (Taken is m) rest h = imaged-over n q k used i (6 + m) (partFront s is) (rest (6 + m)) (λ c t v. omega arith)
 
 part-stop : (n : ℕ) (q : Record) (k used i : ℕ) (s : List ℕ) (j : Front Item) (rest : ℕ → Front Part) (f : Filled) → f ≡ filledBy q k used 0 j → f .whole ≡ false → imagedFrom n q k used i (partThen s j rest) ≡ noImage
 part-stop n q k used i s Short rest f e w = refl
 part-stop n q k used i s (Taken is m) rest f e w =
-    imaged-over n q k used i (6 + m) (partAt s is) (rest (6 + m))
+    imaged-over n q k used i (6 + m) (partFront s is) (rest (6 + m))
     (λ c t v.
     let g : filledBy q k used 0 (Taken is m) .whole ≡ true = rw (le-leb (k + length is) most-transfers t, le-leb (used + length (valuesOf is)) 512 v) in
     let g′ : f .whole ≡ true = ap (λ (x : Filled). x .whole) e ∙ g in
@@ -259,9 +259,9 @@ part-stop n q k used i s (Taken is m) rest f e w =
 abbrev pub withHead : Record → ℕ → Common → Record
 withHead q k c = record { commons = k + 1; common = set (q .common) k c; transfer = q .transfer; values = q .values }
 
-part-put-in : (n : ℕ) (q : Record) (k used i : ℕ) (s : List ℕ) (is : List Item) (m : ℕ) (rest : ℕ → Front Part) (f : Filled) (c : Common) → c ≡ commonHeadOf (partAt s is) → Put q k used is m f → imagedFrom n q k used i (partThen s (Taken is m) rest) ≡ imagedFrom n (withHead (f .held) (q .commons) c) (f .transfers) (f .used) (i + 6 + f .octets) (rest (6 + f .octets))
+part-put-in : (n : ℕ) (q : Record) (k used i : ℕ) (s : List ℕ) (is : List Item) (m : ℕ) (rest : ℕ → Front Part) (f : Filled) (c : Common) → c ≡ commonHeadOf (partFront s is) → Put q k used is m f → imagedFrom n q k used i (partThen s (Taken is m) rest) ≡ imagedFrom n (withHead (f .held) (q .commons) c) (f .transfers) (f .used) (i + 6 + f .octets) (rest (6 + f .octets))
 part-put-in n q k used i s is m rest f c hc u =
-    let p = partAt s is in
+    let p = partFront s is in
     let same : f .held .commons ≡ q .commons = ap (λ (r : Record). r .commons) (u .held) in
     let h : (ps : List Part) → withParts q (p ∷ ps) k used ≡ withParts (withHead (f .held) (q .commons) c) ps (f .transfers) (f .used) =
     λ ps.
@@ -277,12 +277,12 @@ pub record Next (n : ℕ) (q : Record) (k used i l : ℕ) (whole rest : Front Pa
   pub values : f .used ≤ 512
   pub octets : f .octets ≤ l
 
-part-next : (n : ℕ) (q : Record) (k used i l : ℕ) (s : List ℕ) (j : Front Item) (rest : ℕ → Front Part) (f : Filled) (c : Common) → Counted (c .transfers) l j → c ≡ commonAt s → f ≡ filledBy q k used 0 j → f .whole ≡ true → Next n q k used i l (partThen s j rest) (rest (6 + f .octets)) f c
+part-next : (n : ℕ) (q : Record) (k used i l : ℕ) (s : List ℕ) (j : Front Item) (rest : ℕ → Front Part) (f : Filled) (c : Common) → Counted (c .transfers) l j → c ≡ commonFront s → f ≡ filledBy q k used 0 j → f .whole ≡ true → Next n q k used i l (partThen s j rest) (rest (6 + f .octets)) f c
 part-next n q k used i l s Short rest f c d ec e w =
     absurd (let z : _≡_ {A = ℕ} 0 1 = cc (ap (λ (x : Filled). x .whole) e) in omega arith)
 part-next n q k used i l s (Taken is m) rest f c d ec e w =
     let u = filled-put q k used is m f e w in
-    let t : length is ≡ commonAt s .transfers = d .0 ∙ ap (λ (x : Common). x .transfers) ec in
+    let t : length is ≡ commonFront s .transfers = d .0 ∙ ap (λ (x : Common). x .transfers) ec in
     record {
       becomes = part-put-in n q k used i s is m rest f c (ec ∙ rw t) u;
       places = omega (arith, u .transfers, u .places);
@@ -294,42 +294,42 @@ part-next n q k used i l s (Taken is m) rest f c d ec e w =
 
 module _ (n : ℕ) (q : Record) (k used i m : ℕ) (s : List ℕ) where
   -- octets that are too short for a head
-  pub parts-short : length (drop i s) < 6 → imagedFrom n q k used i (partsAt (suc m) (drop i s)) ≡ noImage
-  unfolding partsAt
+  pub parts-short : length (drop i s) < 6 → imagedFrom n q k used i (partsFront (suc m) (drop i s)) ≡ noImage
+  unfolding partsFront
   parts-short h = rw (lt-leb 6 (length (drop i s)) h)
 
-  pub parts-over : most-commons ≤ q .commons → imagedFrom n q k used i (partsAt (suc m) (drop i s)) ≡ noImage
-  unfolding partsAt
+  pub parts-over : most-commons ≤ q .commons → imagedFrom n q k used i (partsFront (suc m) (drop i s)) ≡ noImage
+  unfolding partsFront
   parts-over h = go (leb 6 (length (drop i s)))
     where
-      go : (b : Bool) → imagedFrom n q k used i (cond b (partThen (drop i s) (itemsAt (commonAt (drop i s) .transfers) (drop 6 (drop i s))) (λ x. partsAt m (drop x (drop i s)))) Short) ≡ noImage
-      go true = part-over n q k used i (drop i s) (itemsAt (commonAt (drop i s) .transfers) (drop 6 (drop i s))) (λ x. partsAt m (drop x (drop i s))) h
+      go : (b : Bool) → imagedFrom n q k used i (cond b (partThen (drop i s) (itemsFront (commonFront (drop i s) .transfers) (drop 6 (drop i s))) (λ x. partsFront m (drop x (drop i s)))) Short) ≡ noImage
+      go true = part-over n q k used i (drop i s) (itemsFront (commonFront (drop i s) .transfers) (drop 6 (drop i s))) (λ x. partsFront m (drop x (drop i s))) h
       go false = refl
 
   -- a head, and the transfer parameters behind it
-  module _ (c : Common) (f : Filled) (h : 6 ≤ length (drop i s)) (ec : c ≡ commonAt (drop i s)) (e : f ≡ filledBy q k used 0 (itemsAt (c .transfers) (drop (i + 6) s))) where
-    opened : partsAt (suc m) (drop i s) ≡ partThen (drop i s) (itemsAt (c .transfers) (drop (i + 6) s)) (λ x. partsAt m (drop x (drop i s)))
-    unfolding partsAt
+  module _ (c : Common) (f : Filled) (h : 6 ≤ length (drop i s)) (ec : c ≡ commonFront (drop i s)) (e : f ≡ filledBy q k used 0 (itemsFront (c .transfers) (drop (i + 6) s))) where
+    opened : partsFront (suc m) (drop i s) ≡ partThen (drop i s) (itemsFront (c .transfers) (drop (i + 6) s)) (λ x. partsFront m (drop x (drop i s)))
+    unfolding partsFront
     opened =
-        let t : c .transfers ≡ commonAt (drop i s) .transfers = ap (λ (x : Common). x .transfers) ec in
+        let t : c .transfers ≡ commonFront (drop i s) .transfers = ap (λ (x : Common). x .transfers) ec in
         rw (le-leb 6 (length (drop i s)) h, drop-drop 6 i s, t)
 
-    pub parts-stop : f .whole ≡ false → imagedFrom n q k used i (partsAt (suc m) (drop i s)) ≡ noImage
+    pub parts-stop : f .whole ≡ false → imagedFrom n q k used i (partsFront (suc m) (drop i s)) ≡ noImage
     parts-stop w =
         ap (λ x. imagedFrom n q k used i x) opened
-        ∙ part-stop n q k used i (drop i s) (itemsAt (c .transfers) (drop (i + 6) s)) (λ x. partsAt m (drop x (drop i s))) f e w
+        ∙ part-stop n q k used i (drop i s) (itemsFront (c .transfers) (drop (i + 6) s)) (λ x. partsFront m (drop x (drop i s))) f e w
 
-    pub parts-next : f .whole ≡ true → Next n q k used i (length (drop (i + 6) s)) (partsAt (suc m) (drop i s)) (partsAt m (drop (i + 6 + f .octets) s)) f c
+    pub parts-next : f .whole ≡ true → Next n q k used i (length (drop (i + 6) s)) (partsFront (suc m) (drop i s)) (partsFront m (drop (i + 6 + f .octets) s)) f c
     parts-next w =
         let a : i + (6 + f .octets) ≡ i + 6 + f .octets = omega arith in
         let o : drop (6 + f .octets) (drop i s) ≡ drop (i + 6 + f .octets) s = drop-drop (6 + f .octets) i s ∙ ap (λ (x : ℕ). drop x s) a in
         rw (opened, ← o)
-        (part-next n q k used i (length (drop (i + 6) s)) (drop i s) (itemsAt (c .transfers) (drop (i + 6) s)) (λ x. partsAt m (drop x (drop i s))) f c (items-counted (c .transfers) (drop (i + 6) s)) ec e w)
+        (part-next n q k used i (length (drop (i + 6) s)) (drop i s) (itemsFront (c .transfers) (drop (i + 6) s)) (λ x. partsFront m (drop x (drop i s))) f c (items-counted (c .transfers) (drop (i + 6) s)) ec e w)
 
 -- none left: all octets are taken, or there are some left over
 module _ (n : ℕ) (q : Record) (k used i : ℕ) (s : List ℕ) where
-  pub parts-end : q .commons ≤ most-commons → k ≤ most-transfers → used ≤ 512 → imagedFrom n q k used i (partsAt 0 s) ≡ cond (eqb i n) (record { answer = Accepted (q .commons); held = q }) noImage
-  unfolding partsAt valuesOf
+  pub parts-end : q .commons ≤ most-commons → k ≤ most-transfers → used ≤ 512 → imagedFrom n q k used i (partsFront 0 s) ≡ cond (eqb i n) (record { answer = Accepted (q .commons); held = q }) noImage
+  unfolding partsFront valuesOf
   parts-end c t v =
       let ei : i + 0 ≡ i = omega arith in
       let ec : q .commons + 0 ≡ q .commons = omega arith in
@@ -353,7 +353,7 @@ unfolding imagedOf
 image-none [] h = refl
 image-none (n ∷ s) h = absurd (omega arith)
 
-pub image-counted : (m : List ℕ) → (length m ≡ 0 → ⊥) → imagedOf m ≡ imagedBy (length (drop 1 m)) (partsAt (getD m 0 0) (drop 1 m))
+pub image-counted : (m : List ℕ) → (length m ≡ 0 → ⊥) → imagedOf m ≡ imagedBy (length (drop 1 m)) (partsFront (getD m 0 0) (drop 1 m))
 unfolding imagedOf
 image-counted [] h = absurd (h refl)
 image-counted (n ∷ s) h = refl

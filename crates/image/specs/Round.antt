@@ -14,7 +14,7 @@ use Rattle.annex.specs.Items.{Item, Part, markedItem}
 use Rattle.annex.specs.Allowed.{Each, every, isOctet, itemsIn, valueRight, valueFits, Allowed}
 use Rattle.annex.specs.Reading.{octetAllowed, verdictOf, recordOf}
 use Rattle.annex.specs.Records.{valuesOf, pack, view, readingOf}
-use Rattle.annex.specs.Image.{imageItem, imageItems, imagePart, imageParts, imageOf, imagingOf, imagedIn, itemAt, itemSize, itemsAt, commonAt, partAt, partsAt, noImage, isWithin, imagedOf}
+use Rattle.annex.specs.Image.{imageItem, imageItems, imagePart, imageParts, imageOf, imagingOf, imagedIn, itemFront, itemSize, itemsFront, commonFront, partFront, partsFront, noImage, isWithin, imagedOf}
 use Rattle.annex.specs.Image.Front.{Taken}
 use Rattle.annex.specs.declared.Answer.the-variants.{Accepted}
 use Rattle.theorems.specs.Lists.{each-left, each-right, each-so}
@@ -29,7 +29,7 @@ use Rattle.image.specs.Laying.{imaging-done}
 
 record ItemBack (i : Item) (t : List ℕ) : Type 0 where
   size : itemSize (imageItem i ++ t) ≡ length (imageItem i)
-  back : itemAt (imageItem i ++ t) ≡ i
+  back : itemFront (imageItem i ++ t) ≡ i
 
 item-back : (i : Item) (t : List ℕ) → length (i .values) < 65536 → ItemBack i t
 unfolding imageItem
@@ -45,8 +45,8 @@ item-back i t h =
 Few : Item → Type 0
 Few i = length (i .values) < 65536
 
-items-back : (is : List Item) (t : List ℕ) → Each Few is → itemsAt (length is) (imageItems is ++ t) ≡ Taken is (length (imageItems is))
-unfolding itemsAt imageItems Few
+items-back : (is : List Item) (t : List ℕ) → Each Few is → itemsFront (length is) (imageItems is ++ t) ≡ Taken is (length (imageItems is))
+unfolding itemsFront imageItems Few
 items-back [] t h = refl
 items-back (i ∷ is) t h =
     let m = imageItem i in
@@ -77,8 +77,8 @@ four-back v l =
 -- read from the front of octets
 record PartBack (p : Part) (t : List ℕ) : Type 0 where
   long : leb 6 (length (imagePart p ++ t)) ≡ true
-  items : itemsAt (commonAt (imagePart p ++ t) .transfers) (drop 6 (imagePart p ++ t)) ≡ Taken (p .items) (length (imageItems (p .items)))
-  back : partAt (imagePart p ++ t) (p .items) ≡ p
+  items : itemsFront (commonFront (imagePart p ++ t) .transfers) (drop 6 (imagePart p ++ t)) ≡ Taken (p .items) (length (imageItems (p .items)))
+  back : partFront (imagePart p ++ t) (p .items) ≡ p
   size : 6 + length (imageItems (p .items)) ≡ length (imagePart p)
 
 part-back : (p : Part) (t : List ℕ) → Imageable p → Each Few (p .items) → PartBack p t
@@ -95,8 +95,8 @@ part-back p t h f =
     told true e = refl
     told false e = rw (h .plain e)
 
-parts-back : (r : List Part) (t : List ℕ) → Each Imageable r → Each Few (itemsIn r) → partsAt (length r) (imageParts r ++ t) ≡ Taken r (length (imageParts r))
-unfolding partsAt imageParts
+parts-back : (r : List Part) (t : List ℕ) → Each Imageable r → Each Few (itemsIn r) → partsFront (length r) (imageParts r ++ t) ≡ Taken r (length (imageParts r))
+unfolding partsFront imageParts
 parts-back [] t h f = refl
 parts-back (p ∷ r) t h f =
     let m = imagePart p in
@@ -119,7 +119,7 @@ pub image-back : (r : List Part) → Within r → Each Imageable r → imagedOf 
 unfolding imageOf imagedOf isWithin
 image-back r w h =
     let n = length (imageParts r) in
-    let e : partsAt (length r) (imageParts r) ≡ Taken r n = ap (λ (s : List ℕ). partsAt (length r) s) (sym (append-nil (imageParts r))) ∙ parts-back r [] h (few-values (itemsIn r) (w .values)) in
+    let e : partsFront (length r) (imageParts r) ≡ Taken r n = ap (λ (s : List ℕ). partsFront (length r) s) (sym (append-nil (imageParts r))) ∙ parts-back r [] h (few-values (itemsIn r) (w .values)) in
     rw (e, eq-eqb n n refl, le-leb (length r) most-commons (w .commons), le-leb (length (itemsIn r)) most-transfers (w .transfers), le-leb (length (valuesOf (itemsIn r))) 512 (w .values))
 
 -- ---- an allowed record
@@ -181,14 +181,14 @@ unfolding imageItem imageItems imagePart imageParts imageOf
 example-image = refl
 
 pub example-back : imagedOf octets ≡ record { answer = Accepted 3; held = pack example }
-unfolding itemsAt partsAt isWithin imagedOf valuesOf
+unfolding itemsFront partsFront isWithin imagedOf valuesOf
 example-back = refl
 
 -- an octet left over, or one cut off: no record
 pub example-over : imagedOf (octets ++ 0 ∷ []) ≡ noImage
-unfolding itemsAt partsAt isWithin imagedOf
+unfolding itemsFront partsFront isWithin imagedOf
 example-over = refl
 
 pub example-cut : imagedOf (take 33 octets) ≡ noImage
-unfolding itemsAt partsAt isWithin imagedOf
+unfolding itemsFront partsFront isWithin imagedOf
 example-cut = refl

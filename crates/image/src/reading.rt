@@ -9,7 +9,7 @@ use reader::reading::empty;
 ghost use mathlib.Core.Path.{_≡_};
 ghost use Prim.Native.Nat.{_≤_};
 ghost use lib.ListN.{length};
-ghost use Rattle.annex.specs.Image.{headAt, itemsAt, commonAt, partsAt, noImage, imagedBy};
+ghost use Rattle.annex.specs.Image.{headFront, itemsFront, commonFront, partsFront, noImage, imagedBy};
 ghost use Rattle.annex.specs.Promises.{FromImagePromise};
 ghost use Rattle.image.specs.Filling.{fitsAt, unfilled, filledBy};
 
@@ -51,7 +51,7 @@ fn refused() -> Imaged
 // The head of the transfer parameter at the front.
 fn transfer_head(s: &[u8]) -> Transfer
     requires { ⌜ 11 ≤ length (now s) ⌝ }
-    ensures { λ r. ⌜ r ≡ headAt (now (s .entry)) ⌝ }
+    ensures { λ r. ⌜ r ≡ headFront (now (s .entry)) ⌝ }
 {
     let low = s[9] as u16;
     let high = s[10] as u16;
@@ -94,7 +94,7 @@ fn takes(s: &[u8], k: usize, used: usize) -> bool
 // So many transfer parameters at the front, put into the struct behind those that it has.
 fn with_transfers(begun: Record, s: &[u8], count: usize, transfers: usize, taken: usize) -> Filled
     requires { ⌜ (transfers ≤ 52) × (taken ≤ 512) ⌝ }
-    ensures { λ r. ⌜ r ≡ filledBy begun transfers taken 0 (itemsAt count (now (s .entry))) ⌝ }
+    ensures { λ r. ⌜ r ≡ filledBy begun transfers taken 0 (itemsFront count (now (s .entry))) ⌝ }
 {
     let mut q = begun;
     let mut k = transfers;
@@ -127,7 +127,7 @@ fn with_transfers(begun: Record, s: &[u8], count: usize, transfers: usize, taken
 // The head of the common parameter at the front.
 fn common_head(s: &[u8]) -> Common
     requires { ⌜ 6 ≤ length (now s) ⌝ }
-    ensures { λ r. ⌜ r ≡ commonAt (now (s .entry)) ⌝ }
+    ensures { λ r. ⌜ r ≡ commonFront (now (s .entry)) ⌝ }
 {
     let header = s[0];
     let first = s[1] as u32;
@@ -151,7 +151,7 @@ fn common_head(s: &[u8]) -> Common
 
 // The record of so many common parameters, which are to take all octets.
 fn fill(s: &[u8], count: usize) -> Imaged
-    ensures { λ r. ⌜ r ≡ imagedBy (length (now (s .entry))) (partsAt count (now (s .entry))) ⌝ }
+    ensures { λ r. ⌜ r ≡ imagedBy (length (now (s .entry))) (partsFront count (now (s .entry))) ⌝ }
 {
     let mut q = empty();
     let mut transfers: usize = 0;

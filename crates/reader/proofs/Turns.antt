@@ -18,14 +18,14 @@ use mathlib.Core.Bool.{true}
 use Rattle.laws.specs.Plain.{InnerSound, commons-plain, commons-inner}
 use Rattle.laws.specs.Filling.{withItems, withParts, emptyRecord, filled-whole, filled-none, part-put, values-append}
 use Rattle.theorems.specs.Messages.{read-within}
-use Rattle.reader.specs.Filling.{parsAt, partsAt, parAt, pars-mark, parts-mark, pars-more, parts-more}
+use Rattle.reader.specs.Filling.{parsAt, partsLeft, parAt, pars-mark, parts-mark, pars-more, parts-more}
 
 pub record Filling (m : List ℕ) (q : Record) (transfers used i : ℕ) : Type 0 where
   pub inside : i ≤ length m
-  pub becomes : pack (recordOf m) ≡ withParts q (partsAt m i) transfers used
-  pub commons : q .commons + length (partsAt m i) ≤ 6
-  pub places : transfers + length (itemsIn (partsAt m i)) ≤ 52
-  pub values : used + length (valuesOf (itemsIn (partsAt m i))) ≤ 512
+  pub becomes : pack (recordOf m) ≡ withParts q (partsLeft m i) transfers used
+  pub commons : q .commons + length (partsLeft m i) ≤ 6
+  pub places : transfers + length (itemsIn (partsLeft m i)) ≤ 52
+  pub values : used + length (valuesOf (itemsIn (partsLeft m i))) ≤ 512
   pub sound : Each InnerSound (parsAt m i)
 
 pub filling-start : (m : List ℕ) (n : ℕ) → every isOctet m ≡ true → verdictOf m ≡ Accepted n → (q : Record) → q ≡ emptyRecord → Filling m q 0 0 0
@@ -33,7 +33,7 @@ unfolding recordOf
 filling-start m n o v q e =
     let w = read-within m o n v in
     let p : commonsOf m ≡ parsAt m 0 = commons-plain m n v in
-    let r : recordOf m ≡ partsAt m 0 = ap (λ (qs : List Par). map openCommon (withoutEnd qs)) p in
+    let r : recordOf m ≡ partsLeft m 0 = ap (λ (qs : List Par). map openCommon (withoutEnd qs)) p in
     rw e (record {
       inside = omega arith;
       becomes = sym (filled-whole (recordOf m) (w .commons) (w .transfers) (w .values)) ∙ ap (λ (ps : List Part). withParts emptyRecord ps 0 0) r;
@@ -44,7 +44,7 @@ filling-start m n o v q e =
     })
 
 module _ {m : List ℕ} {q : Record} {transfers used i : ℕ} (f : Filling m q transfers used i) where
-  pub filling-end : partsAt m i ≡ [] → q ≡ pack (recordOf m)
+  pub filling-end : partsLeft m i ≡ [] → q ≡ pack (recordOf m)
   filling-end e = sym (f .becomes ∙ rw e (filled-none q transfers used))
 
   module _ (inside : i < length m) where
@@ -70,10 +70,10 @@ pub record Next (m : List ℕ) (q : Record) (transfers used i n : ℕ) (p : Part
   pub here : InnerSound (parAt m i n)
   pub sound : Each InnerSound (parsAt m (i + 1 + n))
 
-pub filling-next : (m : List ℕ) (q : Record) (transfers used i x n : ℕ) → Filling m q transfers used i → i < length m → (getD m i 0 ≡ end-mark → ⊥) → x ≡ getD m (i + 1) 0 → n ≡ afterOf (commonExtentOf (getD m i 0)) x → n ≤ length m - (i + 1) → Next m q transfers used i n (openCommon (parAt m i n)) (partsAt m (i + 1 + n))
+pub filling-next : (m : List ℕ) (q : Record) (transfers used i x n : ℕ) → Filling m q transfers used i → i < length m → (getD m i 0 ≡ end-mark → ⊥) → x ≡ getD m (i + 1) 0 → n ≡ afterOf (commonExtentOf (getD m i 0)) x → n ≤ length m - (i + 1) → Next m q transfers used i n (openCommon (parAt m i n)) (partsLeft m (i + 1 + n))
 filling-next m q transfers used i x n f inside u next e l =
     let p = openCommon (parAt m i n) in
-    let rest = partsAt m (i + 1 + n) in
+    let rest = partsLeft m (i + 1 + n) in
     let g = parts-more m i inside x next n e l u in
     let s : Each InnerSound (parAt m i n ∷ parsAt m (i + 1 + n)) = rw (pars-more m i inside x next n e l) at (f .sound) in
     record {
@@ -86,9 +86,9 @@ filling-next m q transfers used i x n f inside u next e l =
     }
 
 -- and put into the struct
-pub filling-put : (m : List ℕ) (q q′ : Record) (transfers transfers′ used used′ i n : ℕ) (c : Common) (p : Part) → i + 1 + n ≤ length m → Next m q transfers used i n p (partsAt m (i + 1 + n)) → q′ ≡ withItems q (p .items) transfers used → transfers′ ≡ transfers + length (p .items) → used′ ≡ used + length (valuesOf (p .items)) → c ≡ commonHeadOf p → Filling m (record { commons = q′ .commons + 1; common = set (q′ .common) (q′ .commons) c; transfer = q′ .transfer; values = q′ .values }) transfers′ used′ (i + 1 + n)
+pub filling-put : (m : List ℕ) (q q′ : Record) (transfers transfers′ used used′ i n : ℕ) (c : Common) (p : Part) → i + 1 + n ≤ length m → Next m q transfers used i n p (partsLeft m (i + 1 + n)) → q′ ≡ withItems q (p .items) transfers used → transfers′ ≡ transfers + length (p .items) → used′ ≡ used + length (valuesOf (p .items)) → c ≡ commonHeadOf p → Filling m (record { commons = q′ .commons + 1; common = set (q′ .common) (q′ .commons) c; transfer = q′ .transfer; values = q′ .values }) transfers′ used′ (i + 1 + n)
 filling-put m q q′ transfers transfers′ used used′ i n c p l x e et eu ec =
-    let rest = partsAt m (i + 1 + n) in
+    let rest = partsLeft m (i + 1 + n) in
     let same : q′ .commons ≡ q .commons = ap (λ (r : Record). r .commons) e in
     record {
       inside = l;

@@ -27,18 +27,18 @@ abbrev pub filledWith : Record → List Item → ℕ → ℕ → Filled
 filledWith q is k used = record { held = withItems q is k used; transfers = k + length is; used = used + length (valuesOf is) }
 
 -- those from the octet i on
-abbrev pub itemsAt : List ℕ → ℕ → List Item
-itemsAt t i = map openTransfer (pars transferSize 0 i (drop i t))
+abbrev pub itemsLeft : List ℕ → ℕ → List Item
+itemsLeft t i = map openTransfer (pars transferSize 0 i (drop i t))
 
 -- ---- one turn of filling
 
 module _ (t : List ℕ) (i x : ℕ) (inside : i < length t) (next : x ≡ getD t (i + 1) 0) where
   -- a parameter that is cut ends them
-  pub items-cut : length t - (i + 1) < afterOf (extentOf (getD t i 0)) x → itemsAt t i ≡ []
+  pub items-cut : length t - (i + 1) < afterOf (extentOf (getD t i 0)) x → itemsLeft t i ≡ []
   items-cut h = rw (pars-short extentOf t i x _ inside next refl h)
 
   -- a whole one comes first: its contents are the part from start to end
-  pub items-more : (n l : ℕ) → n ≡ afterOf (extentOf (getD t i 0)) x → n ≤ length t - (i + 1) → l ≡ leadOf (extentOf (getD t i 0)) → itemsAt t i ≡ itemOf (getD t i 0) (take (i + 1 + n - (i + 1 + l)) (drop (i + 1 + l) t)) ∷ itemsAt t (i + 1 + n)
+  pub items-more : (n l : ℕ) → n ≡ afterOf (extentOf (getD t i 0)) x → n ≤ length t - (i + 1) → l ≡ leadOf (extentOf (getD t i 0)) → itemsLeft t i ≡ itemOf (getD t i 0) (take (i + 1 + n - (i + 1 + l)) (drop (i + 1 + l) t)) ∷ itemsLeft t (i + 1 + n)
   items-more n l e h k =
       let c : contentsIn (extentOf (getD t i 0)) (take n (drop (i + 1) t)) ≡ take (i + 1 + n - (i + 1 + l)) (drop (i + 1 + l) t) = part n l k in
       rw (pars-next extentOf t i x n inside next e h, c)
@@ -58,7 +58,7 @@ filled-turn q x is k used =
     λ j. record { held = held j; transfers = ek j; used = eu j }
 
 -- nothing more to put in
-pub items-end : (t : List ℕ) (i : ℕ) → length t ≤ i → itemsAt t i ≡ []
+pub items-end : (t : List ℕ) (i : ℕ) → length t ≤ i → itemsLeft t i ≡ []
 items-end t i h = rw (pars-end transferSize i i t h)
 
 pub filled-end : (q : Record) (is : List Item) (k used : ℕ) → is ≡ [] → filledWith q is k used ≡ record { held = q; transfers = k; used = used }
@@ -73,13 +73,13 @@ filled-end q is k used e =
 abbrev pub parsAt : List ℕ → ℕ → List Par
 parsAt m i = pars commonSize 0 i (drop i m)
 
-abbrev pub partsAt : List ℕ → ℕ → List Part
-partsAt m i = map openCommon (withoutEnd (parsAt m i))
+abbrev pub partsLeft : List ℕ → ℕ → List Part
+partsLeft m i = map openCommon (withoutEnd (parsAt m i))
 
 abbrev pub parAt : List ℕ → ℕ → ℕ → Par
 parAt m i n = record { place = i; head = getD m i 0; own = take n (drop (i + 1) m) }
 
-pub parts-end : (m : List ℕ) (i : ℕ) → length m ≤ i → partsAt m i ≡ []
+pub parts-end : (m : List ℕ) (i : ℕ) → length m ≤ i → partsLeft m i ≡ []
 parts-end m i h = rw (pars-end commonSize i i m h)
 
 module _ (m : List ℕ) (i : ℕ) (inside : i < length m) where
@@ -90,17 +90,17 @@ module _ (m : List ℕ) (i : ℕ) (inside : i < length m) where
       let z : i + 1 + 0 ≡ i + 1 = omega arith in
       rw z at (pars-turn commonSize i (i + 1) i 0 m inside (rw e) (omega arith) z)
 
-  pub parts-mark : getD m i 0 ≡ end-mark → partsAt m i ≡ partsAt m (i + 1)
+  pub parts-mark : getD m i 0 ≡ end-mark → partsLeft m i ≡ partsLeft m (i + 1)
   parts-mark e = rw (pars-mark e, e)
 
   module _ (x : ℕ) (next : x ≡ getD m (i + 1) 0) where
-    pub parts-cut : length m - (i + 1) < afterOf (commonExtentOf (getD m i 0)) x → partsAt m i ≡ []
+    pub parts-cut : length m - (i + 1) < afterOf (commonExtentOf (getD m i 0)) x → partsLeft m i ≡ []
     parts-cut h = rw (pars-short commonExtentOf m i x _ inside next refl h)
 
     pub pars-more : (n : ℕ) → n ≡ afterOf (commonExtentOf (getD m i 0)) x → n ≤ length m - (i + 1) → parsAt m i ≡ parAt m i n ∷ parsAt m (i + 1 + n)
     pars-more n e h = pars-next commonExtentOf m i x n inside next e h
 
-    pub parts-more : (n : ℕ) → n ≡ afterOf (commonExtentOf (getD m i 0)) x → n ≤ length m - (i + 1) → (getD m i 0 ≡ end-mark → ⊥) → partsAt m i ≡ openCommon (parAt m i n) ∷ partsAt m (i + 1 + n)
+    pub parts-more : (n : ℕ) → n ≡ afterOf (commonExtentOf (getD m i 0)) x → n ≤ length m - (i + 1) → (getD m i 0 ≡ end-mark → ⊥) → partsLeft m i ≡ openCommon (parAt m i n) ∷ partsLeft m (i + 1 + n)
     parts-more n e h u = rw (pars-more n e h, ne-eqb (getD m i 0) end-mark u)
 
 -- the parts that the code hands on: a parameter's own octets, and C5's behind its length octet

@@ -57,6 +57,7 @@ use Rattle.annex.specs.Promises.{
   SpansCheckPromise,
   RowPromise,
   WritePromise,
+  RecordRefusalPromise,
   EditPromise,
 }
 use Rattle.annex.specs.Bench.{M, K, recordOfK, recordOfM}
@@ -97,6 +98,8 @@ pub record Said : Type 0 where
   pub area-row : rowAt M 5 ≡ record { offset = 12; header = 0x90; len = 3 }
   pub no-row : rowAt M 9 ≡ record { offset = 0; header = 0; len = 0 }
   pub written-answer : writingOf (pack recordOfK) 6 ≡ Accepted 5
+  pub nothing-held : structWriting (pack []) ≡ Refused 6 0
+  pub least-held : structWriting (pack recordOfK) ≡ Accepted 5
   pub written : writtenOf (pack recordOfK) (replicate 6 0xEE) ≡ short ++ (0xEE ∷ [])
   pub replaced-answer : editingOf shorter M 23 ≡ Accepted 22
   pub replaced-length : getD (bufferOf shorter M 23) 11 0 ≡ 0x09
@@ -112,7 +115,6 @@ unfolding afterOf leadOf commonExtentOf extentOf nameUsed pliRight oftenOf zeroe
 said =
     record {
       verdict-cut = refl;
-      verdict-short = refl;
       reading-short = refl;
       reading-M = refl;
       own-call = refl;
@@ -125,7 +127,8 @@ said =
       no-room = refl;
       area-row = refl;
       no-row = refl;
-      written-answer = refl;
+      nothing-held = refl;
+      least-held = refl;
       written = refl;
       replaced-answer = refl;
       replaced-length = refl;
@@ -217,6 +220,14 @@ writes-nothing a p = let z : _≡_ {A = ℕ} 0xEE 0x01 = ap (λ (l : List ℕ). 
 
 pub clears-the-rest : (a : Answer) → WritePromise (pack recordOfK) (replicate 6 0xEE) a (short ++ (0x00 ∷ [])) → ⊥
 clears-the-rest a p = let z : _≡_ {A = ℕ} 0x00 0xEE = ap (λ (l : List ℕ). getD l 5 0) (p .1 ∙ said .written) in omega arith
+
+-- ---- record_refusal: one that refuses no record; one that refuses every record
+
+pub refuses-no-record : (n : ℕ) → RecordRefusalPromise (pack []) (Accepted n) → ⊥
+refuses-no-record n p = let z : _≡_ {A = ℕ} 0 6 = ap numberOf (p ∙ said .nothing-held) in omega arith
+
+pub refuses-every-record : (k q : ℕ) → RecordRefusalPromise (pack recordOfK) (Refused k q) → ⊥
+refuses-every-record k q p = let z : _≡_ {A = ℕ} 0 5 = ap givenOf (p ∙ said .least-held) in omega arith
 
 -- ---- editing: one that claims success and does nothing; one that forgets C5's length octet
 

@@ -10,7 +10,7 @@ use borrow.Author.Needs.{needs}
 use borrow.Author.Tests.{not-true, not-false, eq-eqb, ne-eqb}
 use lib.Dec.{eqb}
 use lib.ListN.{length, drop, length-drop}
-use Rattle.annex.specs.Image.{itemsAt, commonAt, partsAt, noImage, imagedBy}
+use Rattle.annex.specs.Image.{itemsFront, commonFront, partsFront, noImage, imagedBy}
 use Rattle.annex.specs.declared.Answer.the-variants.{Accepted}
 use Rattle.laws.specs.Parts.{to-end}
 use Rattle.image.specs.Filling.{filledBy, imagedFrom, imaged-start, Next, parts-short, parts-over, parts-stop, parts-next, parts-end}
@@ -23,7 +23,7 @@ Inv-loop s count q₀ transfers₀ used₀ i₀ left₀ q transfers used i left 
     (q .commons ≤ 6) ×
     (transfers ≤ 52) ×
     (used ≤ 512) ×
-    (imagedBy (length s) (partsAt count s) ≡ imagedFrom (length s) q transfers used i (partsAt left (drop i s)))
+    (imagedBy (length s) (partsFront count s) ≡ imagedFrom (length s) q transfers used i (partsFront left (drop i s)))
 
 abbrev μ-loop : tie.MeasureT-loop
 μ-loop s count q₀ transfers₀ used₀ i₀ left₀ q transfers used i left = left
@@ -32,7 +32,7 @@ loop-holds : tie.Need-loop-holds Inv-loop μ-loop
 loop-holds c =
     let a = c .before .before .args in
     let s = now (a .s) in
-    rw (c .empty .ensures) (omega arith, omega arith, omega arith, omega arith, imaged-start (length s) (partsAt (a .count) s))
+    rw (c .empty .ensures) (omega arith, omega arith, omega arith, omega arith, imaged-start (length s) (partsFront (a .count) s))
 
 -- the loop's place, and the octets
 abbrev At : Type 0
@@ -44,12 +44,12 @@ octetsOf a = now (a .before .before .before .args .s)
 -- the definition at a turn
 becomes : (c : tie.In-loop Inv-loop μ-loop) →
     let a = c .before in
-    imagedBy (length (octetsOf a)) (partsAt (a .before .before .before .args .count) (octetsOf a))
-    ≡ imagedFrom (length (octetsOf a)) (a .loop .q) (a .loop .transfers) (a .loop .used) (a .loop .i) (partsAt (suc (a .loop .left - 1)) (drop (a .loop .i) (octetsOf a)))
+    imagedBy (length (octetsOf a)) (partsFront (a .before .before .before .args .count) (octetsOf a))
+    ≡ imagedFrom (length (octetsOf a)) (a .loop .q) (a .loop .transfers) (a .loop .used) (a .loop .i) (partsFront (suc (a .loop .left - 1)) (drop (a .loop .i) (octetsOf a)))
 becomes c =
     let a = c .before in
     let e : a .loop .left ≡ suc (a .loop .left - 1) = omega (arith, c .loop-test .taken) in
-    a .loop .inv .4 ∙ ap (λ (n : ℕ). imagedFrom (length (octetsOf a)) (a .loop .q) (a .loop .transfers) (a .loop .used) (a .loop .i) (partsAt n (drop (a .loop .i) (octetsOf a)))) e
+    a .loop .inv .4 ∙ ap (λ (n : ℕ). imagedFrom (length (octetsOf a)) (a .loop .q) (a .loop .transfers) (a .loop .used) (a .loop .i) (partsFront n (drop (a .loop .i) (octetsOf a)))) e
 
 returns : tie.Need-returns Inv-loop μ-loop
 returns c =
@@ -75,10 +75,10 @@ common-head-requires c κs =
     let a = c .before .before .before .before in
     rw (to-end (a .loop .i) (octetsOf a)) (head-here (c .before))
 
-head-is : (c : tie.After-common-head Inv-loop μ-loop) → let a = c .before .before .before .before .before in c .common-head .result ≡ commonAt (drop (a .loop .i) (octetsOf a))
+head-is : (c : tie.After-common-head Inv-loop μ-loop) → let a = c .before .before .before .before .before in c .common-head .result ≡ commonFront (drop (a .loop .i) (octetsOf a))
 head-is c =
     let a = c .before .before .before .before .before in
-    c .common-head .ensures ∙ ap commonAt (to-end (a .loop .i) (octetsOf a))
+    c .common-head .ensures ∙ ap commonFront (to-end (a .loop .i) (octetsOf a))
 
 add-from : tie.Need-add-from Inv-loop μ-loop
 add-from c = omega (arith, c .before .before .if2 .left)
@@ -93,11 +93,11 @@ part-with-transfers-start c = omega (arith, c .before .before .if2 .left)
 filled-is : (c : tie.After-with-transfers Inv-loop μ-loop) →
     let h = c .before .before .before in
     let a = h .before .before .before .before .before in
-    c .with-transfers .result ≡ filledBy (a .loop .q) (a .loop .transfers) (a .loop .used) 0 (itemsAt (h .common-head .result .transfers) (drop (a .loop .i + 6) (octetsOf a)))
+    c .with-transfers .result ≡ filledBy (a .loop .q) (a .loop .transfers) (a .loop .used) 0 (itemsFront (h .common-head .result .transfers) (drop (a .loop .i + 6) (octetsOf a)))
 filled-is c =
     let h = c .before .before .before in
     let a = h .before .before .before .before .before in
-    c .with-transfers .ensures ∙ ap (λ (d : List ℕ). filledBy (a .loop .q) (a .loop .transfers) (a .loop .used) 0 (itemsAt (h .common-head .result .transfers) d)) (to-end (a .loop .i + 6) (octetsOf a))
+    c .with-transfers .ensures ∙ ap (λ (d : List ℕ). filledBy (a .loop .q) (a .loop .transfers) (a .loop .used) 0 (itemsFront (h .common-head .result .transfers) d)) (to-end (a .loop .i + 6) (octetsOf a))
 
 returns-3 : tie.Need-returns-3 Inv-loop μ-loop
 returns-3 c =
@@ -116,7 +116,7 @@ next-is : (c : tie.Else3 Inv-loop μ-loop) →
     let s = octetsOf a in
     let v = a .loop in
     let f = w .with-transfers .result in
-    Next (length s) (v .q) (v .transfers) (v .used) (v .i) (length (drop (v .i + 6) s)) (partsAt (suc (v .left - 1)) (drop (v .i) s)) (partsAt (v .left - 1) (drop (v .i + 6 + f .octets) s)) f (h .common-head .result)
+    Next (length s) (v .q) (v .transfers) (v .used) (v .i) (length (drop (v .i + 6) s)) (partsFront (suc (v .left - 1)) (drop (v .i) s)) (partsFront (v .left - 1) (drop (v .i + 6 + f .octets) s)) f (h .common-head .result)
 next-is c =
     let w = c .before .before in
     let h = w .before .before .before in
@@ -184,7 +184,7 @@ loop-again c =
 ended : (c : tie.After-loop Inv-loop μ-loop) →
     let a = c .before in
     let s = octetsOf a in
-    imagedBy (length s) (partsAt (a .before .before .before .args .count) s) ≡ cond (eqb (a .loop .i) (length s)) (record { answer = Accepted (a .loop .q .commons); held = a .loop .q }) noImage
+    imagedBy (length s) (partsFront (a .before .before .before .args .count) s) ≡ cond (eqb (a .loop .i) (length s)) (record { answer = Accepted (a .loop .q .commons); held = a .loop .q }) noImage
 ended c =
     let v = c .before .loop in
     let s = octetsOf (c .before) in

@@ -6,7 +6,7 @@ use mathlib.Core.List.{List}
 use denote.Ref.{now}
 use borrow.Author.Needs.{needs}
 use lib.ListN.{length, getD}
-use Rattle.annex.specs.Image.{partsAt, imagedBy}
+use Rattle.annex.specs.Image.{partsFront, imagedBy}
 use Rattle.laws.specs.Parts.{to-end}
 use Rattle.image.specs.Filling.{image-none, image-counted}
 use Rattle.image.proofs.reading.from_image.Statement.{statement}
@@ -24,7 +24,7 @@ returns-2 : tie.Need-returns-2
 returns-2 c =
     let e = c .before .before .before in
     let m = now (e .before .before .args .image) in
-    c .fill .ensures ∙ ap (λ (d : List ℕ). imagedBy (length d) (partsAt (getD m 0 0) d)) (to-end 1 m) ∙ sym (image-counted m (e .if1 .left))
+    c .fill .ensures ∙ ap (λ (d : List ℕ). imagedBy (length d) (partsFront (getD m 0 0) d)) (to-end 1 m) ∙ sym (image-counted m (e .if1 .left))
 
 pub from-image-spec : {M : Type 1} → statement M
 from-image-spec =

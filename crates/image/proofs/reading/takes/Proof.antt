@@ -6,7 +6,7 @@ use borrow.Author.Needs.{needs}
 use borrow.Author.Tests.{le-leb, lt-leb, lt-ltb, le-ltb}
 use lib.Dec.{leb}
 use lib.ListN.{length}
-use Rattle.annex.specs.Image.{headAt, itemSize}
+use Rattle.annex.specs.Image.{headFront, itemSize}
 use Rattle.annex.specs.declared.Transfer.{Transfer}
 use Rattle.image.specs.Filling.{fitsAt}
 use Rattle.image.proofs.reading.takes.Statement.{statement}
@@ -18,7 +18,7 @@ returns c =
     rw (lt-leb (itemSize s) (length s) (omega arith))
 
 -- the length that the head tells
-len-is : (c : tie.After-transfer-head) → c .transfer-head .result .len ≡ headAt (c .before .before .before .args .s .now) .len
+len-is : (c : tie.After-transfer-head) → c .transfer-head .result .len ≡ headFront (c .before .before .before .args .s .now) .len
 len-is c = ap (λ (t : Transfer). t .len) (c .transfer-head .ensures)
 
 returns-2 : tie.Need-returns-2
@@ -36,7 +36,7 @@ returns-3 c =
     rw (le-leb (itemSize (a .s .now)) (length (a .s .now)) (whole (c .before)), le-ltb (a .k) 52 (omega arith))
 
 -- and there is a place
-placed : (c : tie.Else3) → let a = c .before .before .before .before .before .before .args in fitsAt (a .s .now) (a .k) (a .used) ≡ leb (a .used + headAt (a .s .now) .len) 512
+placed : (c : tie.Else3) → let a = c .before .before .before .before .before .before .args in fitsAt (a .s .now) (a .k) (a .used) ≡ leb (a .used + headFront (a .s .now) .len) 512
 placed c =
     let a = c .before .before .before .before .before .before .args in
     rw (le-leb (itemSize (a .s .now)) (length (a .s .now)) (whole (c .before)), lt-ltb (a .k) 52 (omega arith))
@@ -44,12 +44,12 @@ placed c =
 returns-4 : tie.Need-returns-4
 returns-4 c =
     let a = c .before .before .before .before .before .before .before .args in
-    sym (placed (c .before) ∙ lt-leb (a .used + headAt (a .s .now) .len) 512 (omega (arith, len-is (c .before .before .before .before))))
+    sym (placed (c .before) ∙ lt-leb (a .used + headFront (a .s .now) .len) 512 (omega (arith, len-is (c .before .before .before .before))))
 
 returns-5 : tie.Need-returns-5
 returns-5 c =
     let a = c .before .before .before .before .before .before .before .args in
-    sym (placed (c .before) ∙ le-leb (a .used + headAt (a .s .now) .len) 512 (omega (arith, len-is (c .before .before .before .before))))
+    sym (placed (c .before) ∙ le-leb (a .used + headFront (a .s .now) .len) 512 (omega (arith, len-is (c .before .before .before .before))))
 
 pub takes-spec : {M : Type 1} → statement M
 takes-spec =

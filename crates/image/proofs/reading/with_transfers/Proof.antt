@@ -10,7 +10,7 @@ use borrow.Author.Needs.{needs}
 use borrow.Author.Tests.{not-true, not-false, le-leb}
 use lib.ListN.{length, take, drop, length-drop}
 use lib.Seq.{sets, length-take-le}
-use Rattle.annex.specs.Image.{headAt, itemsAt}
+use Rattle.annex.specs.Image.{headFront, itemsFront}
 use Rattle.annex.specs.declared.Transfer.{Transfer}
 use Rattle.laws.specs.Parts.{to-end}
 use Rattle.image.specs.Filling.{fitsAt, filledBy, Room, has-room, filled-stop, filled-turn, filled-end}
@@ -22,7 +22,7 @@ Inv-loop s count transfers taken q₀ k₀ used₀ i₀ left₀ q k used i left 
     (i ≤ length s) ×
     (k ≤ 52) ×
     (used ≤ 512) ×
-    (filledBy q₀ k₀ used₀ 0 (itemsAt count s) ≡ filledBy q k used i (itemsAt left (drop i s)))
+    (filledBy q₀ k₀ used₀ 0 (itemsFront count s) ≡ filledBy q k used i (itemsFront left (drop i s)))
 
 abbrev μ-loop : tie.MeasureT-loop
 μ-loop s count transfers taken q₀ k₀ used₀ i₀ left₀ q k used i left = left
@@ -46,11 +46,11 @@ one-more n h = omega arith
 
 becomes : (c : tie.In-loop Inv-loop μ-loop) →
     let a = c .before in
-    filledBy (a .before .before .args .begun) (a .before .before .args .transfers) (a .before .before .args .taken) 0 (itemsAt (a .before .before .args .count) (octetsOf a))
-    ≡ filledBy (a .loop .q) (a .loop .k) (a .loop .used) (a .loop .i) (itemsAt (suc (a .loop .left - 1)) (hereOf a))
+    filledBy (a .before .before .args .begun) (a .before .before .args .transfers) (a .before .before .args .taken) 0 (itemsFront (a .before .before .args .count) (octetsOf a))
+    ≡ filledBy (a .loop .q) (a .loop .k) (a .loop .used) (a .loop .i) (itemsFront (suc (a .loop .left - 1)) (hereOf a))
 becomes c =
     let a = c .before in
-    a .loop .inv .3 ∙ ap (λ (n : ℕ). filledBy (a .loop .q) (a .loop .k) (a .loop .used) (a .loop .i) (itemsAt n (hereOf a))) (one-more (a .loop .left) (c .loop-test .taken))
+    a .loop .inv .3 ∙ ap (λ (n : ℕ). filledBy (a .loop .q) (a .loop .k) (a .loop .used) (a .loop .i) (itemsFront n (hereOf a))) (one-more (a .loop .left) (c .loop-test .taken))
 
 told : (c : tie.After-takes Inv-loop μ-loop) →
     let a = c .before .before .before in
@@ -83,7 +83,7 @@ room c =
 -- ends within the octets
 ends : (c : tie.Else1 Inv-loop μ-loop) →
     let a = c .before .before .before .before in
-    a .loop .i + 11 + headAt (hereOf a) .len ≤ length (octetsOf a)
+    a .loop .i + 11 + headFront (hereOf a) .len ≤ length (octetsOf a)
 ends c =
     let a = c .before .before .before .before in
     omega (arith, room c .whole, length-drop (a .loop .i) (octetsOf a))
@@ -95,14 +95,14 @@ transfer-head-requires c κs =
 
 head-is : (c : tie.After-transfer-head Inv-loop μ-loop) →
     let a = c .before .before .before .before .before .before in
-    c .transfer-head .result ≡ headAt (hereOf a)
+    c .transfer-head .result ≡ headFront (hereOf a)
 head-is c =
     let a = c .before .before .before .before .before .before in
-    c .transfer-head .ensures ∙ ap headAt (to-end (a .loop .i) (octetsOf a))
+    c .transfer-head .ensures ∙ ap headFront (to-end (a .loop .i) (octetsOf a))
 
 len-is : (c : tie.After-transfer-head Inv-loop μ-loop) →
     let a = c .before .before .before .before .before .before in
-    c .transfer-head .result .len ≡ headAt (hereOf a) .len
+    c .transfer-head .result .len ≡ headFront (hereOf a) .len
 len-is c = ap (λ (t : Transfer). t .len) (head-is c)
 
 add-from : tie.Need-add-from Inv-loop μ-loop
@@ -118,12 +118,12 @@ part-open-contents-end c = omega (arith, ends (c .before .before .before), len-i
 stored : (c : tie.After-open-contents Inv-loop μ-loop) →
     let h = c .before .before .before .before in
     let a = h .before .before .before .before .before .before in
-    c .open-contents .last .1 .1 .0 ≡ sets (a .loop .q .values) (a .loop .used) (take (headAt (hereOf a) .len) (drop (a .loop .i + 11) (octetsOf a)))
+    c .open-contents .last .1 .1 .0 ≡ sets (a .loop .q .values) (a .loop .used) (take (headFront (hereOf a) .len) (drop (a .loop .i + 11) (octetsOf a)))
 stored c =
     let h = c .before .before .before .before in
     let a = h .before .before .before .before .before .before in
     let s = octetsOf a in
-    let n = headAt (hereOf a) .len in
+    let n = headFront (hereOf a) .len in
     let i = a .loop .i in
     let m : i + 11 + h .transfer-head .result .len - (i + 11) ≡ n = omega (arith, len-is h) in
     let l : length (take n (drop (i + 11) s)) ≡ n = length-take-le n (drop (i + 11) s) (rw (length-drop (i + 11) s) (omega (arith, ends (h .before .before)))) in

@@ -15,7 +15,7 @@ use Rattle.annex.specs.Records.{valuesOf, commonHeadOf}
 use Rattle.annex.specs.declared.Record.{Record}
 use Rattle.laws.specs.Written.{octets-every}
 use Rattle.laws.specs.Filling.{withItems, head-opened}
-use Rattle.reader.specs.Filling.{itemsFrom, partsAt, parAt, filledWith, parts-end, parts-cut, own-part, data-is, data-items, other-items}
+use Rattle.reader.specs.Filling.{itemsFrom, partsLeft, parAt, filledWith, parts-end, parts-cut, own-part, data-is, data-items, other-items}
 use Rattle.reader.specs.declared.reading.Filled.{Filled}
 use Rattle.reader.proofs.Turns.{Filling, filling-start, filling-end, filling-mark, Next, filling-next, filling-put}
 use Rattle.reader.proofs.reading.fill.Statement.{statement}
@@ -52,7 +52,7 @@ next-is : (c : tie.Else2 Inv-loop μ-loop) →
     let m = now (a .before .before .before .args .m) in
     let i = a .loop .i in
     let n = c .before .octets-after .result in
-    Next m (a .loop .q) (a .loop .transfers) (a .loop .used) i n (openCommon (parAt m i n)) (partsAt m (i + 1 + n))
+    Next m (a .loop .q) (a .loop .transfers) (a .loop .used) i n (openCommon (parAt m i n)) (partsLeft m (i + 1 + n))
 next-is c =
     let o = c .before in
     let e = o .before .before .before in

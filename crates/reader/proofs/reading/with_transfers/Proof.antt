@@ -14,16 +14,16 @@ use lib.Seq.{sets}
 use Rattle.annex.specs.Records.{headOf, valuesOf}
 use Rattle.annex.specs.declared.Transfer.{Transfer}
 use Rattle.laws.specs.Extents.{lead-within}
-use Rattle.reader.specs.Filling.{itemsFrom, itemsAt, filledWith, items-cut, items-more, filled-turn, items-end, filled-end}
+use Rattle.reader.specs.Filling.{itemsFrom, itemsLeft, filledWith, items-cut, items-more, filled-turn, items-end, filled-end}
 use Rattle.reader.proofs.reading.with_transfers.Statement.{statement}
 use Rattle.reader.proofs.reading.with_transfers.Tie as tie
 
 abbrev Inv-loop : tie.InvT-loop
 Inv-loop t transfers taken q₀ k₀ used₀ i₀ q k used i =
     (i ≤ length t) ×
-    (filledWith q₀ (itemsFrom t) k₀ used₀ ≡ filledWith q (itemsAt t i) k used) ×
-    (k + length (itemsAt t i) ≤ 52) ×
-    (used + length (valuesOf (itemsAt t i)) ≤ 512)
+    (filledWith q₀ (itemsFrom t) k₀ used₀ ≡ filledWith q (itemsLeft t i) k used) ×
+    (k + length (itemsLeft t i) ≤ 52) ×
+    (used + length (valuesOf (itemsLeft t i)) ≤ 512)
 
 abbrev μ-loop : tie.MeasureT-loop
 μ-loop t transfers taken q₀ k₀ used₀ i₀ q k used i = length t - i
@@ -48,7 +48,7 @@ itemAt c =
 more : (c : tie.After-lead Inv-loop μ-loop) →
     let a = c .before .before .before .before .before .before .before in
     let t = now (a .before .before .args .t) in
-    itemsAt t (a .loop .i) ≡ itemAt c ∷ itemsAt t (a .loop .i + 1 + c .before .before .octets-after .result)
+    itemsLeft t (a .loop .i) ≡ itemAt c ∷ itemsLeft t (a .loop .i + 1 + c .before .before .octets-after .result)
 more c =
     let o = c .before .before in
     let e = o .before .before .extent-of .ensures in
@@ -86,7 +86,7 @@ room-for k used x is js e p v =
 room : (c : tie.After-lead Inv-loop μ-loop) →
     let a = c .before .before .before .before .before .before .before in
     let t = now (a .before .before .args .t) in
-    Room (a .loop .k) (a .loop .used) (itemAt c) (itemsAt t (a .loop .i + 1 + c .before .before .octets-after .result))
+    Room (a .loop .k) (a .loop .used) (itemAt c) (itemsLeft t (a .loop .i + 1 + c .before .before .octets-after .result))
 room c =
     let a = c .before .before .before .before .before .before .before in
     room-for _ _ _ _ _ (more c) (a .loop .inv .2) (a .loop .inv .3)
