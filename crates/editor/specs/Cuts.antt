@@ -39,7 +39,7 @@ free-end : (l : ℕ) (f : Found) (from to : ℕ) → freeEnd l f ≡ At from to 
 free-end l (At s e) from to g = absurd (let z : _≡_ {A = ℕ} 0 1 = cc in omega arith)
 free-end l Nowhere from to g = (cc, cc)
 
--- what the edit brings and where, by what its theorem tells: old is taken out, or stands for nothing at the end
+-- where the edit is made and what it brings, by what its theorem tells: the parameter old is taken out, or old is empty and the last
 module _ (m front old put back : List ℕ) (s j from to : ℕ) (v : transfersVerdict (front ++ (old ++ back)) ≡ Accepted j) where
   stood : (x : ℕ) → Stands x m (front ++ (old ++ back)) s (length front) old → wholeSearch x (front ++ (old ++ back)) ≡ At from to → (from ≡ length front) × (to ≡ length front + length old)
   stood x w f =

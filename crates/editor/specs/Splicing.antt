@@ -22,8 +22,8 @@ use Rattle.theorems.specs.Reasons.{editedIn}
 use Rattle.theorems.specs.Splices.{Spliced, length-becomes, length-transfer, octets-become}
 use Rattle.editor.specs.Steps.{roomAnswer}
 
--- the octets from index from to before to lie in the transfer data, which stands from index start to before end in the message in the first
--- n octets of d, a length octet before it
+-- the transfer data stands from index start to before end in the message in the first n octets of d, a length octet before it, and has
+-- octets from its own index from to before to
 pub record Placed (d : List ℕ) (n start end from to : ℕ) : Type 0 where
   pub counted : 1 ≤ start
   pub order : from ≤ to

@@ -19,8 +19,8 @@ ghost use Rattle.annex.specs.Promises.{EditPromise};
 ghost use Rattle.editor.specs.Steps.{editOf, Brings};
 ghost use Rattle.editor.specs.Splicing.{Placed, SplicePromise};
 
-// The last step: 14, then 15, or new in the place of the octets from index from to before to of the transfer data. That stands from index
-// start to before end, C5's length octet right before it.
+// The last step: 14, then 15, or new in the place of the transfer data's octets from its own index from to before to. The transfer data
+// stands from index start to before end of the buffer, C5's length octet right before it.
 fn splice_in(
     buffer: &mut [u8],
     n: usize,
