@@ -84,7 +84,6 @@ roomy = M ++ (0xEE ∷ 0xEE ∷ [])
 -- what the definitions say, computed once
 pub record Said : Type 0 where
   pub verdict-cut : verdictOf K ≡ Refused 4 4
-  pub verdict-short : verdictOf short ≡ Accepted 5
   pub reading-short : readingOf short .answer ≡ Accepted 5
   pub reading-M : readingOf M .«record» ≡ pack recordOfM
   pub own-call : findPart M (commonFound 0x83 M) ≡ 0x39 ∷ 0x30 ∷ 0x00 ∷ []
@@ -97,7 +96,6 @@ pub record Said : Type 0 where
   pub no-room : spansOf M 8 ≡ Refused 15 0
   pub area-row : rowAt M 5 ≡ record { offset = 12; header = 0x90; len = 3 }
   pub no-row : rowAt M 9 ≡ record { offset = 0; header = 0; len = 0 }
-  pub written-answer : writingOf (pack recordOfK) 6 ≡ Accepted 5
   pub nothing-held : structWriting (pack []) ≡ Refused 6 0
   pub least-held : structWriting (pack recordOfK) ≡ Accepted 5
   pub written : writtenOf (pack recordOfK) (replicate 6 0xEE) ≡ short ++ (0xEE ∷ [])
