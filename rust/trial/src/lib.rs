@@ -3,13 +3,11 @@
 //!
 //! An [`Input`] is one call of any kind with all its arguments; [`generate`]
 //! makes one, [`answer`] puts it to the plain codec and gives the [`Outcome`].
-//! Both have a form in octets, [`Input::request`] and [`Outcome::octets`], so
-//! that another program can be fed the same inputs and its outcomes compared.
+//! The same seed and index give the same input on every machine.
 //!
 //! ```
 //! let input = trial::input_at(1, 0);
-//! let request = input.request();
-//! assert_eq!(trial::Input::from_request(&request), Some((input, request.len())));
+//! assert_eq!(trial::answer(&input).memory.len(), input.lent().len());
 //! ```
 
 #![forbid(unsafe_code)]

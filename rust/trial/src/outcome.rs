@@ -34,15 +34,6 @@ impl Outcome {
         (self.packed & 0xFFFF) as usize
     }
 
-    /// The outcome in octets: the packed answer (8, least first), then the
-    /// lent memory after the call.
-    pub fn octets(&self) -> Vec<u8> {
-        let mut octets = Vec::with_capacity(8 + self.memory.len());
-        octets.extend(self.packed.to_le_bytes());
-        octets.extend_from_slice(&self.memory);
-        octets
-    }
-
     fn new(packed: u64, memory: Vec<u8>) -> Self {
         Outcome { packed, memory }
     }

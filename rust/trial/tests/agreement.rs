@@ -8,22 +8,6 @@ const SEED: u64 = 4242;
 const COUNT: u64 = 200_000;
 
 #[test]
-fn requests_return() {
-    let mut stream = Vec::new();
-    for index in 0..2_000 {
-        stream.extend(input_at(SEED, index).request());
-    }
-    let mut rest = &stream[..];
-    for index in 0..2_000 {
-        let (input, len) = Input::from_request(rest).expect("a whole request");
-        assert_eq!(input, input_at(SEED, index));
-        assert_eq!(Input::from_request(&rest[..len - 1]), None);
-        rest = &rest[len..];
-    }
-    assert!(rest.is_empty());
-}
-
-#[test]
 fn answers_agree() {
     for index in 0..COUNT {
         let input = input_at(SEED, index);
