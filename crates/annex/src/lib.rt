@@ -1,6 +1,5 @@
 // The types of document 01, with the constants and constructors of the common, transfer and signal kinds.
 // What they mean is said in specs/, which is all that a reader has to believe.
-ghost use mathlib.Core.Path.{_≡_};
 ghost use Prim.Native.Nat.{_+_, _*_, _%_};
 ghost use Rattle.annex.specs.Promises.{Gives};
 ghost use Rattle.annex.specs.Units.{octetsOf};
@@ -399,7 +398,7 @@ impl Signal {
 
     // The kind with this H0 and H1, each taken as four bits.
     pub fn of(h0: u8, h1: u8) -> Signal
-        ensures { λ r. ⌜ r .0 ≡ 16 * (h0 % 16) + h1 % 16 ⌝ }
+        ensures { λ r. ⌜ Gives (16 * (h0 % 16) + h1 % 16) (r .0) ⌝ }
     {
         Signal(16 * (h0 % 16) + h1 % 16)
     }
