@@ -1,4 +1,4 @@
--- Places and values are below 2^16 in every answer that is oneNumber, so that nothing of it is lost: oneNumber, its number, place and value can be
+-- Places and values are below 2^16 in every answer that is packed, so that nothing of it is lost: packed, its number, place and value can be
 -- told again.
 use Prim.Native.Nat.{ℕ, zero, suc, _+_, _-_, _/_, _%_, _≤_, _<_}
 use native.Mathlib.Omega.{arith}
@@ -59,7 +59,7 @@ use Rattle.annex.specs.Reading.{
   recordOf,
 }
 use Rattle.annex.specs.Packed.{oneNumber, packedAnswer, row-octets, octetSpans}
-use Rattle.annex.specs.Finding.{foundAnswer, foundPart, commonFound, transferFound, findAnswer, findPart}
+use Rattle.annex.specs.Finding.{foundAnswer, foundPart, findAnswer, findPart}
 use Rattle.annex.specs.Spans.{rowsOf, spansOf}
 use Rattle.annex.specs.Editing.{Edit, newHeader, newAfter, newContents, present, editRefusal, edited, recordEditing, editingOf}
 use Rattle.annex.specs.Editing.Edit.{Replacing, Appending, Removing}
@@ -68,6 +68,7 @@ use Rattle.annex.specs.declared.Answer.{Answer}
 use Rattle.annex.specs.declared.Answer.the-variants.{Accepted, Refused}
 use Rattle.annex.specs.declared.Fault.{Fault}
 use Rattle.annex.specs.declared.Fault.the-variants.{Sound, Bad}
+use Rattle.annex.specs.declared.Key.{Key}
 use Rattle.annex.specs.declared.Found.{Found}
 use Rattle.annex.specs.declared.Found.the-variants.{At, Nowhere}
 use Rattle.annex.specs.declared.Class.{Class}
@@ -76,12 +77,12 @@ use Rattle.annex.specs.declared.ClassAnswer.{ClassAnswer}
 use Rattle.annex.specs.declared.ClassAnswer.the-variants as classes
 use Rattle.laws.specs.Bools.{or-right}
 use Rattle.laws.specs.Few.{rows-few}
-use Rattle.laws.specs.Finding.{Inside, commonPlain, common-inside, transferPlain, transfer-inside, common-plain, transfer-plain}
+use Rattle.laws.specs.Finding.{Inside, plainBy, plain-inside, foundBy, plain-found}
 use Rattle.theorems.specs.Messages.{message-read}
 use Rattle.theorems.specs.Layouts.{laid-then-read}
 use Rattle.theorems.specs.Edits.{OfOctets, edited-allowed}
 
--- ---- what is oneNumber
+-- ---- what is packed
 
 -- neither the place nor the count is over n
 abbrev pub Upto : ℕ → Answer → Type 0
@@ -228,11 +229,8 @@ module _ (m : List ℕ) where
           rw (e, same n e) ((omega (arith, w .0 .0), omega (arith, w .0 .1)), omega (arith, w .1))
       go (Refused k p) e u = rw e ((u .0, omega arith), omega arith)
 
-  pub common-upto : (h : ℕ) → Told (commonFound h m)
-  common-upto h = told-by (commonFound h m) (commonPlain h m) (common-plain h m) (common-inside h m)
-
-  pub transfer-upto : (x : ℕ) → Told (transferFound x m)
-  transfer-upto x = told-by (transferFound x m) (transferPlain x m) (transfer-plain x m) (transfer-inside x m)
+  pub find-upto : (k : Key) → Told (foundBy k m)
+  find-upto k = told-by (foundBy k m) (plainBy k m) (plain-found k m) (plain-inside k m)
 
 -- ---- editing
 
