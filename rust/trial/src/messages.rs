@@ -157,19 +157,25 @@ fn data(rng: &mut Rng, size: Size) -> Vec<Vec<u8>> {
             parameters.push(parameter);
         }
     }
-    if let Some([alone, any_length]) = filler {
-        match left {
-            0 => {}
-            1 => parameters.push(vec![alone]),
-            _ => {
-                let contents = rng.octets(left - 2);
-                let head = [0xC0 | any_length, contents.len() as u8];
-                parameters.push([&head, &contents[..]].concat());
-            }
-        }
-        rng.shuffle(&mut parameters);
+    if let Some(names) = filler {
+        fill_up(rng, &mut parameters, names, left);
     }
     parameters
+}
+
+/// Takes all that is left, by one of the two names.
+fn fill_up(rng: &mut Rng, parameters: &mut Vec<Vec<u8>>, names: [u8; 2], left: usize) {
+    let [alone, any_length] = names;
+    match left {
+        0 => {}
+        1 => parameters.push(vec![alone]),
+        _ => {
+            let contents = rng.octets(left - 2);
+            let head = [0xC0 | any_length, contents.len() as u8];
+            parameters.push([&head, &contents[..]].concat());
+        }
+    }
+    rng.shuffle(parameters);
 }
 
 /// Takes two names out that can fill what is left: one that can stand alone,
@@ -223,20 +229,7 @@ pub fn damage(rng: &mut Rng, draft: &mut Draft) {
 /// Damages the common part.
 fn damage_common(rng: &mut Rng, draft: &mut Draft) {
     match rng.below(12) {
-        0 | 1 if !draft.parts.is_empty() => {
-            let again = draft.parts[rng.below(draft.parts.len())].clone();
-            draft.insert(rng, again);
-        }
-        2 => {
-            let header = rng.pick(&[0x01, 0x06, 0x82, 0x83, 0x04, 0xC5]);
-            let again = Part::Common(common(rng, header));
-            draft.insert(rng, again);
-        }
-        3 => {
-            let header = rng.octet();
-            let other = Part::Common(common(rng, header));
-            draft.insert(rng, other);
-        }
+        0..=3 => add_common(rng, draft),
         4 | 5 => {
             let header = rng.pick(&[0x01, 0x06]);
             draft.parts.retain(
@@ -272,6 +265,22 @@ fn damage_common(rng: &mut Rng, draft: &mut Draft) {
             draft.end.clear();
         }
     }
+}
+
+/// Adds a common parameter: one that is there, one of a listed header, or any.
+fn add_common(rng: &mut Rng, draft: &mut Draft) {
+    let added = match rng.below(4) {
+        0 | 1 if !draft.parts.is_empty() => draft.parts[rng.below(draft.parts.len())].clone(),
+        2 => {
+            let header = rng.pick(&[0x01, 0x06, 0x82, 0x83, 0x04, 0xC5]);
+            Part::Common(common(rng, header))
+        }
+        _ => {
+            let header = rng.octet();
+            Part::Common(common(rng, header))
+        }
+    };
+    draft.insert(rng, added);
 }
 
 /// Damages the transfer data.

@@ -248,6 +248,7 @@ fn stranger(rng: &mut Rng) -> Transfer {
     parameter
 }
 
+/// Damages a transfer parameter: its header, its fields or its values.
 fn damage_transfer(rng: &mut Rng, parameter: &mut Transfer) {
     match rng.below(12) {
         0 => parameter.header = rng.octet(),
@@ -266,26 +267,32 @@ fn damage_transfer(rng: &mut Rng, parameter: &mut Transfer) {
             }
         }
         6 => parameter.presentation = 2,
-        7 => {
+        _ => damage_values(rng, &mut parameter.values),
+    }
+}
+
+fn damage_values(rng: &mut Rng, values: &mut Vec<u8>) {
+    match rng.below(5) {
+        0 => {
             let digit = rng.pick(&[10, 11, 12, 13, 15, 16, 255]);
-            let at = rng.between(0, parameter.values.len());
-            parameter.values.insert(at, digit);
+            let at = rng.between(0, values.len());
+            values.insert(at, digit);
         }
-        8 => {
-            if !parameter.values.is_empty() {
-                let at = rng.below(parameter.values.len());
-                parameter.values[at] = rng.octet();
+        1 => {
+            if !values.is_empty() {
+                let at = rng.below(values.len());
+                values[at] = rng.octet();
             }
         }
-        9 => {
-            parameter.values.pop();
+        2 => {
+            values.pop();
         }
-        10 => parameter.values.push(rng.octet() & 0x0F),
+        3 => values.push(rng.octet() & 0x0F),
         _ => {
             let len = rng.pick(&[0, 1, 2, 3, 5, 62, 63, 64, 65, 127, 128, 253, 254, 255, 256]);
             let len = len * rng.between(1, 2) + rng.below(2);
             let value = rng.octet() & 0x0F;
-            parameter.values.resize(len, value);
+            values.resize(len, value);
         }
     }
 }
