@@ -8,6 +8,9 @@ use lib.Dec.{eqb, leb, ltb}
 use lib.ListN.{length, getD}
 use Rattle.annex.specs.Units.{nameOf, afterOf, extentOf}
 use Rattle.annex.specs.Heads.{
+  advanced-telephony,
+  added-calling-number,
+  withheld,
   among,
   Form,
   Marks,
@@ -22,7 +25,7 @@ use Rattle.annex.specs.Heads.{
   most-transfers,
   most-transfer-octets,
   most-digits,
-  call-numbers,
+  call-number-below,
   nameUsed,
   pliRight,
   oftenOf,
@@ -77,14 +80,14 @@ lengthBy AsGeneric i = lengthFits (extentOf (i .header)) (contentsOf i)
 unfoldable pub lengthRight : Item → Bool
 lengthRight i = lengthBy (heldAs i) i
 
--- marks of one bit, the type of dialling 0-3
+-- Writing, 12: a mark has one bit, the type of dialling two
 abbrev pub marksRight : Marks → Item → Bool
 marksRight Unmarked i = true
 marksRight Notified i = leb (i .notification) 1
 marksRight Verified i = leb (i .notification) 1 && leb (i .verification) 1
 marksRight Typed i = leb (i .dialling) 3
 
--- a number's fields by their bits: type 6-0, incomplete 7, plan 6-4, presentation 3-2, screening 1-0
+-- Writing, 12: a number's fields have as many bits as their octets leave them
 abbrev pub fieldsRight : Item → Bool
 fieldsRight i =
     leb (i .numberType) 127 && (leb (i .incomplete) 1 && (leb (i .plan) 7 && (leb (i .presentation) 3 && leb (i .screening) 3)))
@@ -93,12 +96,13 @@ fieldsRight i =
 abbrev pub withheldRight : Item → Bool
 withheldRight i = eqb (i .numberType) 0 && (eqb (i .incomplete) 0 && (eqb (i .plan) 0 && eqb (length (i .values)) 0))
 
+-- Transfer data, and Writing, 12: by the form that the header asks
 abbrev pub formBy : Form → Item → Bool
 formBy Carried i = clear (zeroesOf (i .header)) (getD (i .values) 0 0)
 formBy (Digits m) i = marksRight m i
 formBy Number i = fieldsRight i
-formBy Calling i = fieldsRight i && cond (eqb (i .presentation) 2) (withheldRight i) true
-formBy Generic i = leb 1 (length (i .values)) && cond (eqb (getD (i .values) 0 0) 6) (fieldsRight i) true
+formBy Calling i = fieldsRight i && cond (eqb (i .presentation) withheld) (withheldRight i) true
+formBy Generic i = leb 1 (length (i .values)) && cond (eqb (getD (i .values) 0 0) added-calling-number) (fieldsRight i) true
 formBy (Long n) i = eqb (length (i .values)) n
 formBy (Two mask) i = eqb (length (i .values)) 2 && clear mask (getD (i .values) 1 0)
 
@@ -115,7 +119,7 @@ digitsRight i = every isDigit (digitsBy (heldAs i) i)
 -- Common part, and refusal 5: the user class is 01, the signal kind one of the list
 unfoldable pub valueRight : Part → Bool
 valueRight p =
-    cond (eqb (p .header) user-class) (eqb (p .value) 0x01)
+    cond (eqb (p .header) user-class) (eqb (p .value) advanced-telephony)
     (cond (eqb (p .header) signal-kind) (among (p .value) signalKinds)
     true)
 
@@ -123,7 +127,7 @@ valueRight p =
 unfoldable pub valueFits : Part → Bool
 valueFits p =
     cond (eqb (p .header) sequence) (isOctet (p .value))
-    (cond (isCall (p .header)) (ltb (p .value) call-numbers)
+    (cond (isCall (p .header)) (ltb (p .value) call-number-below)
     true)
 
 -- ---- how a record holds its values: headers and carried values are octets, and what a parameter does not have is 0 or none

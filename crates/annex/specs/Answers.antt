@@ -13,71 +13,71 @@ use Rattle.annex.specs.declared.Class.the-variants.{Named, HeldBack, Spa
 use Rattle.annex.specs.declared.ClassAnswer.{ClassAnswer}
 use Rattle.annex.specs.declared.ClassAnswer.the-variants as classes
 
--- 1: message empty or over 272; record over its limits
+-- 1: a message of no octets or of more than 272, or a record beyond what a record may hold
 abbrev pub over-limits : ℕ
 over-limits = 1
 
--- 2: common header not listed
+-- 2: a common header that is not in the list
 abbrev pub unlisted : ℕ
 unlisted = 2
 
--- 3: common parameter repeated
+-- 3: a common parameter for the second time
 abbrev pub repeated : ℕ
 repeated = 3
 
--- 4: message ends inside a parameter, or with no end mark
+-- 4: a common parameter runs past the end of the message, or there is no end mark
 abbrev pub cut-short : ℕ
 cut-short = 4
 
--- 5: user class or signal kind not allowed
+-- 5: a user class or a signal kind that is none of the allowed ones
 abbrev pub not-allowed : ℕ
 not-allowed = 5
 
--- 6: 01 or 06 missing at the end mark
+-- 6: the end mark comes before user class and signal kind have both stood
 abbrev pub missing : ℕ
 missing = 6
 
--- 7: octets after the end mark
+-- 7: something follows the end mark
 abbrev pub left-over : ℕ
 left-over = 7
 
--- 8: transfer name unused
+-- 8: a transfer name that is not in use
 abbrev pub unused-name : ℕ
 unused-name = 8
 
--- 9: PLI not that name's
+-- 9: a transfer name under a PLI that it does not have
 abbrev pub other-pli : ℕ
 other-pli = 9
 
--- 10: transfer name repeated
+-- 10: a transfer name oftener than it may stand
 abbrev pub repeated-name : ℕ
 repeated-name = 10
 
--- 11: contents cut by the end of the transfer data; in writing and editing, contents of another length
+-- 11: contents run past the end of the transfer data; or, to be written or edited, are not as long as the PLI asks
 abbrev pub cut-contents : ℕ
 cut-contents = 11
 
--- 12: zero bit set, or bad form
+-- 12: a bit that must be 0 is set, the contents are of the wrong form, or a value is too large for its bits
 abbrev pub bad-form : ℕ
 bad-form = 12
 
--- 13: spare digit, or filler not 0
+-- 13: a digit code without a meaning, or a half-octet left over that is not 0
 abbrev pub bad-digit : ℕ
 bad-digit = 13
 
--- 14: transfer data over 255
+-- 14: more than 255 octets of transfer data
 abbrev pub transfer-over : ℕ
 transfer-over = 14
 
--- 15: lent room shorter than the message or rows to be given
+-- 15: what is lent is too short
 abbrev pub no-room : ℕ
 no-room = 15
 
--- 16: name, or transfer data, absent
+-- 16: the parameter, or the transfer data, is not there
 abbrev pub absent : ℕ
 absent = 16
 
--- 17: no class list for this header
+-- 17: the code values of this header have no classes
 abbrev pub no-class-list : ℕ
 no-class-list = 17
 

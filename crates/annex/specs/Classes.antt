@@ -45,6 +45,7 @@ pub record ClassList : Type 0 where
 abbrev lists : ℕ → Look → List Range → List Range → ClassList
 lists h l n b = record { header = h; look = l; named = n; held = b }
 
+-- Classes of code values: header, what of the octet is looked at, the values named and those held back; the others are spare
 abbrev pub classLists : List ClassList
 classLists =
     lists 0x42 Whole (upTo 0 6 ∷ upTo 8 15 ∷ []) [] ∷

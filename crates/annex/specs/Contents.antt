@@ -7,7 +7,7 @@ use lib.Dec.{eqb, ltb}
 use lib.Bits.{bitAnd}
 use lib.ListN.{length, getD, drop}
 use Rattle.annex.specs.Answers.{bad-form}
-use Rattle.annex.specs.Heads.{Form, zeroesOf, formOf}
+use Rattle.annex.specs.Heads.{added-calling-number, withheld, Form, zeroesOf, formOf}
 use Rattle.annex.specs.Heads.Form.{Carried, Digits, Number, Calling, Generic, Long, Two}
 use Rattle.annex.specs.Digits.{digitsFault}
 use Rattle.annex.specs.declared.Alphabet.the-variants.{Dialled, Numbered}
@@ -50,13 +50,13 @@ numberFault at s =
 -- Transfer data, DC: a number; where it is withheld (presentation 2) two octets, with nothing told but presentation and screening
 unfoldable pub callingFault : List ℕ → Fault
 callingFault s =
-    cond (eqb (presentationOf s) 2)
+    cond (eqb (presentationOf s) withheld)
     (formed (eqb (length s) 2 && (eqb (getD s 0 0) 0 && ltb (getD s 1 0) 16)))
     (numberFault 0 s)
 
 -- Transfer data, DA: a first octet, which says whether a number follows (06) or anything at all
 unfoldable pub genericFault : List ℕ → Fault
-genericFault s = formedThen (not (eqb (length s) 0)) (cond (eqb (getD s 0 0) 6) (numberFault 1 (drop 1 s)) Sound)
+genericFault s = formedThen (not (eqb (length s) 0)) (cond (eqb (getD s 0 0) added-calling-number) (numberFault 1 (drop 1 s)) Sound)
 
 -- Transfer data, PLI 10: the count octet, then its digits
 unfoldable pub dialledFault : List ℕ → Fault

@@ -75,6 +75,7 @@ unfoldable pub replaced : Item → List Item → List Item
 replaced new [] = []
 replaced new (i ∷ is) = cond (eqb (nameOf (i .header)) (nameOf (new .header))) (new ∷ is) (i ∷ replaced new is)
 
+-- without the one that has the name x
 unfoldable pub removed : ℕ → List Item → List Item
 removed x [] = []
 removed x (i ∷ is) = cond (eqb (nameOf (i .header)) x) is (i ∷ removed x is)

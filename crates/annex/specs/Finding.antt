@@ -5,7 +5,7 @@ use mathlib.Core.Bool.{cond}
 use mathlib.Core.List.{List, [], _∷_}
 use lib.Dec.{eqb}
 use lib.ListN.{length, take, drop}
-use Rattle.annex.specs.Answers.{absent, andThen}
+use Rattle.annex.specs.Answers.{startOf, stopOf, absent, andThen}
 use Rattle.annex.specs.Units.{nameOf, leadOf, extentOf, commonExtentOf}
 use Rattle.annex.specs.Heads.{end-mark, transfer-data}
 use Rattle.annex.specs.Walk.{Par}
@@ -52,8 +52,7 @@ findAnswer m f = andThen (verdictOf m) (λ _. foundAnswer f)
 
 -- the stretch itself
 abbrev pub foundPart : List ℕ → Found → List ℕ
-foundPart m (At s e) = take (e - s) (drop s m)
-foundPart m Nowhere = []
+foundPart m f = take (stopOf f - startOf f) (drop (startOf f) m)
 
 abbrev pub partBy : Answer → List ℕ → Found → List ℕ
 partBy (Accepted n) m f = foundPart m f

@@ -1,7 +1,7 @@
 -- The headers and limits: document 01, "Common part" (the table of headers, the signal kinds) and "Transfer data" (the lists under
 -- PLI 01, PLI 10 and PLI 11, the names with no layout, the unused names).
-use Prim.Native.Nat.{ℕ}
-use mathlib.Core.Bool.{Bool, false, cond, not, _||_}
+use Prim.Native.Nat.{ℕ, _+_, _*_, _%_}
+use mathlib.Core.Bool.{Bool, false, cond, not, _&&_, _||_}
 use mathlib.Core.List.{List, [], _∷_, map}
 use lib.Dec.{eqb}
 use Rattle.annex.specs.Units.{pliOf, nameOf}
@@ -45,9 +45,24 @@ listedHeaders = end-mark ∷ commonHeaders
 abbrev pub isCall : ℕ → Bool
 isCall h = eqb h partners-call || eqb h own-call
 
+-- Common part, 06: H0 in the high half (house), H1 in the low half
+abbrev pub signalOf : ℕ → ℕ → ℕ
+signalOf h0 h1 = 16 * (h0 % 16) + h1 % 16
+
+-- Common part, the signal kinds; and the one user class that is allowed
 abbrev pub signalKinds : List ℕ
 signalKinds =
     0x11 ∷ 0x12 ∷ 0x23 ∷ 0x24 ∷ 0x25 ∷ 0x26 ∷ 0x31 ∷ 0x61 ∷ 0x62 ∷ 0x71 ∷ 0x72 ∷ 0x73 ∷ 0x74 ∷ []
+
+abbrev pub advanced-telephony : ℕ
+advanced-telephony = 0x01
+
+-- Transfer data, DA: the first octet with which a number follows; DC: the presentation with which it is withheld
+abbrev pub added-calling-number : ℕ
+added-calling-number = 0x06
+
+abbrev pub withheld : ℕ
+withheld = 2
 
 -- the limits of document 01
 abbrev pub most-octets : ℕ
@@ -65,8 +80,12 @@ most-transfer-octets = 255
 abbrev pub most-digits : ℕ
 most-digits = 63
 
-abbrev pub call-numbers : ℕ
-call-numbers = 0x1000000
+abbrev pub call-number-below : ℕ
+call-number-below = 0x1000000
+
+-- room for the values of a record in its struct: two to a contents octet, and some over
+abbrev pub most-values : ℕ
+most-values = 512
 
 -- the upper two bits of a count octet: none told, notification (bit 7), notification and verification (7, 6), or the type of dialling
 pub data Marks : Type 0 where
@@ -164,7 +183,7 @@ oftenOf x = 1
 
 -- a header in no list: no bits asked; digits under PLI 10, unless the name has no layout; else carried
 abbrev unlistedHead : ℕ → Head
-unlistedHead h = row h 0x00 (cond (not (isFree h)) (cond (eqb (pliOf h) 2) (Digits Unmarked) Carried) Carried)
+unlistedHead h = row h 0x00 (cond (not (isFree h) && eqb (pliOf h) 2) (Digits Unmarked) Carried)
 
 abbrev headIn : List Head → ℕ → Head
 headIn [] h = unlistedHead h

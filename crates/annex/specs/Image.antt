@@ -5,7 +5,7 @@ use mathlib.Core.List.{List, [], _∷_, _++_}
 use lib.Dec.{eqb, leb, ltb}
 use lib.ListN.{length, getD, take, drop}
 use Rattle.annex.specs.Answers.{over-limits, no-room, refuse}
-use Rattle.annex.specs.Heads.{transfer-data, most-commons, most-transfers}
+use Rattle.annex.specs.Heads.{transfer-data, most-commons, most-transfers, most-values}
 use Rattle.annex.specs.Items.{Item, Part}
 use Rattle.annex.specs.Allowed.{itemsIn}
 use Rattle.annex.specs.Records.{headOf, commonHeadOf, rawItem, valuesOf, pack, isWhole, view}
@@ -137,7 +137,7 @@ noImage = record { answer = Refused over-limits 0; held = pack [] }
 -- the limits of the struct
 unfoldable pub isWithin : List Part → Bool
 isWithin r =
-    leb (length r) most-commons && (leb (length (itemsIn r)) most-transfers && leb (length (valuesOf (itemsIn r))) 512)
+    leb (length r) most-commons && (leb (length (itemsIn r)) most-transfers && leb (length (valuesOf (itemsIn r))) most-values)
 
 -- the parameters of n octets: a record where they take all octets and are within the limits
 abbrev pub imagedBy : ℕ → Front Part → Imaged

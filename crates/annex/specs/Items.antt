@@ -4,7 +4,7 @@ use mathlib.Core.Bool.{cond}
 use mathlib.Core.List.{List, [], _∷_}
 use lib.Dec.{eqb}
 use lib.ListN.{length, getD, drop}
-use Rattle.annex.specs.Heads.{Form, Marks, formOf}
+use Rattle.annex.specs.Heads.{added-calling-number, Form, Marks, formOf}
 use Rattle.annex.specs.Heads.Marks.{Unmarked, Notified, Verified, Typed}
 use Rattle.annex.specs.Heads.Form.{Carried, Digits, Number, Calling, Generic, Long, Two}
 use Rattle.annex.specs.Digits.{digitsOf, packed}
@@ -42,7 +42,7 @@ holdingBy Carried x = AsContents
 holdingBy (Digits m) x = AsDigits m
 holdingBy Number x = AsNumber
 holdingBy Calling x = AsNumber
-holdingBy Generic x = cond (eqb x 6) AsGeneric AsContents
+holdingBy Generic x = cond (eqb x added-calling-number) AsGeneric AsContents
 holdingBy (Long n) x = AsContents
 holdingBy (Two mask) x = AsContents
 
@@ -82,7 +82,7 @@ markedItem h n v d vs =
       values = vs;
     }
 
--- a number's first octet: odd mark (7), number type (6-0). Its second: incomplete mark (7), plan (6-4), presentation (3-2), screening (1-0)
+-- Transfer data, D7: x and y are the two octets before the digits; bit 7 of x, the odd mark, is no value of the record
 abbrev pub numberItem : ℕ → ℕ → ℕ → List ℕ → Item
 numberItem h x y vs =
     record {
@@ -105,11 +105,12 @@ openMarks Notified h u vs = markedItem h (u / 2) 0 0 vs
 openMarks Verified h u vs = markedItem h (u / 2) (u % 2) 0 vs
 openMarks Typed h u vs = markedItem h 0 0 u vs
 
+-- Writing: what a record holds of the contents s, held so
 abbrev pub openBy : Holding → ℕ → List ℕ → Item
 openBy AsContents h s = plainItem h s
 openBy (AsDigits m) h s = openMarks m h (getD s 0 0 / 64) (digitsOf Dialled (getD s 0 0 % 64) (drop 1 s))
 openBy AsNumber h s = numberItem h (getD s 0 0) (getD s 1 0) (digitsOf Numbered (countOf s) (drop 2 s))
-openBy AsGeneric h s = numberItem h (getD s 1 0) (getD s 2 0) (6 ∷ digitsOf Numbered (countOf (drop 1 s)) (drop 3 s))
+openBy AsGeneric h s = numberItem h (getD s 1 0) (getD s 2 0) (added-calling-number ∷ digitsOf Numbered (countOf (drop 1 s)) (drop 3 s))
 
 -- the parameter with the header h and the contents s
 unfoldable pub itemOf : ℕ → List ℕ → Item
@@ -128,11 +129,12 @@ abbrev pub numberContents : Item → List ℕ → List ℕ
 numberContents i ds =
     (128 * (length ds % 2) + i .numberType) ∷ (128 * i .incomplete + 16 * i .plan + 4 * i .presentation + i .screening) ∷ packed Numbered ds
 
+-- and the contents that it stands for
 abbrev pub contentsBy : Holding → Item → List ℕ
 contentsBy AsContents i = i .values
 contentsBy (AsDigits m) i = (64 * upperMarks m i + length (i .values)) ∷ packed Dialled (i .values)
 contentsBy AsNumber i = numberContents i (i .values)
-contentsBy AsGeneric i = 6 ∷ numberContents i (drop 1 (i .values))
+contentsBy AsGeneric i = added-calling-number ∷ numberContents i (drop 1 (i .values))
 
 abbrev pub heldAs : Item → Holding
 heldAs i = holdingOf (i .header) (getD (i .values) 0 0)

@@ -4,7 +4,7 @@ use Prim.Native.Nat.{ℕ, _+_, _*_, _/_, _%_}
 use mathlib.Core.List.{List, [], _∷_, _++_}
 use lib.Dec.{ltb}
 use lib.ListN.{length, drop}
-use Rattle.annex.specs.Answers.{no-room, refuse, andThen, classValueOf}
+use Rattle.annex.specs.Answers.{numberOf, placeOf, givenOf, classNumberOf, classPlaceOf, classGivenOf, no-room, refuse, andThen}
 use Rattle.annex.specs.Layout.{layout}
 use Rattle.annex.specs.Reading.{verdictOf, recordOf}
 use Rattle.annex.specs.Records.{view}
@@ -14,7 +14,6 @@ use Rattle.annex.specs.Spans.{rowsOf, spansOf}
 use Rattle.annex.specs.declared.Answer.{Answer}
 use Rattle.annex.specs.declared.Answer.the-variants.{Accepted, Refused}
 use Rattle.annex.specs.declared.ClassAnswer.{ClassAnswer}
-use Rattle.annex.specs.declared.ClassAnswer.the-variants as classes
 use Rattle.annex.specs.declared.Row.{Row}
 
 -- ---- answers
@@ -24,8 +23,7 @@ oneNumber number place value = number * 4294967296 + place % 65536 * 65536 + val
 
 -- a count, or number and place
 abbrev pub packedAnswer : Answer → ℕ
-packedAnswer (Accepted n) = oneNumber 0 0 n
-packedAnswer (Refused k p) = oneNumber k p 0
+packedAnswer a = oneNumber (numberOf a) (placeOf a) (givenOf a)
 
 -- where contents start and how many octets they have, or number and place
 abbrev pub packedLength : Answer → ℕ → ℕ
@@ -37,8 +35,7 @@ packedStretch a part = packedLength a (length part)
 
 -- 0 named, 1 held back, 2 spare, or number and place
 abbrev pub packedClass : ClassAnswer → ℕ
-packedClass (classes.Is c) = oneNumber 0 0 (classValueOf c)
-packedClass (classes.Refused k p) = oneNumber k p 0
+packedClass a = oneNumber (classNumberOf a) (classPlaceOf a) (classGivenOf a)
 
 -- ---- a message read to its record's image
 

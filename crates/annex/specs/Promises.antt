@@ -31,73 +31,95 @@ use Rattle.annex.specs.declared.Imaged.{Imaged}
 use Rattle.annex.specs.declared.Row.{Row}
 use Rattle.annex.specs.declared.ClassAnswer.{ClassAnswer}
 
+-- reader::verdict::verdict
 abbrev pub VerdictPromise : List ℕ → Answer → Type 0
 VerdictPromise m r = r ≡ verdictOf m
 
+-- reader::reading::read
 abbrev pub ReadPromise : List ℕ → Reading → Type 0
 ReadPromise m r = r ≡ readingOf m
 
+-- reader::finding::find_common
 abbrev pub FindCommonPromise : List ℕ → ℕ → List ℕ → Type 0
 FindCommonPromise m h r = r ≡ findPart m (commonFound h m)
 
+-- reader::finding::find_common_answer
 abbrev pub FindCommonAnswerPromise : List ℕ → ℕ → Answer → Type 0
 FindCommonAnswerPromise m h r = r ≡ findAnswer m (commonFound h m)
 
+-- reader::finding::find_transfer
 abbrev pub FindTransferPromise : List ℕ → ℕ → List ℕ → Type 0
 FindTransferPromise m x r = r ≡ findPart m (transferFound x m)
 
+-- reader::finding::find_transfer_answer
 abbrev pub FindTransferAnswerPromise : List ℕ → ℕ → Answer → Type 0
 FindTransferAnswerPromise m x r = r ≡ findAnswer m (transferFound x m)
 
+-- reader::rows::check, listing::list
 abbrev pub SpansCheckPromise : List ℕ → ℕ → Answer → Type 0
 SpansCheckPromise m room r = r ≡ spansOf m room
 
+-- reader::rows::row_at
 abbrev pub RowPromise : List ℕ → ℕ → Row → Type 0
 RowPromise m k r = r ≡ rowAt m k
 
+-- rows::spans
 abbrev pub SpansPromise : List ℕ → List Row → Answer → List Row → Type 0
 SpansPromise m table r now = (r ≡ spansOf m (length table)) × (now ≡ tableOf m table)
 
+-- writer::writing::write
 abbrev pub WritePromise : Record → List ℕ → Answer → List ℕ → Type 0
 WritePromise s room r now = (r ≡ writingOf s (length room)) × (now ≡ writtenOf s room)
 
+-- writer::refusing::record_refusal
 abbrev pub RecordRefusalPromise : Record → Answer → Type 0
 RecordRefusalPromise s r = r ≡ structWriting s
 
+-- editor::replace, append, remove
 abbrev pub EditPromise : Edit → List ℕ → ℕ → Answer → List ℕ → Type 0
 EditPromise e buffer n r now = (r ≡ editingOf e buffer n) × (now ≡ bufferOf e buffer n)
 
+-- classes::class_of
 abbrev pub ClassPromise : ℕ → ℕ → ClassAnswer → Type 0
 ClassPromise h x r = r ≡ classOf h x
 
 -- ---- a record's image
 
+-- image::laying::to_image
 abbrev pub ToImagePromise : Record → List ℕ → Answer → List ℕ → Type 0
 ToImagePromise s room r now = (r ≡ imagingOf s (length room)) × (now ≡ imagedIn s room)
 
+-- image::reading::from_image
 abbrev pub FromImagePromise : List ℕ → Imaged → Type 0
 FromImagePromise image r = r ≡ imagedOf image
 
 -- ---- the functions for Rust and C, which answer one number
 
+-- tk_read
 abbrev pub TkReadPromise : List ℕ → List ℕ → ℕ → List ℕ → Type 0
 TkReadPromise m room r now = (r ≡ packedAnswer (imageReading m (length room))) × (now ≡ imageRead m room)
 
+-- tk_write
 abbrev pub TkWritePromise : List ℕ → List ℕ → ℕ → List ℕ → Type 0
 TkWritePromise image room r now = (r ≡ packedAnswer (imageWriting image (length room))) × (now ≡ imageWritten image room)
 
+-- tk_rows
 abbrev pub TkRowsPromise : List ℕ → List ℕ → ℕ → List ℕ → Type 0
 TkRowsPromise m table r now = (r ≡ packedAnswer (octetSpans m (length table))) × (now ≡ octetTable m table)
 
+-- tk_find_common
 abbrev pub TkFindCommonPromise : List ℕ → ℕ → ℕ → Type 0
 TkFindCommonPromise m h r = r ≡ packedStretch (findAnswer m (commonFound h m)) (findPart m (commonFound h m))
 
+-- tk_find_transfer
 abbrev pub TkFindTransferPromise : List ℕ → ℕ → ℕ → Type 0
 TkFindTransferPromise m x r = r ≡ packedStretch (findAnswer m (transferFound x m)) (findPart m (transferFound x m))
 
+-- tk_class
 abbrev pub TkClassPromise : ℕ → ℕ → ℕ → Type 0
 TkClassPromise h x r = r ≡ packedClass (classOf h x)
 
+-- tk_replace, tk_append, tk_remove
 abbrev pub TkEditPromise : Edit → List ℕ → ℕ → ℕ → List ℕ → Type 0
 TkEditPromise e buffer n r now = (r ≡ packedAnswer (editingOf e buffer n)) × (now ≡ bufferOf e buffer n)
 

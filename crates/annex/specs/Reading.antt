@@ -23,6 +23,7 @@ use Rattle.annex.specs.Answers.{
 }
 use Rattle.annex.specs.Units.{nameOf, afterOf, extentOf, commonExtentOf, contentsIn}
 use Rattle.annex.specs.Heads.{
+  advanced-telephony,
   among,
   listedHeaders,
   signalKinds,
@@ -73,7 +74,7 @@ transfersVerdict t = walk (judging transferStep (λ seen p. Accepted p)) unseen 
 
 -- 5: the octet right after 01 or 06
 unfoldable pub octetAllowed : ℕ → ℕ → Bool
-octetAllowed h x = cond (eqb h user-class) (eqb x 0x01) (cond (eqb h signal-kind) (among x signalKinds) true)
+octetAllowed h x = cond (eqb h user-class) (eqb x advanced-telephony) (cond (eqb h signal-kind) (among x signalKinds) true)
 
 -- 2 to 5
 unfoldable pub commonForm : ℕ → ℕ → List ℕ → Answer

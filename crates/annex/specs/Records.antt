@@ -5,7 +5,7 @@ use mathlib.Core.Bool.{Bool, cond, _&&_}
 use mathlib.Core.List.{List, [], _∷_, _++_, map}
 use lib.Dec.{eqb, leb}
 use lib.ListN.{length, take, drop, replicate}
-use Rattle.annex.specs.Heads.{transfer-data, most-commons, most-transfers}
+use Rattle.annex.specs.Heads.{transfer-data, most-commons, most-transfers, most-values}
 use Rattle.annex.specs.Items.{Item, Part, ownOf}
 use Rattle.annex.specs.Allowed.{itemsIn, ownPart}
 use Rattle.annex.specs.Reading.{verdictOf, recordOf}
@@ -18,11 +18,9 @@ use Rattle.annex.specs.declared.Answer.the-variants.{Accepted, Refused}
 
 -- ---- the parts of the struct
 
-abbrev pub octetHead : ℕ → ℕ → Common
-octetHead h v = record { header = h; value = v; transfers = 0 }
-
-abbrev pub callHead : ℕ → ℕ → Common
-callHead h v = record { header = h; value = v; transfers = 0 }
+-- a common parameter with one value: an octet, or a call number
+abbrev pub valueHead : ℕ → ℕ → Common
+valueHead h v = record { header = h; value = v; transfers = 0 }
 
 abbrev pub dataHead : ℕ → Common
 dataHead n = record { header = transfer-data; value = 0; transfers = n }
@@ -98,9 +96,9 @@ unfoldable pub pack : List Part → Record
 pack r =
     record {
       commons = length r;
-      common = pad 6 noCommon (map commonHeadOf r);
-      transfer = pad 52 noTransfer (map headOf (itemsIn r));
-      values = pad 512 0 (valuesOf (itemsIn r));
+      common = pad most-commons noCommon (map commonHeadOf r);
+      transfer = pad most-transfers noTransfer (map headOf (itemsIn r));
+      values = pad most-values 0 (valuesOf (itemsIn r));
     }
 
 -- ---- view: what any struct at all stands for
@@ -130,18 +128,18 @@ lengthsOf [] = 0
 lengthsOf (t ∷ ts) = t .len + lengthsOf ts
 
 -- only a C5 has transfer parameters
-abbrev pub transfersIn : Common → ℕ
-transfersIn c = cond (eqb (c .header) transfer-data) (c .transfers) 0
+abbrev pub transferCount : Common → ℕ
+transferCount c = cond (eqb (c .header) transfer-data) (c .transfers) 0
 
 unfoldable pub transfersSum : List Common → ℕ
 transfersSum [] = 0
-transfersSum (c ∷ cs) = transfersIn c + transfersSum cs
+transfersSum (c ∷ cs) = transferCount c + transfersSum cs
 
 unfoldable pub viewParts : List Common → List Transfer → List ℕ → List Part
 viewParts [] ts vs = []
 viewParts (c ∷ cs) ts vs =
-    ownPart (record { header = c .header; value = c .value; items = viewItems (take (transfersIn c) ts) vs }) ∷
-    viewParts cs (drop (transfersIn c) ts) (drop (lengthsOf (take (transfersIn c) ts)) vs)
+    ownPart (record { header = c .header; value = c .value; items = viewItems (take (transferCount c) ts) vs }) ∷
+    viewParts cs (drop (transferCount c) ts) (drop (lengthsOf (take (transferCount c) ts)) vs)
 
 abbrev pub commonsIn : Record → List Common
 commonsIn r = take (r .commons) (r .common)
@@ -151,7 +149,7 @@ unfoldable pub isWhole : Record → Bool
 isWhole r =
     leb (r .commons) most-commons
     && (leb (transfersSum (commonsIn r)) most-transfers
-    && leb (lengthsOf (take (transfersSum (commonsIn r)) (r .transfer))) 512)
+    && leb (lengthsOf (take (transfersSum (commonsIn r)) (r .transfer))) most-values)
 
 unfoldable pub view : Record → List Part
 view r = viewParts (commonsIn r) (r .transfer) (r .values)

@@ -15,6 +15,7 @@ use Rattle.annex.specs.declared.Row.{Row}
 use Rattle.annex.specs.declared.Answer.{Answer}
 use Rattle.annex.specs.declared.Answer.the-variants.{Accepted, Refused}
 
+-- Spans: offset of the header, header, how many octets the contents have
 abbrev pub rowBy : Extent → ℕ → Par → Row
 rowBy e s q = record { offset = s + q .place; header = q .head; len = length (q .own) - leadOf e }
 

@@ -33,7 +33,7 @@ leadOf (Fixed n) = 0
 leadOf CountOctet = 0
 leadOf LengthOctet = 1
 
--- common PLI: 00 one octet of contents, 01 two, 10 three, 11 a length octet and that many octets
+-- Common part: PLI 00, 01 and 10 say one, two and three octets of contents, 11 that a length octet counts them
 abbrev pub commonByPli : ℕ → Extent
 commonByPli zero = Fixed 1
 commonByPli (suc zero) = Fixed 2
@@ -44,7 +44,7 @@ commonByPli (suc (suc (suc n))) = LengthOctet
 unfoldable pub commonExtentOf : ℕ → Extent
 commonExtentOf h = cond (eqb h 0x00) (Fixed 0) (commonByPli (pliOf h))
 
--- transfer PLI: 00 nothing follows, 01 one octet, 10 a count octet and its half-octets, 11 a length octet and that many octets
+-- Transfer data: PLI 00 says no contents, 01 one octet, 10 that a count octet counts half-octets, 11 that a length octet counts octets
 abbrev pub transferByPli : ℕ → Extent
 transferByPli zero = Fixed 0
 transferByPli (suc zero) = Fixed 1

@@ -1,9 +1,9 @@
 // The types of document 01, with the constants and constructors of the common, transfer and signal kinds.
 // What they mean is said in specs/, which is all that a reader has to believe.
-ghost use Prim.Native.Nat.{_+_, _*_, _%_};
 ghost use Rattle.annex.specs.Promises.{Gives};
 ghost use Rattle.annex.specs.Units.{octetsOf};
-ghost use Rattle.annex.specs.Records.{octetHead, callHead, dataHead, carriedHead, dialledHead, numberHead, noCommon, noTransfer};
+ghost use Rattle.annex.specs.Heads.{signalOf};
+ghost use Rattle.annex.specs.Records.{valueHead, dataHead, carriedHead, dialledHead, numberHead, noCommon, noTransfer};
 
 // What a call answers: accepted, with a count, or refused, with a number and a place.
 pub enum Answer {
@@ -121,6 +121,7 @@ impl Common {
 
     pub const CALL_NUMBER_BELOW: u32 = 0x1000000;
 
+    // The zero that fills unused room.
     pub fn none() -> Common
         ensures { λ r. ⌜ Gives noCommon r ⌝ }
     {
@@ -131,8 +132,9 @@ impl Common {
         }
     }
 
+    // A parameter of one octet: 01, 04 or 06.
     pub fn octet(header: u8, octet: u8) -> Common
-        ensures { λ r. ⌜ Gives (octetHead header octet) r ⌝ }
+        ensures { λ r. ⌜ Gives (valueHead header octet) r ⌝ }
     {
         Common {
             header: header,
@@ -141,8 +143,9 @@ impl Common {
         }
     }
 
+    // A call number: 82 or 83.
     pub fn call_number(header: u8, number: u32) -> Common
-        ensures { λ r. ⌜ Gives (callHead header number) r ⌝ }
+        ensures { λ r. ⌜ Gives (valueHead header number) r ⌝ }
     {
         Common {
             header: header,
@@ -151,6 +154,7 @@ impl Common {
         }
     }
 
+    // C5, with so many transfer parameters.
     pub fn transfer_data(transfers: u8) -> Common
         ensures { λ r. ⌜ Gives (dataHead transfers) r ⌝ }
     {
@@ -301,12 +305,14 @@ impl Transfer {
 
     pub const MOST_VALUES: usize = 512;
 
+    // The zero that fills unused room.
     pub fn none() -> Transfer
         ensures { λ r. ⌜ Gives noTransfer r ⌝ }
     {
         Transfer::carried(0, 0)
     }
 
+    // A parameter that holds its contents, so many octets.
     pub fn carried(header: u8, len: u16) -> Transfer
         ensures { λ r. ⌜ Gives (carriedHead header len) r ⌝ }
     {
@@ -324,6 +330,7 @@ impl Transfer {
         }
     }
 
+    // A parameter of digits, so many of them, with its marks.
     pub fn dialled(
         header: u8,
         notification: u8,
@@ -398,7 +405,7 @@ impl Signal {
 
     // The kind with this H0 and H1, each taken as four bits.
     pub fn of(h0: u8, h1: u8) -> Signal
-        ensures { λ r. ⌜ Gives (16 * (h0 % 16) + h1 % 16) (r .0) ⌝ }
+        ensures { λ r. ⌜ Gives (signalOf h0 h1) (r .0) ⌝ }
     {
         Signal(16 * (h0 % 16) + h1 % 16)
     }
@@ -444,7 +451,7 @@ pub enum Found {
     Nowhere,
 }
 
-// A row of a listing: offset of the header, header, length of the contents.
+// A row of a listing: offset of the header, header, length of the contents. Laid out as in C, so that any caller can lend a table of them.
 #[repr(C)]
 pub struct Row {
     pub offset: usize,
@@ -464,6 +471,7 @@ pub enum Class {
     Spare,
 }
 
+// What the class of a code value is, or why there is none.
 pub enum ClassAnswer {
     Is(Class),
     Refused(u8, usize),

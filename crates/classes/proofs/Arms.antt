@@ -70,7 +70,7 @@ abbrev pub listed : List ClassList → List ℕ
 listed [] = []
 listed (l ∷ ls) = l .header ∷ listed ls
 
--- "17 if unlisted"
+-- a header without a list: 17
 pub unlisted : (ls : List ClassList) (h x : ℕ) → T (not (among h (listed ls))) → Refused no-class-list 0 ≡ classIn ls h x
 unlisted [] h x t = refl
 unlisted (l ∷ ls) h x t = go (eqb h (l .header)) t (unlisted ls h x)

@@ -2,7 +2,7 @@
 use Prim.Native.Nat.{ℕ, _-_, _≤_}
 use native.Mathlib.Omega.{arith}
 use mathlib.Core.Path.{_≡_, refl, sym, ap, _∙_}
-use mathlib.Core.Bool.{Bool, true, false, cond, not}
+use mathlib.Core.Bool.{true, cond, not}
 use mathlib.Core.List.{List, [], _∷_}
 use lib.Dec.{eqb, ltb}
 use lib.ListN.{length, take, drop, length-take}
@@ -22,6 +22,7 @@ use Rattle.annex.specs.declared.Answer.{Answer}
 use Rattle.annex.specs.declared.Answer.the-variants.{Accepted, Refused}
 use Rattle.annex.specs.declared.Found.{Found}
 use Rattle.annex.specs.declared.Found.the-variants.{At, Nowhere}
+use Rattle.laws.specs.Steps.{refuse-then}
 use Rattle.laws.specs.Parts.{from-to}
 use Rattle.laws.specs.Finding.{moved, transferSearch, commonPlain, common-inside, common-plain, transfer-plain}
 use Rattle.theorems.specs.Lists.{every-take}
@@ -47,7 +48,7 @@ Brings (kind.Removing x) new = new ≡ []
 
 -- ---- the steps
 
--- "new parameter empty 11; 8; 9"
+-- what is brought has a header, in use, under its PLI: 11, 8, 9
 abbrev pub headAnswer : Kind → List ℕ → Answer
 headAnswer kind.Replacing new = newHead new (Accepted 0)
 headAnswer kind.Appending new = newHead new (Accepted 0)
@@ -63,7 +64,7 @@ spotIn kind.Replacing new t = wholeSearch (nameOf (newHeader new)) t
 spotIn kind.Appending new t = freeEnd (length t) (wholeSearch (nameOf (newHeader new)) t)
 spotIn (kind.Removing x) new t = wholeSearch x t
 
--- "replace or remove with the name absent 16; append with it present 10"
+-- nowhere to make the edit: the name of a replacement or removal does not stand there, that of an addition does
 abbrev pub noSpot : Kind → ℕ
 noSpot kind.Replacing = absent
 noSpot kind.Appending = repeated-name
@@ -73,7 +74,7 @@ abbrev pub spotAnswer : Kind → Found → Answer → Answer
 spotAnswer k (At s e) a = a
 spotAnswer k Nowhere a = Refused (noSpot k) 0
 
--- "new octets too few or left over 11; 12; 13", where there are any
+-- the octets behind that header are as many as it asks, and right: 11, 12, 13. Nothing brought is right
 abbrev pub contentsAnswer : List ℕ → Answer
 contentsAnswer new = cond (eqb (length new) 0) (Accepted 0) (newContents new)
 
@@ -102,10 +103,6 @@ stepsAnswer k new d n =
 
 -- ---- answers
 
-then-refuse : (b : Bool) (k p : ℕ) (a : Answer) (f : ℕ → Answer) → andThen (refuse b k p a) f ≡ refuse b k p (andThen a f)
-then-refuse true k p a f = refl
-then-refuse false k p a f = refl
-
 -- what was found, as a test
 found-refuse : (k : Kind) (f : Found) (a : Answer) → noSpot k ≡ absent → refuse (not (isFound f)) absent 0 a ≡ spotAnswer k f a
 found-refuse k (At s e) a h = refl
@@ -118,7 +115,7 @@ free-refuse l Nowhere a = refl
 -- a new parameter whose header is accepted has one
 head-then : (new : List ℕ) (f : Answer → Answer) → newHead new (f (newContents new)) ≡ andThen (newHead new (Accepted 0)) (λ _. f (contentsAnswer new))
 head-then [] f = refl
-head-then (h ∷ xs) f = rw (ne-eqb (length (h ∷ xs)) 0 (λ e. omega arith)) (simp then-refuse)
+head-then (h ∷ xs) f = rw (ne-eqb (length (h ∷ xs)) 0 (λ e. omega arith)) (simp refuse-then)
 
 found-moved : (s : ℕ) (f : Found) → isFound (moved s f) ≡ isFound f
 found-moved s (At a e) = refl

@@ -12,7 +12,7 @@ use Rattle.annex.specs.Answers.{over-limits, no-room, refuse}
 use Rattle.annex.specs.Heads.{transfer-data}
 use Rattle.annex.specs.Items.{Item}
 use Rattle.annex.specs.Allowed.{Each, every, isOctet}
-use Rattle.annex.specs.Records.{headOf, transfersIn, transfersSum, commonsIn, isWhole, view}
+use Rattle.annex.specs.Records.{headOf, transferCount, transfersSum, commonsIn, isWhole, view}
 use Rattle.annex.specs.Image.{imageHead, imageItem, imageItems, imageCommon, imagePart, imageParts, imageOf, imagingOf, imagedIn}
 use Rattle.annex.specs.declared.Answer.{Answer}
 use Rattle.annex.specs.declared.Answer.the-variants.{Accepted, Refused}
@@ -26,7 +26,7 @@ use Rattle.writer.specs.Limits.{length-parts, length-items}
 -- the head of a common parameter; what it does not have is 0
 abbrev pub ownCommon : Common → Common
 ownCommon c =
-    record { header = c .header; value = cond (eqb (c .header) transfer-data) 0 (c .value); transfers = transfersIn c }
+    record { header = c .header; value = cond (eqb (c .header) transfer-data) 0 (c .value); transfers = transferCount c }
 
 -- such a head, and these transfer parameters behind it
 abbrev pub partOctets : Common → List Item → List ℕ
@@ -80,7 +80,7 @@ unfolding view
 parts-many q h = length-parts (commonsIn q) (q .transfer) (q .values) ∙ length-take-le (q .commons) (q .common) h
 
 -- the octets of a common parameter with this head and these transfer parameters, as many as it tells
-part-octets : (c : Common) (is : List Item) → length is ≡ transfersIn c → imagePart (partFrom c is) ≡ partOctets (ownCommon c) is
+part-octets : (c : Common) (is : List Item) → length is ≡ transferCount c → imagePart (partFrom c is) ≡ partOctets (ownCommon c) is
 unfolding imagePart imageItems
 part-octets c is e = go (eqb (c .header) transfer-data) is e
   where
@@ -99,7 +99,7 @@ pub part-turn : (q : Record) (k j : ℕ) → k < q .commons → q .commons ≤ l
 unfolding imageParts
 part-turn q k j h l t w e =
     let c = commonAt q k in
-    let n = transfersIn c in
+    let n = transferCount c in
     let sum : j + n + transfersAt q (k + 1) ≡ transfersSum (commonsIn q) = omega (arith, transfers-next q k h l) in
     let within : Within q (j + n) = within-less q (j + n) (transfersSum (commonsIn q)) (omega arith) (w .within) in
     let many : length (itemsAt q j n) ≡ n = items-many q j n (omega (arith, within .places)) in

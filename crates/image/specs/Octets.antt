@@ -13,7 +13,7 @@ use Rattle.annex.specs.Heads.Marks.{Unmarked, Notified, Verified, Typed}
 use Rattle.annex.specs.Items.{Item, Part, Holding, heldAs, ownBy, ownOf}
 use Rattle.annex.specs.Items.Holding.{AsContents, AsDigits, AsNumber, AsGeneric}
 use Rattle.annex.specs.Allowed.{Each, every, isOctet, itemsIn}
-use Rattle.annex.specs.Records.{headOf, commonHeadOf, valuesOf, rawItem, viewItems, lengthsOf, transfersIn, transfersSum, viewParts, commonsIn, view}
+use Rattle.annex.specs.Records.{headOf, commonHeadOf, valuesOf, rawItem, viewItems, lengthsOf, transferCount, transfersSum, viewParts, commonsIn, view}
 use Rattle.annex.specs.Image.{imageHead, imageItem, imageItems, imageCommon, imagePart, imageParts, imageOf}
 use Rattle.annex.specs.declared.Common.{Common}
 use Rattle.annex.specs.declared.Transfer.{Transfer}
@@ -105,7 +105,7 @@ OctetCounts c = (c .header < 256) × (c .transfers < 256)
 abbrev OctetPart : Part → Type 0
 OctetPart p = (p .header < 256) × (length (p .items) < 256) × Each OctetItem (p .items)
 
-transfers-small : (c : Common) → c .transfers < 256 → transfersIn c < 256
+transfers-small : (c : Common) → c .transfers < 256 → transferCount c < 256
 transfers-small c h = go (eqb (c .header) transfer-data)
   where
     go : (b : Bool) → cond b (c .transfers) 0 < 256
@@ -116,7 +116,7 @@ parts-view : (cs : List Common) (ts : List Transfer) (vs : List ℕ) → Each Oc
 unfolding viewParts
 parts-view [] ts vs hc ht o = tt
 parts-view (c ∷ cs) ts vs hc ht o =
-    let n = transfersIn c in
+    let n = transferCount c in
     let l = lengthsOf (take n ts) in
     let few : length (viewItems (take n ts) vs) < 256 = omega (arith, length-items (take n ts) vs, length-take n ts, transfers-small c (hc .0 .1)) in
     (own (eqb (c .header) transfer-data) (viewItems (take n ts) vs) (few, view-octets (take n ts) vs (each-take OctetHead n ts ht) o), parts-view cs (drop n ts) (drop l vs) (hc .1) (each-drop OctetHead n ts ht) (every-drop isOctet l vs o))

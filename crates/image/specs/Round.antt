@@ -9,21 +9,20 @@ use borrow.Author.Tests.{eq-eqb, le-leb, ltb-true}
 use lib.Dec.{eqb, leb}
 use lib.ListN.{length, take, drop, length-append}
 use lib.Seq.{take-append-seam, drop-append-seam}
-use Rattle.annex.specs.Heads.{transfer-data, most-commons, most-transfers, call-numbers}
+use Rattle.annex.specs.Heads.{transfer-data, most-commons, most-transfers, call-number-below}
 use Rattle.annex.specs.Items.{Item, Part, markedItem}
 use Rattle.annex.specs.Allowed.{Each, every, isOctet, itemsIn, valueRight, valueFits, Allowed}
 use Rattle.annex.specs.Reading.{octetAllowed, verdictOf, recordOf}
 use Rattle.annex.specs.Records.{valuesOf, pack, view, readingOf}
-use Rattle.annex.specs.Image.{imageItem, imageItems, imagePart, imageParts, imageOf, imagingOf, imagedIn, itemFront, itemSize, itemsFront, commonFront, partFront, partsFront, noImage, isWithin, imagedOf}
+use Rattle.annex.specs.Image.{imageItem, imageItems, imagePart, imageParts, imageOf, itemFront, itemSize, itemsFront, commonFront, partFront, partsFront, noImage, isWithin, imagedOf}
 use Rattle.annex.specs.Image.Front.{Taken}
 use Rattle.annex.specs.declared.Answer.the-variants.{Accepted}
 use Rattle.theorems.specs.Lists.{each-left, each-right, each-so}
 use Rattle.theorems.specs.Commons.{Kind, kind, AllowedPart}
 use Rattle.theorems.specs.Commons.Kind.{octet, call, many}
 use Rattle.theorems.specs.Records.{plain-items, allowed-parts, Within, allowed-within}
-use Rattle.theorems.specs.Views.{view-pack, whole-pack}
+use Rattle.theorems.specs.Views.{view-pack}
 use Rattle.theorems.specs.Messages.{read-then-laid}
-use Rattle.image.specs.Laying.{imaging-done}
 
 -- ---- a transfer parameter, octets behind it
 
@@ -127,7 +126,7 @@ image-back r w h =
 value-small : (p : Part) → AllowedPart p → Kind (p .header) → p .value < 4294967296
 unfolding valueRight valueFits octetAllowed
 value-small p a (octet k) = omega (arith, k .small (p .value) (a .right) (rw (k .uncalled) at (a .fits)))
-value-small p a (call k) = omega (arith, ltb-true (p .value) call-numbers (rw (k .unsequenced, k .called) at (a .fits)))
+value-small p a (call k) = omega (arith, ltb-true (p .value) call-number-below (rw (k .unsequenced, k .called) at (a .fits)))
 value-small p a (many k) =
     let e : record { header = p .header; value = 0; items = p .items } ≡ p = rw (k .isData) at (a .held .own) in
     omega (arith, ap (λ (q : Part). q .value) e)
@@ -140,14 +139,6 @@ pub allowed-back : (r : List Part) → Allowed r → imagedOf (imageOf r) ≡ re
 allowed-back r a = image-back r (allowed-within r a) (each-so AllowedPart Imageable imageable r (allowed-parts r a))
 
 -- ---- a struct handed out
-
--- the struct of an allowed record: its image is that of the record, which gives the struct again
-pub struct-back : (r : List Part) → Allowed r → (room : List ℕ) → length (imageOf r) ≤ length room → (imagingOf (pack r) (length room) ≡ Accepted (length (imageOf r))) × (imagedIn (pack r) room ≡ imageOf r ++ drop (length (imageOf r)) room) × (imagedOf (imageOf r) ≡ record { answer = Accepted (length r); held = pack r })
-struct-back r a room h =
-    let v = view-pack r (a .held) in
-    let w = whole-pack r (a .held) (allowed-within r a) in
-    let d = rw v at (imaging-done (pack r) room w (rw v h)) in
-    (sym (d .0), sym (d .1), allowed-back r a)
 
 -- so the struct of an accepted message, its image written and read, is the same struct
 pub read-back : (m : List ℕ) → every isOctet m ≡ true → (n : ℕ) → verdictOf m ≡ Accepted n →

@@ -7,7 +7,7 @@ use annex::Transfer;
 use octets::copy_in;
 use parameter::contents::octet_at;
 use parameter::opening::Held;
-use parameter::opening::held_as;
+use parameter::opening::holding_of;
 use writer::limits::transfers_held;
 use writer::limits::values_before;
 ghost use mathlib.Core.Path.{_≡_};
@@ -72,7 +72,7 @@ fn own_head(t: Transfer, values: &[u8]) -> Transfer
     requires { ⌜ length (now values) ≡ t .len ⌝ }
     ensures { λ r. ⌜ r ≡ headOf (itemFrom t (now (values .entry))) ⌝ }
 {
-    let held = held_as(t.header, octet_at(values, 0));
+    let held = holding_of(t.header, octet_at(values, 0));
     match held {
         Held::Contents => Transfer::carried(t.header, t.len),
         Held::Digits => own_marks(t),
@@ -110,7 +110,7 @@ fn put_item(t: Transfer, values: &[u8], out: &mut [u8])
     copy_in(out, Imaged::TRANSFER_HEAD, values);
 }
 
-// Writes the n transfer parameters from the place `first` on, and tells how many octets they take.
+// Writes the n transfer parameters from index `first` of the array on, and tells how many octets they take.
 fn put_items(q: Record, first: usize, n: usize, out: &mut [u8]) -> usize
     requires { ⌜ Within q (first + n) × (length (imageItems (itemsAt q first n)) ≤ length (now out)) ⌝ }
     ensures { λ r. ⌜ (r ≡ length (imageItems (itemsAt q first n)))
@@ -157,7 +157,7 @@ fn put_common(c: Common, out: &mut [u8])
     out[5] = c.transfers;
 }
 
-// Writes a common parameter with this head, its transfer parameters from the place `first` on, and tells how many octets it takes.
+// Writes a common parameter with this head, its transfer parameters from index `first` of the array on, and tells how many octets it takes.
 fn put_part(q: Record, c: Common, first: usize, out: &mut [u8]) -> usize
     requires { ⌜ Within q (first + c .transfers) × (length (partOctets c (itemsAt q first (c .transfers))) ≤ length (now out)) ⌝ }
     ensures { λ r. ⌜ (r ≡ length (partOctets c (itemsAt q first (c .transfers))))

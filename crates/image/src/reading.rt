@@ -13,7 +13,7 @@ ghost use Rattle.annex.specs.Image.{headFront, itemsFront, commonFront, partsFr
 ghost use Rattle.annex.specs.Promises.{FromImagePromise};
 ghost use Rattle.image.specs.Filling.{fitsAt, unfilled, filledBy};
 
-// A record's struct, how many of its transfer places and values are taken, and how many octets were read; or not whole, and empty.
+// A record's struct, how many of its transfer parameters and values are filled in, and how many octets were read; or not whole, and empty.
 struct Filled {
     whole: bool,
     held: Record,
@@ -70,7 +70,7 @@ fn transfer_head(s: &[u8]) -> Transfer
     }
 }
 
-// Whether the transfer parameter at the front is whole, and has a place after k others and room for its values after the used ones.
+// Whether the transfer parameter at the front is whole, and has room in the array after k others, and room for its values after the used ones.
 fn takes(s: &[u8], k: usize, used: usize) -> bool
     requires { ⌜ used ≤ 512 ⌝ }
     ensures { λ r. ⌜ r ≡ fitsAt (now (s .entry)) k used ⌝ }

@@ -33,10 +33,6 @@ pub or-right : (a b : Bool) → a || b ≡ false → b ≡ false
 or-right true b e = absurd (let z : _≡_ {A = ℕ} 0 1 = cc in omega arith)
 or-right false b e = e
 
-pub or-none : (a b : Bool) → a ≡ false → b ≡ false → a || b ≡ false
-or-none true b e f = e
-or-none false b e f = f
-
 -- the two tests agree
 abbrev pub same : Bool → Bool → Bool
 same true b = b

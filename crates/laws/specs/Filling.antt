@@ -14,7 +14,7 @@ use Rattle.annex.specs.Items.{Item, Part}
 use Rattle.annex.specs.Allowed.{itemsIn}
 use Rattle.annex.specs.Walk.{Par}
 use Rattle.annex.specs.Reading.{callNumber, openTransfer, dataIn, openCommon, transfersOf}
-use Rattle.annex.specs.Records.{octetHead, callHead, dataHead, noCommon, noTransfer, pad, headOf, commonHeadOf, valuesOf, pack}
+use Rattle.annex.specs.Records.{valueHead, dataHead, noCommon, noTransfer, pad, headOf, commonHeadOf, valuesOf, pack}
 use Rattle.annex.specs.declared.Common.{Common}
 use Rattle.annex.specs.declared.Record.{Record}
 
@@ -121,7 +121,7 @@ parts-turn q p ps k used =
 
 abbrev pub partHead : ℕ → List ℕ → ℕ → Common
 partHead h own n =
-    cond (eqb h transfer-data) (dataHead n) (cond (isCall h) (callHead h (callNumber own)) (octetHead h (getD own 0 0)))
+    cond (eqb h transfer-data) (dataHead n) (cond (isCall h) (valueHead h (callNumber own)) (valueHead h (getD own 0 0)))
 
 -- ---- a common parameter opened
 
@@ -143,7 +143,7 @@ head-opened q = by (eqb (q .head) transfer-data) refl (isCall (q .head))
     is : List Item
     is = map openTransfer (transfersOf (dataIn q))
 
-    by : (a : Bool) → eqb (q .head) transfer-data ≡ a → (b : Bool) → commonHeadOf (cond a (record { header = q .head; value = 0; items = is }) (cond b (record { header = q .head; value = callNumber (q .own); items = [] }) (record { header = q .head; value = getD (q .own) 0 0; items = [] }))) ≡ cond a (dataHead (length (cond {A = Part} a (record { header = q .head; value = 0; items = is }) (cond b (record { header = q .head; value = callNumber (q .own); items = [] }) (record { header = q .head; value = getD (q .own) 0 0; items = [] })) .items))) (cond b (callHead (q .head) (callNumber (q .own))) (octetHead (q .head) (getD (q .own) 0 0)))
+    by : (a : Bool) → eqb (q .head) transfer-data ≡ a → (b : Bool) → commonHeadOf (cond a (record { header = q .head; value = 0; items = is }) (cond b (record { header = q .head; value = callNumber (q .own); items = [] }) (record { header = q .head; value = getD (q .own) 0 0; items = [] }))) ≡ cond a (dataHead (length (cond {A = Part} a (record { header = q .head; value = 0; items = is }) (cond b (record { header = q .head; value = callNumber (q .own); items = [] }) (record { header = q .head; value = getD (q .own) 0 0; items = [] })) .items))) (cond b (valueHead (q .head) (callNumber (q .own))) (valueHead (q .head) (getD (q .own) 0 0)))
     by true e b = ap (λ (h : ℕ). record { header = h; value = 0; transfers = length is }) (eqb-true (q .head) transfer-data e)
     by false e true = refl
     by false e false = refl

@@ -67,8 +67,8 @@ abbrev pub contentsAt : Key → List ℕ → Found → Found
 contentsAt k t (At i e) = At (i + 1 + leadOf (extentBy k (getD t i 0))) e
 contentsAt k t Nowhere = Nowhere
 
-abbrev pub contentsBy : Key → List ℕ → Found
-contentsBy k t = contentsAt k t (searchFrom k 0 t)
+abbrev pub contentsFound : Key → List ℕ → Found
+contentsFound k t = contentsAt k t (searchFrom k 0 t)
 
 -- ---- one turn of the search
 
@@ -108,18 +108,18 @@ first-inside k t (q ∷ qs) l = go (isSought k (q .head)) (first-inside k t qs (
         rw (← l .0 .head) (at-inside (length t) _ _ (omega (arith, l .0 .long)) (l .0 .within))
     go false ih = ih
 
-pub search-inside : (k : Key) (t : List ℕ) → Inside (length t) (contentsBy k t)
+pub search-inside : (k : Key) (t : List ℕ) → Inside (length t) (contentsFound k t)
 search-inside k t = first-inside k t _ (pars-lie (sizeBy (extentBy k)) t t 0 0 refl)
 
 -- ---- in a message, by the length rule alone
 
 -- of a common parameter: the end mark has no contents to be found
 abbrev pub commonPlain : ℕ → List ℕ → Found
-commonPlain h m = cond (eqb h end-mark) Nowhere (contentsBy (Header h) m)
+commonPlain h m = cond (eqb h end-mark) Nowhere (contentsFound (Header h) m)
 
 -- of the transfer parameter with the name x, in the transfer data t
 abbrev pub transferSearch : ℕ → List ℕ → Found
-transferSearch x t = contentsBy (Name x) t
+transferSearch x t = contentsFound (Name x) t
 
 -- what is found in a part that starts at s, told of the whole
 abbrev pub moved : ℕ → Found → Found
@@ -132,7 +132,7 @@ inData x m (At s e) = moved s (transferSearch x (take (e - s) (drop s m)))
 inData x m Nowhere = Nowhere
 
 abbrev pub transferPlain : ℕ → List ℕ → Found
-transferPlain x m = inData x m (contentsBy (Header transfer-data) m)
+transferPlain x m = inData x m (contentsFound (Header transfer-data) m)
 
 abbrev pub plainBy : Key → List ℕ → Found
 plainBy (Header h) m = commonPlain h m
@@ -141,7 +141,7 @@ plainBy (Name x) m = transferPlain x m
 pub common-inside : (h : ℕ) (m : List ℕ) → Inside (length m) (commonPlain h m)
 common-inside h m = go (eqb h end-mark)
   where
-    go : (b : Bool) → Inside (length m) (cond b Nowhere (contentsBy (Header h) m))
+    go : (b : Bool) → Inside (length m) (cond b Nowhere (contentsFound (Header h) m))
     go true = nowhere-inside (length m)
     go false = search-inside (Header h) m
 
@@ -150,7 +150,7 @@ moved-inside k n s (At a e) h i = let w = i .at a e refl in at-inside n (s + a) 
 moved-inside k n s Nowhere h i = nowhere-inside n
 
 transfer-inside : (x : ℕ) (m : List ℕ) → Inside (length m) (transferPlain x m)
-transfer-inside x m = go (contentsBy (Header transfer-data) m) (search-inside (Header transfer-data) m)
+transfer-inside x m = go (contentsFound (Header transfer-data) m) (search-inside (Header transfer-data) m)
   where
     go : (f : Found) → Inside (length m) f → Inside (length m) (inData x m f)
     go (At s e) i =

@@ -6,9 +6,9 @@ use mathlib.Core.Bool.{Bool, true, false, cond}
 use mathlib.Core.List.{List, [], _∷_, map}
 use lib.Dec.{eqb}
 use lib.ListN.{length, getD, length-map, List·getD-eq-default}
-use borrow.Author.Tests.{eqb-true, leb-true, lt-ltb}
+use borrow.Author.Tests.{eqb-true, leb-true}
 use Rattle.annex.specs.Units.{pliOf, afterOf, leadOf, transferByPli, extentOf}
-use Rattle.annex.specs.Heads.{Form, formOf, pliRight, most-transfer-octets}
+use Rattle.annex.specs.Heads.{Form, formOf, most-transfer-octets}
 use Rattle.annex.specs.Heads.Marks.{Unmarked, Notified, Verified, Typed}
 use Rattle.annex.specs.Heads.Form.{Carried, Digits, Number, Calling, Generic, Long, Two}
 use Rattle.annex.specs.Digits.{joined, codeOf, packed}
@@ -21,9 +21,7 @@ use Rattle.annex.specs.declared.Alphabet.{Alphabet}
 use Rattle.annex.specs.declared.Alphabet.the-variants.{Dialled}
 use Rattle.annex.specs.declared.Extent.{Extent}
 use Rattle.annex.specs.declared.Extent.the-variants.{Fixed, CountOctet, LengthOctet}
-use Rattle.laws.specs.Bools.{and-both}
 use Rattle.laws.specs.Joined.{length-packed}
-use Rattle.laws.specs.Leaves.{closed}
 
 -- ---- what is not its own does not matter
 
@@ -190,19 +188,6 @@ length-small i t = go (heldAs i) refl t
     go AsGeneric e t = fits-small (pliOf (i .header)) (contentsOf i) t
 
 -- ---- its octets
-
-led-octets : (e : Extent) (s : List ℕ) → length s ≤ most-transfer-octets → every isOctet s ≡ true → every isOctet (ledBy e s) ≡ true
-led-octets (Fixed n) s l o = o
-led-octets CountOctet s l o = o
-led-octets LengthOctet s l o = and-both (isOctet (length s)) (every isOctet s) (lt-ltb (length s) 256 (omega arith)) o
-
--- an allowed parameter is laid out to octets
-pub layout-octets : (i : Item) → HeldItem i → pliRight (i .header) ≡ true → lengthRight i ≡ true → formRight i ≡ true → digitsRight i ≡ true → every isOctet (layoutItem i) ≡ true
-unfolding layoutItem
-layout-octets i w p l r d =
-    let s = ledBy (extentOf (i .header)) (contentsOf i) in
-    and-both (isOctet (i .header)) (every isOctet s) (lt-ltb (i .header) 256 (w .octet))
-    (led-octets (extentOf (i .header)) (contentsOf i) (length-small i l) (closed i w p l r d .octets))
 
 -- ---- its half-octets
 

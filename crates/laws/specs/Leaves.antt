@@ -132,9 +132,9 @@ item-as : (f : Form) (h : ℕ) (s : List ℕ) → formOf h ≡ f → itemOf h s 
 unfolding itemOf holdingOf
 item-as f h s e = rw e
 
-held-as : (f : Form) (i : Item) → formOf (i .header) ≡ f → heldAs i ≡ holdingBy f (getD (i .values) 0 0)
+holding-of : (f : Form) (i : Item) → formOf (i .header) ≡ f → heldAs i ≡ holdingBy f (getD (i .values) 0 0)
 unfolding holdingOf
-held-as f i e = rw e
+holding-of f i e = rw e
 
 opened-by : (f : Form) (h : ℕ) (s : List ℕ) → formOf h ≡ f → h < 256 → OpenAs f (holdingBy f (getD s 0 0)) h s → Opened h s
 unfolding contentsOf lengthRight formRight digitsRight ownOf
@@ -144,7 +144,7 @@ opened-by f h s e l w =
     let q : itemOf h s ≡ i = item-as f h s e in
     let a : i .header ≡ h = open-header k h s in
     let b : formOf (i .header) ≡ f = ap formOf a ∙ e in
-    let c : heldAs i ≡ k = held-as f i b ∙ w .kept in
+    let c : heldAs i ≡ k = holding-of f i b ∙ w .kept in
     let d : contentsOf i ≡ s = rw c (w .contents) in
     record {
       header = rw q a;
@@ -260,7 +260,7 @@ closed-by f i e w a =
     let h = i .header in
     let k = holdingBy f (getD (i .values) 0 0) in
     let s = contentsBy k i in
-    let b : heldAs i ≡ k = held-as f i e in
+    let b : heldAs i ≡ k = holding-of f i e in
     let c : contentsOf i ≡ s = rw b in
     let own : ownBy k i ≡ i = rw b at w in
     let opens : itemOf h s ≡ i = item-as f h s e ∙ rw (a .kept) (a .opens) ∙ own in

@@ -45,6 +45,11 @@ use Rattle.annex.specs.declared.Fault.the-variants.{Sound, Bad}
 
 -- ---- answers
 
+-- a refusal comes before what follows
+pub refuse-then : (b : Bool) (k p : ℕ) (a : Answer) (f : ℕ → Answer) → andThen (refuse b k p a) f ≡ refuse b k p (andThen a f)
+refuse-then true k p a f = refl
+refuse-then false k p a f = refl
+
 -- what is accepted was not refused on the way
 pub passed : (b : Bool) (k p n : ℕ) (a : Answer) → refuse b k p a ≡ Accepted n → (b ≡ false) × (a ≡ Accepted n)
 passed true k p n a e = absurd (let z : _≡_ {A = ℕ} 0 1 = cc in omega arith)

@@ -5,13 +5,12 @@ use annex::Common;
 use annex::Extent;
 use annex::Message;
 use annex::Row;
+use annex::Transfer;
 use libc::STDOUT_FILENO;
 use parameter::units::extent_of;
 use reader::rows::check;
 use reader::rows::row_at;
 ghost use Rattle.annex.specs.Promises.{SpansCheckPromise};
-
-const MOST_CONTENTS: usize = 255;
 
 fn print(text: &[u8]) {
     io::write_all(STDOUT_FILENO, text);
@@ -32,7 +31,7 @@ fn print_octets(s: &[u8]) {
     let mut text = [0u8; 510];
     let mut i = 0;
     while i < s.len() {
-        if MOST_CONTENTS <= i {
+        if Transfer::MOST_OCTETS <= i {
             break;
         }
         let x = s[i];
@@ -65,6 +64,7 @@ fn print_contents(m: &[u8], row: Row) {
         print(b"-");
         return;
     }
+    // the transfer rule serves common parameters too: only C5 has a length octet there
     let e = extent_of(row.header);
     let before = match e {
         Extent::LengthOctet => 2,

@@ -27,10 +27,6 @@ getD-part d from k i h = rw (getD-take, getD-drop)
 -- ---- octets that s was written over, where it fits
 
 module _ (d : List ℕ) (at : ℕ) (s : List ℕ) (fits : at + length s ≤ length d) where
-  pub length-put : length (put d at s) ≡ length d
-  unfolding put
-  length-put = simp (length-append, length-take, length-drop) (omega arith)
-
   front : length (take at d) ≡ at
   front = length-take-le at d (omega arith)
 
@@ -54,10 +50,6 @@ module _ (d : List ℕ) (at : ℕ) (s : List ℕ) (fits : at + length s ≤ leng
   pub getD-before : (j : ℕ) → j < at → getD (put d at s) j 0 ≡ getD d j 0
   getD-before j h =
       sym (getD-take at (put d at s) j 0 h) ∙ ap (λ (l : List ℕ). getD l j 0) take-put ∙ getD-take at d j 0 h
-
-  pub getD-inside : (j : ℕ) → j < length s → getD (put d at s) (at + j) 0 ≡ getD s j 0
-  getD-inside j h =
-      sym (getD-part (put d at s) at (length s) j h) ∙ ap (λ (l : List ℕ). getD l j 0) part-put
 
   pub getD-after : (j : ℕ) → at + length s ≤ j → getD (put d at s) j 0 ≡ getD d j 0
   getD-after j h =

@@ -95,32 +95,6 @@ pub fn copy_in(d: &mut [u8], at: usize, s: &[u8]) -> bool
     }
 }
 
-// Sets k octets of d from index from on to 0.
-pub fn clear(d: &mut [u8], from: usize, k: usize) -> bool
-    ensures { λ r. ⌜ Stores (leb (from + k) (length (now (d .entry))))
-        (put (now (d .entry)) from (replicate k 0)) (now (d .entry)) r (now (d .exit)) ⌝ }
-{
-    if lies_within(d.len(), from, k) {
-        clear_fitting(d, from, k);
-        true
-    } else {
-        false
-    }
-}
-
-// Moves k octets of d from index from to index to.
-pub fn move_within(d: &mut [u8], from: usize, to: usize, k: usize) -> bool
-    ensures { λ r. ⌜ Stores (leb (from + k) (length (now (d .entry))) && leb (to + k) (length (now (d .entry))))
-        (put (now (d .entry)) to (part (now (d .entry)) from k)) (now (d .entry)) r (now (d .exit)) ⌝ }
-{
-    if lies_within(d.len(), from, k) && lies_within(d.len(), to, k) {
-        move_fitting(d, from, to, k);
-        true
-    } else {
-        false
-    }
-}
-
 // Replaces octets of the message in the first n octets of d: the tail is moved, the new octets are written, and what the message left is cleared.
 fn splice_fitting(d: &mut [u8], n: usize, from: usize, old: usize, new: &[u8])
     requires { ⌜ Fitting (now d) n from old (now new) ⌝ }

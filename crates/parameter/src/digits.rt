@@ -19,7 +19,7 @@ pub fn half_at(octets: &[u8], i: usize) -> u8
     }
 }
 
-// The digit that a half-octet stands for.
+// The digit that a half-octet stands for. Codes 11 and 12 are * and #, which a record holds as 10 and 11; code 10 is a dialled zero.
 pub fn digit_of(z: Alphabet, h: u8) -> u8
     ensures { λ r. ⌜ Gives (digitOf z h) r ⌝ }
 {

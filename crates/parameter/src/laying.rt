@@ -7,7 +7,7 @@ use crate::heads::name_used;
 use crate::heads::often_of;
 use crate::heads::pli_right;
 use crate::opening::Held;
-use crate::opening::held_as;
+use crate::opening::holding_of;
 use crate::opening::octets_from;
 use crate::units::extent_of;
 use crate::units::lead;
@@ -20,12 +20,11 @@ use annex::HalfOctets;
 use annex::Transfer;
 use octets::copy_in;
 ghost use mathlib.Core.Path.{_≡_};
-ghost use mathlib.Core.Bool.{cond};
 ghost use mathlib.Core.List.{List, [], map};
 ghost use Prim.Native.Nat.{ℕ, _+_, _/_, _≤_};
 ghost use lib.Dec.{leb};
 ghost use lib.ListN.{length, getD};
-ghost use Rattle.annex.specs.Promises.{Gives};
+ghost use Rattle.annex.specs.Promises.{Gives, Stores};
 ghost use Rattle.annex.specs.Units.{extentOf};
 ghost use Rattle.annex.specs.Digits.{isDigit, codeOf, packed};
 ghost use Rattle.annex.specs.Contents.{faultOf};
@@ -39,10 +38,10 @@ ghost use Rattle.parameter.specs.Opening.{marksOf, asHeld};
 ghost use Rattle.parameter.specs.Laying.{itemFrom, isSound, numberRight};
 
 // How the values under this header are held.
-fn held_of(header: u8, values: &[u8]) -> Held
+fn held_as(header: u8, values: &[u8]) -> Held
     ensures { λ r. ⌜ holdingOf header (getD (now (values .entry)) 0 0) ≡ asHeld r (marksOf header) ⌝ }
 {
-    held_as(header, octet_at(values, 0))
+    holding_of(header, octet_at(values, 0))
 }
 
 // How many octets hold so many digits.
@@ -58,7 +57,7 @@ fn packed_len(digits: usize) -> usize
 pub fn contents_len(t: Transfer, values: &[u8]) -> usize
     ensures { λ r. ⌜ Gives (length (contentsOf (itemFrom t (now (values .entry))))) r ⌝ }
 {
-    let held = held_of(t.header, values);
+    let held = held_as(t.header, values);
     match held {
         Held::Contents => values.len(),
         Held::Digits => 1 + packed_len(values.len()),
@@ -86,7 +85,7 @@ fn length_fits(header: u8, s: &[u8]) -> bool
 fn length_right(t: Transfer, values: &[u8]) -> bool
     ensures { λ r. ⌜ r ≡ lengthRight (rawItem t (now (values .entry))) ⌝ }
 {
-    let held = held_of(t.header, values);
+    let held = held_as(t.header, values);
     match held {
         Held::Contents => length_fits(t.header, values),
         Held::Digits => values.len() <= Transfer::MOST_DIGITS,
@@ -180,7 +179,7 @@ fn number_right(t: Transfer, digits: &[u8]) -> bool
 fn form_right(t: Transfer, values: &[u8]) -> bool
     ensures { λ r. ⌜ r ≡ formRight (rawItem t (now (values .entry))) ⌝ }
 {
-    let held = held_of(t.header, values);
+    let held = held_as(t.header, values);
     match held {
         Held::Contents => is_sound(t.header, values),
         Held::Digits => marks_right(t),
@@ -207,7 +206,7 @@ fn are_digits(values: &[u8]) -> bool
 fn digits_right(t: Transfer, values: &[u8]) -> bool
     ensures { λ r. ⌜ r ≡ digitsRight (rawItem t (now (values .entry))) ⌝ }
 {
-    let held = held_of(t.header, values);
+    let held = held_as(t.header, values);
     match held {
         Held::Contents => true,
         Held::Digits => are_digits(values),
@@ -331,7 +330,7 @@ fn put_contents(t: Transfer, values: &[u8], room: &mut [u8])
     requires { ⌜ length (contentsOf (rawItem t (now values))) ≤ length (now room) ⌝ }
     ensures { λ r. ⌜ now (room .exit) ≡ atFront (contentsOf (rawItem t (now (values .entry)))) (now (room .entry)) ⌝ }
 {
-    let held = held_of(t.header, values);
+    let held = held_as(t.header, values);
     match held {
         Held::Contents => copy(values, room),
         Held::Digits => put_digits(t, values, room),
@@ -368,8 +367,8 @@ fn fits_in(t: Transfer, values: &[u8], room: usize) -> bool
 
 // Writes the parameter at the front of the room, each number modulo 256; where the room is too short, nothing.
 pub fn put(t: Transfer, values: &[u8], room: &mut [u8]) -> bool
-    ensures said { λ r. ⌜ Gives (leb (length (layoutItem (itemFrom t (now (values .entry))))) (length (now (room .entry)))) r ⌝ }
-    ensures written { λ r. ⌜ Gives (cond r (atFront (layoutItem (itemFrom t (now (values .entry)))) (now (room .entry))) (now (room .entry))) (now (room .exit)) ⌝ }
+    ensures { λ r. ⌜ Stores (leb (length (layoutItem (itemFrom t (now (values .entry))))) (length (now (room .entry))))
+        (atFront (layoutItem (itemFrom t (now (values .entry)))) (now (room .entry))) (now (room .entry)) r (now (room .exit)) ⌝ }
 {
     if !fits_in(t, values, room.len()) {
         return false;

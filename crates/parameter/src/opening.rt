@@ -85,7 +85,7 @@ fn unpack_digits(
 }
 
 // How the values under this header are held; `first` is the first octet of the contents, or 0.
-pub fn held_as(header: u8, first: u8) -> Held
+pub fn holding_of(header: u8, first: u8) -> Held
     ensures { λ r. ⌜ Gives (heldBy (holdingOf header first)) r ⌝ }
 {
     if holds_digits(header) {
@@ -226,7 +226,7 @@ pub fn open(
     ensures head { λ r. ⌜ Gives (openedHead header (now (contents .entry)) used) r ⌝ }
     ensures put { λ r. ⌜ Gives (openedValues header (now (contents .entry)) used (now (values .entry))) (now (values .exit)) ⌝ }
 {
-    let held = held_as(header, octet_at(contents, 0));
+    let held = holding_of(header, octet_at(contents, 0));
     match held {
         Held::Contents => open_contents(header, contents, values, used),
         Held::Digits => open_digits(header, contents, values, used),

@@ -18,7 +18,7 @@ use mathlib.Core.Bool.{true}
 use Rattle.laws.specs.Plain.{InnerSound, commons-plain, commons-inner}
 use Rattle.laws.specs.Filling.{withItems, withParts, emptyRecord, filled-whole, filled-none, part-put, values-append}
 use Rattle.theorems.specs.Messages.{read-within}
-use Rattle.reader.specs.Filling.{parsAt, partsLeft, parAt, pars-mark, parts-mark, pars-more, parts-more}
+use Rattle.reader.specs.Filling.{parsAt, partsLeft, parIn, pars-mark, parts-mark, pars-more, parts-more}
 
 pub record Filling (m : List ℕ) (q : Record) (transfers used i : ℕ) : Type 0 where
   pub inside : i ≤ length m
@@ -51,7 +51,7 @@ module _ {m : List ℕ} {q : Record} {transfers used i : ℕ} (f : Filling m q t
     pub filling-mark : getD m i 0 ≡ end-mark → Filling m q transfers used (i + 1)
     filling-mark e =
         let p = parts-mark m i inside e in
-        let s : Each InnerSound (parAt m i 0 ∷ parsAt m (i + 1)) = rw (pars-mark m i inside e) at (f .sound) in
+        let s : Each InnerSound (parIn m i 0 ∷ parsAt m (i + 1)) = rw (pars-mark m i inside e) at (f .sound) in
         record {
           inside = omega arith;
           becomes = rw p at (f .becomes);
@@ -67,15 +67,15 @@ pub record Next (m : List ℕ) (q : Record) (transfers used i n : ℕ) (p : Part
   pub commons : q .commons + 1 + length rest ≤ 6
   pub places : transfers + length (p .items) + length (itemsIn rest) ≤ 52
   pub values : used + length (valuesOf (p .items)) + length (valuesOf (itemsIn rest)) ≤ 512
-  pub here : InnerSound (parAt m i n)
+  pub here : InnerSound (parIn m i n)
   pub sound : Each InnerSound (parsAt m (i + 1 + n))
 
-pub filling-next : (m : List ℕ) (q : Record) (transfers used i x n : ℕ) → Filling m q transfers used i → i < length m → (getD m i 0 ≡ end-mark → ⊥) → x ≡ getD m (i + 1) 0 → n ≡ afterOf (commonExtentOf (getD m i 0)) x → n ≤ length m - (i + 1) → Next m q transfers used i n (openCommon (parAt m i n)) (partsLeft m (i + 1 + n))
+pub filling-next : (m : List ℕ) (q : Record) (transfers used i x n : ℕ) → Filling m q transfers used i → i < length m → (getD m i 0 ≡ end-mark → ⊥) → x ≡ getD m (i + 1) 0 → n ≡ afterOf (commonExtentOf (getD m i 0)) x → n ≤ length m - (i + 1) → Next m q transfers used i n (openCommon (parIn m i n)) (partsLeft m (i + 1 + n))
 filling-next m q transfers used i x n f inside u next e l =
-    let p = openCommon (parAt m i n) in
+    let p = openCommon (parIn m i n) in
     let rest = partsLeft m (i + 1 + n) in
     let g = parts-more m i inside x next n e l u in
-    let s : Each InnerSound (parAt m i n ∷ parsAt m (i + 1 + n)) = rw (pars-more m i inside x next n e l) at (f .sound) in
+    let s : Each InnerSound (parIn m i n ∷ parsAt m (i + 1 + n)) = rw (pars-more m i inside x next n e l) at (f .sound) in
     record {
       becomes = rw g at (f .becomes);
       commons = omega (arith, rw g at (f .commons));

@@ -76,15 +76,15 @@ parsAt m i = pars commonSize 0 i (drop i m)
 abbrev pub partsLeft : List ℕ → ℕ → List Part
 partsLeft m i = map openCommon (withoutEnd (parsAt m i))
 
-abbrev pub parAt : List ℕ → ℕ → ℕ → Par
-parAt m i n = record { place = i; head = getD m i 0; own = take n (drop (i + 1) m) }
+abbrev pub parIn : List ℕ → ℕ → ℕ → Par
+parIn m i n = record { place = i; head = getD m i 0; own = take n (drop (i + 1) m) }
 
 pub parts-end : (m : List ℕ) (i : ℕ) → length m ≤ i → partsLeft m i ≡ []
 parts-end m i h = rw (pars-end commonSize i i m h)
 
 module _ (m : List ℕ) (i : ℕ) (inside : i < length m) where
   -- the end mark has nothing of its own
-  pub pars-mark : getD m i 0 ≡ end-mark → parsAt m i ≡ parAt m i 0 ∷ parsAt m (i + 1)
+  pub pars-mark : getD m i 0 ≡ end-mark → parsAt m i ≡ parIn m i 0 ∷ parsAt m (i + 1)
   unfolding commonExtentOf afterOf
   pars-mark e =
       let z : i + 1 + 0 ≡ i + 1 = omega arith in
@@ -97,17 +97,17 @@ module _ (m : List ℕ) (i : ℕ) (inside : i < length m) where
     pub parts-cut : length m - (i + 1) < afterOf (commonExtentOf (getD m i 0)) x → partsLeft m i ≡ []
     parts-cut h = rw (pars-short commonExtentOf m i x _ inside next refl h)
 
-    pub pars-more : (n : ℕ) → n ≡ afterOf (commonExtentOf (getD m i 0)) x → n ≤ length m - (i + 1) → parsAt m i ≡ parAt m i n ∷ parsAt m (i + 1 + n)
+    pub pars-more : (n : ℕ) → n ≡ afterOf (commonExtentOf (getD m i 0)) x → n ≤ length m - (i + 1) → parsAt m i ≡ parIn m i n ∷ parsAt m (i + 1 + n)
     pars-more n e h = pars-next commonExtentOf m i x n inside next e h
 
-    pub parts-more : (n : ℕ) → n ≡ afterOf (commonExtentOf (getD m i 0)) x → n ≤ length m - (i + 1) → (getD m i 0 ≡ end-mark → ⊥) → partsLeft m i ≡ openCommon (parAt m i n) ∷ partsLeft m (i + 1 + n)
+    pub parts-more : (n : ℕ) → n ≡ afterOf (commonExtentOf (getD m i 0)) x → n ≤ length m - (i + 1) → (getD m i 0 ≡ end-mark → ⊥) → partsLeft m i ≡ openCommon (parIn m i n) ∷ partsLeft m (i + 1 + n)
     parts-more n e h u = rw (pars-more n e h, ne-eqb (getD m i 0) end-mark u)
 
 -- the parts that the code hands on: a parameter's own octets, and C5's behind its length octet
-pub own-part : (m : List ℕ) (i n : ℕ) → take (i + 1 + n - (i + 1)) (drop (i + 1) m) ≡ parAt m i n .own
+pub own-part : (m : List ℕ) (i n : ℕ) → take (i + 1 + n - (i + 1)) (drop (i + 1) m) ≡ parIn m i n .own
 own-part m i n = let e : i + 1 + n - (i + 1) ≡ n = omega arith in rw e
 
-pub data-is : (m : List ℕ) (i n : ℕ) → take (i + 1 + n - (i + 1 + 1)) (drop (i + 1 + 1) m) ≡ dataIn (parAt m i n)
+pub data-is : (m : List ℕ) (i n : ℕ) → take (i + 1 + n - (i + 1 + 1)) (drop (i + 1 + 1) m) ≡ dataIn (parIn m i n)
 data-is m i n =
     let a : i + 1 + n - (i + 1 + 1) ≡ n - 1 = omega arith in
     rw (data-part n (drop (i + 1) m), a, ← drop-drop 1 (i + 1) m)

@@ -26,7 +26,7 @@ pub fn listed(header: u8) -> bool
 }
 
 // Whether the octet is a signal kind.
-pub fn signal_kind(octet: u8) -> bool
+fn signal_kind(octet: u8) -> bool
     ensures { λ r. ⌜ Gives (among octet signalKinds) r ⌝ }
 {
     match octet {

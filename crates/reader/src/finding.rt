@@ -19,7 +19,7 @@ ghost use Rattle.annex.specs.Promises.{
   FindTransferAnswerPromise,
   Gives,
 };
-ghost use Rattle.laws.specs.Finding.{isSought, extentBy, searchFrom, contentsBy, commonPlain, transferPlain, plainBy, foundBy};
+ghost use Rattle.laws.specs.Finding.{isSought, extentBy, searchFrom, contentsFound, commonPlain, transferPlain, plainBy, foundBy};
 ghost use Rattle.reader.specs.Finding.{Tells};
 
 // What finding gives: the answer to the second question, and where the contents start and end, 0 and 0 if refused.
@@ -68,7 +68,7 @@ pub fn search(t: &[u8], k: Key) -> Found
 
 // The contents of that parameter.
 fn contents(t: &[u8], k: Key) -> Found
-    ensures { λ r. ⌜ r ≡ contentsBy k (now (t .entry)) ⌝ }
+    ensures { λ r. ⌜ r ≡ contentsFound k (now (t .entry)) ⌝ }
 {
     let Found::At(i, end) = search(t, k) else {
         return Found::Nowhere;

@@ -22,7 +22,7 @@ ghost use Rattle.annex.specs.Promises.{ReadPromise, Gives};
 ghost use Rattle.laws.specs.Filling.{emptyRecord, partHead};
 ghost use Rattle.reader.specs.Filling.{itemsFrom, filledWith};
 
-// A record's struct, and how many of its transfer places and values are taken.
+// A record's struct, and how many of its transfer parameters and values are filled in.
 struct Filled {
     held: Record,
     transfers: usize,
@@ -54,7 +54,7 @@ pub fn is_call(header: u8) -> bool
 }
 
 // A call number of 24 bits, least octet first.
-pub fn call_value(own: &[u8]) -> u32
+fn call_value(own: &[u8]) -> u32
     ensures { λ r. ⌜ Gives (callNumber (now (own .entry))) r ⌝ }
 {
     let low = octet_at(own, 0) as u32;
@@ -64,7 +64,7 @@ pub fn call_value(own: &[u8]) -> u32
 }
 
 // The head of a common parameter with these octets of its own; a C5's has so many transfer parameters.
-pub fn part_head(header: u8, own: &[u8], transfers: u8) -> Common
+fn part_head(header: u8, own: &[u8], transfers: u8) -> Common
     ensures { λ r. ⌜ Gives (partHead header (now (own .entry)) transfers) r ⌝ }
 {
     if header == Common::TRANSFER_DATA {

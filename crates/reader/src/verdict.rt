@@ -26,7 +26,7 @@ fn shift(a: Answer, s: usize) -> Answer
 }
 
 // Transfer data: accepted with its length, or the first refusal, its place counted from the first octet of t.
-pub fn transfers(t: &[u8]) -> Answer
+fn transfers(t: &[u8]) -> Answer
     ensures { λ r. ⌜ Gives (transfersVerdict (now (t .entry))) r ⌝ }
 {
     let mut seen = [0u8; Transfer::NAMES];
@@ -74,6 +74,7 @@ fn common(times: u8, whole: bool, header: u8, xs: &[u8]) -> Answer
     }
 }
 
+// Both tests, as a value.
 fn both(a: bool, b: bool) -> bool
     ensures { λ r. ⌜ r ≡ a && b ⌝ }
 {

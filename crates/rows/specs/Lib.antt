@@ -1,3 +1,2 @@
--- The table while the rows are stored, and listings that the promise shuts out.
+-- The table while the rows are stored.
 pub mod Rows
-pub mod Wrong

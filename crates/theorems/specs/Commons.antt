@@ -9,7 +9,7 @@ use borrow.Author.Tests.{ltb-true, lt-ltb, leb-true, eqb-true}
 use lib.Dec.{eqb}
 use lib.ListN.{length, getD, drop}
 use Rattle.annex.specs.Units.{nameOf, afterOf, leadOf, commonExtentOf, contentsIn}
-use Rattle.annex.specs.Heads.{among, user-class, partners-call, own-call, sequence, signal-kind, transfer-data, isCall, commonHeaders, signalKinds, call-numbers, most-transfer-octets}
+use Rattle.annex.specs.Heads.{among, user-class, partners-call, own-call, sequence, signal-kind, transfer-data, isCall, commonHeaders, signalKinds, call-number-below, most-transfer-octets}
 use Rattle.annex.specs.Items.{Item, Part}
 use Rattle.annex.specs.Layout.{layoutItems, layoutPart, callOctets, dataOctets}
 use Rattle.annex.specs.Allowed.{every, isOctet, HeldItem, HeldPart, valueRight, valueFits}
@@ -185,7 +185,7 @@ call-read times h (x ∷ y ∷ z ∷ []) s o k c l =
             held = record { octet = s; own = rw (k .plain); each = tt };
             listed = c .listed;
             right = k .free v;
-            fits = rw (k .unsequenced, k .called) (lt-ltb v call-numbers (omega arith));
+            fits = rw (k .unsequenced, k .called) (lt-ltb v call-number-below (omega arith));
             items = no-items;
           };
     }
@@ -249,7 +249,7 @@ octet-built p a k =
       most = omega (arith, k .most);
     }
 
-call-whole : (v : ℕ) → v < call-numbers → callNumber (callOctets v) ≡ v
+call-whole : (v : ℕ) → v < call-number-below → callNumber (callOctets v) ≡ v
 call-whole v h = omega arith
 
 call-built : (p : Part) → AllowedPart p → CallNumber (p .header) → PartBuilt p (callOctets (p .value))
@@ -257,7 +257,7 @@ unfolding layoutPart openCommon afterOf valueFits
 call-built p a k =
     let h = p .header in
     let v = p .value in
-    let whole = call-whole v (ltb-true v call-numbers (rw (k .unsequenced, k .called) at (a .fits))) in
+    let whole = call-whole v (ltb-true v call-number-below (rw (k .unsequenced, k .called) at (a .fits))) in
     let octet-of : (n : ℕ) → isOctet (n % 256) ≡ true = λ n. lt-ltb (n % 256) 256 (omega arith) in
     record {
       laid = rw (k .plain, k .called);

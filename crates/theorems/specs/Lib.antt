@@ -21,7 +21,3 @@ pub mod Buffers
 pub mod Splices
 pub mod Undone
 pub mod Finds
-pub mod Unique
-pub mod Constants
-pub mod Wrong
-pub mod WrongPacked

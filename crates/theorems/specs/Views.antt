@@ -11,7 +11,7 @@ use lib.Seq.{take-append-seam, drop-append-seam, take-at, drop-at}
 use Rattle.annex.specs.Heads.{transfer-data, most-commons, most-transfers}
 use Rattle.annex.specs.Items.{Item, Part}
 use Rattle.annex.specs.Allowed.{every, Each, isOctet, HeldItem, HeldPart, Held, ownPart, itemsIn}
-use Rattle.annex.specs.Records.{noCommon, noTransfer, pad, headOf, commonHeadOf, valuesOf, pack, rawItem, viewItems, lengthsOf, transfersIn, transfersSum, viewParts, commonsIn, isWhole, view}
+use Rattle.annex.specs.Records.{noCommon, noTransfer, pad, headOf, commonHeadOf, valuesOf, pack, rawItem, viewItems, lengthsOf, transferCount, transfersSum, viewParts, commonsIn, isWhole, view}
 use Rattle.annex.specs.declared.Common.{Common}
 use Rattle.annex.specs.declared.Transfer.{Transfer}
 use Rattle.annex.specs.declared.Record.{Record}
@@ -35,7 +35,7 @@ lengths-heads [] = refl
 lengths-heads (i ∷ is) = rw (lengths-heads is) (sym (length-append (i .values) (valuesOf is)))
 
 -- a head tells how many transfer parameters its part holds
-transfers-in : (p : Part) → HeldPart p → transfersIn (commonHeadOf p) ≡ length (p .items)
+transfers-in : (p : Part) → HeldPart p → transferCount (commonHeadOf p) ≡ length (p .items)
 transfers-in p h = go (eqb (p .header) transfer-data) refl
   where
     go : (b : Bool) → eqb (p .header) transfer-data ≡ b → cond b (length (p .items)) 0 ≡ length (p .items)
@@ -117,7 +117,7 @@ held-parts : (cs : List Common) (ts : List Transfer) (vs : List ℕ) → Each Oc
 unfolding viewParts
 held-parts [] ts vs s t o = tt
 held-parts (c ∷ cs) ts vs s t o =
-    let n = transfersIn c in
+    let n = transferCount c in
     let l = lengthsOf (take n ts) in (
       own-part (record { header = c .header; value = c .value; items = viewItems (take n ts) vs }) (s .0) (held-items (take n ts) vs (each-take OctetTransfer n ts t) o),
       held-parts cs (drop n ts) (drop l vs) (s .1) (each-drop OctetTransfer n ts t) (every-drop isOctet l vs o),

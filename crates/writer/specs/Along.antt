@@ -11,7 +11,7 @@ use lib.Seq.{take-all, take-suc, drop-cons, drop-drop, take-add, getD-take, leng
 use Rattle.annex.specs.Heads.{transfer-data, most-commons, most-transfers}
 use Rattle.annex.specs.Items.{Item, Part}
 use Rattle.annex.specs.Allowed.{ownPart, itemsIn}
-use Rattle.annex.specs.Records.{noCommon, noTransfer, viewItems, lengthsOf, transfersIn, transfersSum, viewParts, commonsIn, view}
+use Rattle.annex.specs.Records.{noCommon, noTransfer, viewItems, lengthsOf, transferCount, transfersSum, viewParts, commonsIn, view}
 use Rattle.annex.specs.declared.Common.{Common}
 use Rattle.annex.specs.declared.Transfer.{Transfer}
 use Rattle.annex.specs.declared.Record.{Record}
@@ -89,7 +89,7 @@ items-in : (cs : List Common) (ts : List Transfer) (vs : List ℕ) → itemsIn (
 unfolding viewParts transfersSum viewItems
 items-in [] ts vs = refl
 items-in (c ∷ cs) ts vs =
-    let n = transfersIn c in
+    let n = transferCount c in
     let rest = items-in cs (drop n ts) (drop (lengthsOf (take n ts)) vs) in
     rw (take-add n (transfersSum cs) ts, view-append (take n ts) (take (transfersSum cs) (drop n ts)) vs, rest, part-items c (viewItems (take n ts) vs))
     (ap (λ (is : List Item). is ++ viewItems (take (transfersSum cs) (drop n ts)) (drop (lengthsOf (take n ts)) vs)) (go (eqb (c .header) transfer-data) refl))
@@ -187,14 +187,14 @@ module _ (q : Record) where
         let n : length (commonsIn q) ≡ q .commons = length-take-le (q .commons) (q .common) l in
         rw (e, ← getD-take (q .commons) (q .common) k noCommon h) (drop-cons (commonsIn q) k noCommon (omega arith))
 
-    pub transfers-next : transfersAt q k ≡ transfersIn (commonAt q k) + transfersAt q (k + 1)
+    pub transfers-next : transfersAt q k ≡ transferCount (commonAt q k) + transfersAt q (k + 1)
     unfolding transfersSum
     transfers-next = rw commons-next
 
-    pub parts-next : (j : ℕ) → partsAt q k j ≡ partFrom (commonAt q k) (itemsAt q j (transfersIn (commonAt q k))) ∷ partsAt q (k + 1) (j + transfersIn (commonAt q k))
+    pub parts-next : (j : ℕ) → partsAt q k j ≡ partFrom (commonAt q k) (itemsAt q j (transferCount (commonAt q k))) ∷ partsAt q (k + 1) (j + transferCount (commonAt q k))
     unfolding viewParts
     parts-next j =
-        let n = transfersIn (commonAt q k) in
+        let n = transferCount (commonAt q k) in
         rw (commons-next, lengths-add j n (q .transfer), ← drop-drop n j (q .transfer), ← drop-drop (lengthsOf (take n (drop j (q .transfer)))) (usedAt q j) (q .values))
 
     -- for a loop that has passed j transfer parameters before it: a common parameter that is no C5, and a C5
@@ -204,7 +204,7 @@ module _ (q : Record) where
 
     pub plain-turn : (j : ℕ) → j + transfersAt q k ≡ transfersSum (commonsIn q) → (commonAt q k .header ≡ transfer-data → ⊥) → PlainTurn j
     plain-turn j s u =
-        let none : transfersIn (commonAt q k) ≡ 0 = rw (ne-eqb (commonAt q k .header) transfer-data u) in
+        let none : transferCount (commonAt q k) ≡ 0 = rw (ne-eqb (commonAt q k .header) transfer-data u) in
         let same : j + 0 ≡ j = omega arith in
         record { sum = omega (arith, transfers-next); parts = rw (none, same, items-none j) at (parts-next j) }
 
@@ -215,6 +215,6 @@ module _ (q : Record) where
 
     pub data-turn : (j : ℕ) → Whole q → j + transfersAt q k ≡ transfersSum (commonsIn q) → commonAt q k .header ≡ transfer-data → DataTurn j
     data-turn j w s e =
-        let all : transfersIn (commonAt q k) ≡ commonAt q k .transfers = rw (eq-eqb (commonAt q k .header) transfer-data e) in
+        let all : transferCount (commonAt q k) ≡ commonAt q k .transfers = rw (eq-eqb (commonAt q k .header) transfer-data e) in
         let sum : j + commonAt q k .transfers + transfersAt q (k + 1) ≡ transfersSum (commonsIn q) = omega (arith, transfers-next) in
         record { sum = sum; within = within-less (j + commonAt q k .transfers) (transfersSum (commonsIn q)) (omega arith) (w .within); parts = rw all at (parts-next j) }

@@ -10,7 +10,7 @@ use lib.Dec.{eqb, leb, ltb}
 use lib.ListN.{length, length-append}
 use Rattle.annex.specs.Answers.{unlisted, repeated, not-allowed, missing, bad-form, transfer-over, refuse, andThen}
 use Rattle.annex.specs.Units.{nameOf, extentOf}
-use Rattle.annex.specs.Heads.{among, commonHeaders, user-class, signal-kind, signalKinds, sequence, transfer-data, isCall, call-numbers, most-transfer-octets, nameUsed, pliRight, oftenOf}
+use Rattle.annex.specs.Heads.{among, commonHeaders, user-class, signal-kind, signalKinds, sequence, transfer-data, isCall, call-number-below, most-transfer-octets, nameUsed, pliRight, oftenOf}
 use Rattle.annex.specs.Items.{Item, Part}
 use Rattle.annex.specs.Layout.{layoutItem, layoutItems, layoutPart}
 use Rattle.annex.specs.Allowed.{every, isOctet, lengthRight, formRight, digitsRight, valueRight, valueFits}
@@ -21,7 +21,7 @@ use Rattle.annex.specs.declared.Answer.{Answer}
 use Rattle.annex.specs.declared.Answer.the-variants.{Accepted, Refused}
 use Rattle.annex.specs.declared.Common.{Common}
 use Rattle.laws.specs.Bools.{and-left, and-right}
-use Rattle.laws.specs.Steps.{passed, then-passed, PlaceTo, accepted-place, refuse-place}
+use Rattle.laws.specs.Steps.{passed, then-passed, PlaceTo, accepted-place, refuse-place, refuse-then}
 use Rattle.laws.specs.Places.{farther, item-from}
 use Rattle.laws.specs.Laid.{length-layout, lead-small, length-small}
 use Rattle.writer.specs.Along.{partFrom}
@@ -121,7 +121,7 @@ octet-over h v o u = rw (ne-eqb h user-class u, among-over signalKinds refl v o)
 
 -- by its head: 04 one octet, call numbers 24 bits
 abbrev pub headFits : Common → Bool
-headFits c = cond (eqb (c .header) sequence) (isOctet (c .value)) (cond (isCall (c .header)) (ltb (c .value) call-numbers) true)
+headFits c = cond (eqb (c .header) sequence) (isOctet (c .value)) (cond (isCall (c .header)) (ltb (c .value) call-number-below) true)
 
 module _ (c : Common) (is : List Item) where
   pub part-header : partFrom c is .header ≡ c .header
@@ -169,10 +169,6 @@ part-checked times p c is =
     go : (b : Bool) → eqb (c .header) transfer-data ≡ b → cond b (dataWriting p (partFrom c is .items)) (Accepted (p + length (layoutPart (partFrom c is)))) ≡ cond b (dataWriting p is) (Accepted (p + headLength (c .header)))
     go true e = rw e
     go false e = ap (λ n. Accepted (p + n)) (ap (λ (l : List ℕ). length l) (plain-laid c is (eqb-false (c .header) transfer-data e)) ∙ length-head c)
-
-refuse-then : (b : Bool) (k p : ℕ) (a : Answer) (f : ℕ → Answer) → andThen (refuse b k p a) f ≡ refuse b k p (andThen a f)
-refuse-then true k p a f = refl
-refuse-then false k p a f = refl
 
 -- a common parameter: first without its transfer parameters, then those of C5
 pub part-stepped : (times p : ℕ) (c : Common) (is : List Item) → partWriting times p (partFrom c is) ≡ andThen (headWriting times p c) (λ n. cond (eqb (c .header) transfer-data) (dataWriting p is) (Accepted n))

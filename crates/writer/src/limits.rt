@@ -10,14 +10,14 @@ ghost use Prim.Native.Nat.{_≤_};
 ghost use Rattle.annex.specs.Promises.{Gives};
 ghost use Rattle.annex.specs.Answers.{over-limits, refuse};
 ghost use Rattle.annex.specs.Allowed.{contentsSum};
-ghost use Rattle.annex.specs.Records.{transfersIn, transfersSum, commonsIn, isWhole};
+ghost use Rattle.annex.specs.Records.{transferCount, transfersSum, commonsIn, isWhole};
 ghost use Rattle.annex.specs.declared.Answer.the-variants.{Accepted};
 ghost use Rattle.writer.specs.Along.{usedAt, itemsAt, Within};
 ghost use Rattle.writer.specs.Limits.{isOver};
 
 // How many transfer parameters a common parameter holds: only a C5 has any.
 fn transfers_in(c: Common) -> u8
-    ensures { λ r. ⌜ r ≡ transfersIn c ⌝ }
+    ensures { λ r. ⌜ r ≡ transferCount c ⌝ }
 {
     if c.header == Common::TRANSFER_DATA {
         c.transfers

@@ -31,7 +31,7 @@ fn placed(a: Answer, p: usize) -> Answer
     }
 }
 
-// The n transfer parameters from the place `first` on, the header of the first of them at the place `start`: 8 to 13, or the place
+// The n transfer parameters from index `first` of the array on, the header of the first of them at the place `start`: 8 to 13, or the place
 // behind them.
 fn items_refusal(q: Record, first: usize, n: usize, start: usize) -> Answer
     requires { ⌜ Within q (first + n) × (start ≤ 65536) ⌝ }
@@ -60,7 +60,7 @@ fn items_refusal(q: Record, first: usize, n: usize, start: usize) -> Answer
     Answer::Accepted(at)
 }
 
-// C5, its header at the place `at`, its n transfer parameters from the place `first` on: their refusals, then 14, or the place behind it.
+// C5, its header at the place `at`, its n transfer parameters from index `first` of the array on: their refusals, then 14, or the place behind it.
 fn data_refusal(q: Record, first: usize, n: usize, at: usize) -> Answer
     requires { ⌜ Within q (first + n) × (at ≤ 4096) ⌝ }
     ensures { λ r. ⌜ r ≡ dataWriting at (itemsAt q first n) ⌝ }

@@ -31,7 +31,7 @@ fn item_len(t: Transfer, values: &[u8]) -> usize
     before + contents_len(t, values)
 }
 
-// Lays out the n transfer parameters from the place `first` on, and tells how many octets they take.
+// Lays out the n transfer parameters from index `first` of the array on, and tells how many octets they take.
 fn put_items(q: Record, first: usize, n: usize, room: &mut [u8]) -> usize
     requires { ⌜ Within q (first + n) × (length (layoutItems (itemsAt q first n)) ≤ length (now room)) ⌝ }
     ensures { λ r. ⌜ (r ≡ length (layoutItems (itemsAt q first n)))

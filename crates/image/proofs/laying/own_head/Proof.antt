@@ -9,12 +9,12 @@ use Rattle.image.proofs.laying.own_head.Statement.{statement}
 use Rattle.image.proofs.laying.own_head.Tie as tie
 
 -- how the values are held
-told : (c : tie.After-held-as) (v : Held) → c .held-as .result ≡ v →
+told : (c : tie.After-holding-of) (v : Held) → c .holding-of .result ≡ v →
     let a = c .before .before .before .args in
     holdingOf (a .t .header) (getD (a .values .now) 0 0) ≡ asHeld v (marksOf (a .t .header))
 told c v e =
     let a = c .before .before .before .args in
-    held-again (a .t .header) (getD (a .values .now) 0 0) (c .held-as .result) v (rw (← c .before .octet-at .ensures) (c .held-as .ensures)) e
+    held-again (a .t .header) (getD (a .values .now) 0 0) (c .holding-of .result) v (rw (← c .before .octet-at .ensures) (c .holding-of .ensures)) e
 
 returns : tie.Need-returns
 unfolding ownOf

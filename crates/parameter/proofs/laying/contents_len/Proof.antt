@@ -21,7 +21,7 @@ returns c =
     let h = c .before .before in
     let a = h .before .before .args in
     let i = rawItem (a .t) (a .values .now) in
-    let k : heldAs i ≡ AsContents = rw (c .enum-told .given .1) at (h .held-of .ensures) in
+    let k : heldAs i ≡ AsContents = rw (c .enum-told .given .1) at (h .held-as .ensures) in
     rw (own-contents i, contents-as AsContents i k)
 
 returns-2 : tie.Need-returns-2
@@ -31,7 +31,7 @@ returns-2 c =
     let a = h .before .before .args in
     let i = rawItem (a .t) (a .values .now) in
     let m = marksOf (a .t .header) in
-    let k : heldAs i ≡ AsDigits m = rw (u .enum-told2 .given .1) at (h .held-of .ensures) in
+    let k : heldAs i ≡ AsDigits m = rw (u .enum-told2 .given .1) at (h .held-as .ensures) in
     rw (own-contents i, contents-as (AsDigits m) i k)
     (omega (arith, c .packed-len .ensures, length-packed Dialled (a .values .now)))
 
@@ -41,7 +41,7 @@ returns-3 c =
     let h = u .before .before in
     let a = h .before .before .args in
     let i = rawItem (a .t) (a .values .now) in
-    let k : heldAs i ≡ AsNumber = rw (u .enum-told3 .given .1) at (h .held-of .ensures) in
+    let k : heldAs i ≡ AsNumber = rw (u .enum-told3 .given .1) at (h .held-as .ensures) in
     rw (own-contents i, contents-as AsNumber i k)
     (omega (arith, c .packed-len2 .ensures, length-packed Numbered (a .values .now)))
 
@@ -52,7 +52,7 @@ returns-4 c =
     let h = u .before .before in
     let a = h .before .before .args in
     let i = rawItem (a .t) (a .values .now) in
-    let k : heldAs i ≡ AsGeneric = rw (u .enum-told4 .given .1) at (h .held-of .ensures) in
+    let k : heldAs i ≡ AsGeneric = rw (u .enum-told4 .given .1) at (h .held-as .ensures) in
     let n = ap (λ (s : List ℕ). length s) (o .octets-from .ensures) in
     rw (own-contents i, contents-as AsGeneric i k)
     (omega (arith, c .packed-len3 .ensures, length-packed Numbered (drop 1 (a .values .now))))

@@ -14,7 +14,7 @@ returns c =
     let h = c .before .before in
     let a = h .before .before .args in
     let i = rawItem (a .t) (a .values .now) in
-    let k : heldAs i ≡ AsContents = rw (c .enum-told .given .1) at (h .held-of .ensures) in
+    let k : heldAs i ≡ AsContents = rw (c .enum-told .given .1) at (h .held-as .ensures) in
     rw (digits-as AsContents i k)
 
 returns-2 : tie.Need-returns-2
@@ -24,7 +24,7 @@ returns-2 c =
     let a = h .before .before .args in
     let i = rawItem (a .t) (a .values .now) in
     let m = marksOf (a .t .header) in
-    let k : heldAs i ≡ AsDigits m = rw (u .enum-told2 .given .1) at (h .held-of .ensures) in
+    let k : heldAs i ≡ AsDigits m = rw (u .enum-told2 .given .1) at (h .held-as .ensures) in
     rw (digits-as (AsDigits m) i k) (c .are-digits .ensures)
 
 returns-3 : tie.Need-returns-3
@@ -33,7 +33,7 @@ returns-3 c =
     let h = u .before .before in
     let a = h .before .before .args in
     let i = rawItem (a .t) (a .values .now) in
-    let k : heldAs i ≡ AsNumber = rw (u .enum-told3 .given .1) at (h .held-of .ensures) in
+    let k : heldAs i ≡ AsNumber = rw (u .enum-told3 .given .1) at (h .held-as .ensures) in
     rw (digits-as AsNumber i k) (c .are-digits2 .ensures)
 
 returns-4 : tie.Need-returns-4
@@ -43,7 +43,7 @@ returns-4 c =
     let h = u .before .before in
     let a = h .before .before .args in
     let i = rawItem (a .t) (a .values .now) in
-    let k : heldAs i ≡ AsGeneric = rw (u .enum-told4 .given .1) at (h .held-of .ensures) in
+    let k : heldAs i ≡ AsGeneric = rw (u .enum-told4 .given .1) at (h .held-as .ensures) in
     rw (digits-as AsGeneric i k, ← o .octets-from .ensures) (c .are-digits3 .ensures)
 
 pub digits-right-spec : {M : Type 1} → statement M

@@ -16,7 +16,7 @@ returns c =
     let h = u .before .before in
     let a = h .before .before .args in
     let i = rawItem (a .t) (a .values .now) in
-    let k : heldAs i ≡ AsContents = rw (u .enum-told .given .1) at (h .held-of .ensures) in
+    let k : heldAs i ≡ AsContents = rw (u .enum-told .given .1) at (h .held-as .ensures) in
     c .is-sound .ensures ∙ sym (form-contents i (omega arith) k)
 
 returns-2 : tie.Need-returns-2
@@ -26,7 +26,7 @@ returns-2 c =
     let a = h .before .before .args in
     let i = rawItem (a .t) (a .values .now) in
     let m = marksOf (a .t .header) in
-    let k : heldAs i ≡ AsDigits m = rw (u .enum-told2 .given .1) at (h .held-of .ensures) in
+    let k : heldAs i ≡ AsDigits m = rw (u .enum-told2 .given .1) at (h .held-as .ensures) in
     c .marks-right .ensures (a .values .now) ∙ sym (form-digits m i k)
 
 returns-3 : tie.Need-returns-3
@@ -35,7 +35,7 @@ returns-3 c =
     let h = u .before .before in
     let a = h .before .before .args in
     let i = rawItem (a .t) (a .values .now) in
-    let k : heldAs i ≡ AsNumber = rw (u .enum-told3 .given .1) at (h .held-of .ensures) in
+    let k : heldAs i ≡ AsNumber = rw (u .enum-told3 .given .1) at (h .held-as .ensures) in
     c .number-right .ensures ∙ sym (form-number i (omega arith) k)
 
 returns-4 : tie.Need-returns-4
@@ -44,7 +44,7 @@ returns-4 c =
     let h = u .before .before in
     let a = h .before .before .args in
     let i = rawItem (a .t) (a .values .now) in
-    let k : heldAs i ≡ AsGeneric = rw (u .enum-told4 .given .1) at (h .held-of .ensures) in
+    let k : heldAs i ≡ AsGeneric = rw (u .enum-told4 .given .1) at (h .held-as .ensures) in
     c .fields-right .ensures ∙ sym (form-generic i k)
 
 pub form-right-spec : {M : Type 1} → statement M

@@ -11,13 +11,13 @@ use Rattle.parameter.proofs.laying.put_contents.Statement.{statement}
 use Rattle.parameter.proofs.laying.put_contents.Tie as tie
 
 -- the contents, where the values are held so
-laid : (c : tie.After-held-of) (v : Held) → c .held-of .result ≡ v →
+laid : (c : tie.After-held-as) (v : Held) → c .held-as .result ≡ v →
     let a = c .before .before .before .args in
     let i = rawItem (a .t) (a .values .now) in
     contentsOf i ≡ contentsBy (asHeld v (marksOf (a .t .header))) i
 laid c v e =
     let a = c .before .before .before .args in
-    contents-as (asHeld v (marksOf (a .t .header))) (rawItem (a .t) (a .values .now)) (rw e at (c .held-of .ensures))
+    contents-as (asHeld v (marksOf (a .t .header))) (rawItem (a .t) (a .values .now)) (rw e at (c .held-as .ensures))
 
 copy-requires : tie.Need-copy-requires
 copy-requires c κs =

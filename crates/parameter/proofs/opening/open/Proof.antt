@@ -15,16 +15,16 @@ opens : (h : ℕ) (s : List ℕ) (r v : Held) → r ≡ heldBy (holdingOf h (get
 unfolding itemOf
 opens h s r v e f = rw (held-again h (getD s 0 0) r v e f)
 
-decided : (c : tie.After-held-as) (v : Held) → c .held-as .result ≡ v → openBy (asHeld v (marksOf (c .before .before .before .args .header))) (c .before .before .before .args .header) (c .before .before .before .args .contents .now) ≡ itemOf (c .before .before .before .args .header) (c .before .before .before .args .contents .now)
+decided : (c : tie.After-holding-of) (v : Held) → c .holding-of .result ≡ v → openBy (asHeld v (marksOf (c .before .before .before .args .header))) (c .before .before .before .args .header) (c .before .before .before .args .contents .now) ≡ itemOf (c .before .before .before .args .header) (c .before .before .before .args .contents .now)
 decided c v e =
     let a = c .before .before .before .args in
-    opens (a .header) (a .contents .now) (c .held-as .result) v (rw (← c .before .octet-at .ensures) (c .held-as .ensures)) e
+    opens (a .header) (a .contents .now) (c .holding-of .result) v (rw (← c .before .octet-at .ensures) (c .holding-of .ensures)) e
 
 octet-at-requires : tie.Need-octet-at-requires
 octet-at-requires c κs = search needs
 
-held-as-requires : tie.Need-held-as-requires
-held-as-requires c κs = search needs
+holding-of-requires : tie.Need-holding-of-requires
+holding-of-requires c κs = search needs
 
 enum-told : tie.Need-enum-told
 enum-told c = search needs
@@ -75,7 +75,7 @@ open-spec =
     tie.close
     (tie.spec
     octet-at-requires
-    held-as-requires
+    holding-of-requires
     enum-told
     open-contents-requires
     enum-told-2

@@ -5,7 +5,7 @@ use denote.Ref.{now}
 use borrow.Author.Needs.{needs}
 use native.Mathlib.Omega.{arith}
 use Rattle.annex.specs.declared.Found.the-variants.{At}
-use Rattle.laws.specs.Finding.{contentsAt, contentsBy, search-inside}
+use Rattle.laws.specs.Finding.{contentsAt, contentsFound, search-inside}
 use Rattle.reader.proofs.finding.contents.Statement.{statement}
 use Rattle.reader.proofs.finding.contents.Tie as tie
 
@@ -22,7 +22,7 @@ read c =
 found : (c : tie.After-lead) →
     let i = c .before .before .before .before in
     let a = i .before .before .before .before .args in
-    contentsBy (a .k) (now (a .t)) ≡ At (i .i .given .0 .0 + 1 + c .lead .result) (i .i .given .0 .1 .0)
+    contentsFound (a .k) (now (a .t)) ≡ At (i .i .given .0 .0 + 1 + c .lead .result) (i .i .given .0 .1 .0)
 found c =
     let i = c .before .before .before .before in
     rw (← i .before .before .search .ensures, i .i .given .1, c .lead .ensures, c .before .extent-by .ensures)

@@ -15,7 +15,7 @@ use Rattle.annex.specs.Records.{valuesOf, commonHeadOf}
 use Rattle.annex.specs.declared.Record.{Record}
 use Rattle.laws.specs.Written.{octets-every}
 use Rattle.laws.specs.Filling.{withItems, head-opened}
-use Rattle.reader.specs.Filling.{itemsFrom, partsLeft, parAt, filledWith, parts-end, parts-cut, own-part, data-is, data-items, other-items}
+use Rattle.reader.specs.Filling.{itemsFrom, partsLeft, parIn, filledWith, parts-end, parts-cut, own-part, data-is, data-items, other-items}
 use Rattle.reader.specs.declared.reading.Filled.{Filled}
 use Rattle.reader.proofs.Turns.{Filling, filling-start, filling-end, filling-mark, Next, filling-next, filling-put}
 use Rattle.reader.proofs.reading.fill.Statement.{statement}
@@ -52,7 +52,7 @@ next-is : (c : tie.Else2 Inv-loop μ-loop) →
     let m = now (a .before .before .before .args .m) in
     let i = a .loop .i in
     let n = c .before .octets-after .result in
-    Next m (a .loop .q) (a .loop .transfers) (a .loop .used) i n (openCommon (parAt m i n)) (partsLeft m (i + 1 + n))
+    Next m (a .loop .q) (a .loop .transfers) (a .loop .used) i n (openCommon (parIn m i n)) (partsLeft m (i + 1 + n))
 next-is c =
     let o = c .before in
     let e = o .before .before .before in
@@ -82,13 +82,13 @@ data-here : (c : tie.Then3 Inv-loop μ-loop) →
     let m = now (a .before .before .before .args .m) in
     let i = a .loop .i in
     let n = c .before .before .octets-after .result in
-    openCommon (parAt m i n) .items ≡ itemsFrom (take (i + 1 + n - (i + 1 + 1)) (drop (i + 1 + 1) m))
+    openCommon (parIn m i n) .items ≡ itemsFrom (take (i + 1 + n - (i + 1 + 1)) (drop (i + 1 + 1) m))
 data-here c =
     let a = c .before .before .before .before .before .before .before .before in
     let m = now (a .before .before .before .args .m) in
     let i = a .loop .i in
     let n = c .before .before .octets-after .result in
-    data-items (parAt m i n) (c .if3 .taken) (next-is (c .before) .here) ∙ ap itemsFrom (sym (data-is m i n))
+    data-items (parIn m i n) (c .if3 .taken) (next-is (c .before) .here) ∙ ap itemsFrom (sym (data-is m i n))
 
 with-transfers-requires : tie.Need-with-transfers-requires Inv-loop μ-loop
 with-transfers-requires c κs =
@@ -113,12 +113,12 @@ put-none q transfers used p e = record { held = rw e; places = rw e (omega arith
 put-is : (c : tie.Joined3 Inv-loop μ-loop) →
     let a = c .before .before .before .before .before .before .before .before in
     let m = now (a .before .before .before .args .m) in
-    Put (a .loop .q) (c .if3 .q) (a .loop .transfers) (c .if3 .transfers) (a .loop .used) (c .if3 .used) (openCommon (parAt m (a .loop .i) (c .before .before .octets-after .result)))
+    Put (a .loop .q) (c .if3 .q) (a .loop .transfers) (c .if3 .transfers) (a .loop .used) (c .if3 .used) (openCommon (parIn m (a .loop .i) (c .before .before .octets-after .result)))
 put-is c =
     let a = c .before .before .before .before .before .before .before .before in
     let m = now (a .before .before .before .args .m) in
     let q = a .loop .q in
-    let p = openCommon (parAt m (a .loop .i) (c .before .before .octets-after .result)) in
+    let p = openCommon (parIn m (a .loop .i) (c .before .before .octets-after .result)) in
     ⊎-elim
     (λ w.
     let t : tie.Then3 Inv-loop μ-loop = record { before = c .before; if3 = w .0 } in
@@ -161,16 +161,16 @@ head-is : (c : tie.After-part-head Inv-loop μ-loop) →
     let j = c .before .before .before in
     let a = j .before .before .before .before .before .before .before .before in
     let m = now (a .before .before .before .args .m) in
-    c .part-head .result ≡ commonHeadOf (openCommon (parAt m (a .loop .i) (j .before .before .octets-after .result)))
+    c .part-head .result ≡ commonHeadOf (openCommon (parIn m (a .loop .i) (j .before .before .octets-after .result)))
 head-is c =
     let j = c .before .before .before in
     let a = j .before .before .before .before .before .before .before .before in
     let m = now (a .before .before .before .args .m) in
     let i = a .loop .i in
     let n = j .before .before .octets-after .result in
-    let p = openCommon (parAt m i n) in
+    let p = openCommon (parIn m i n) in
     let e : j .if3 .transfers - a .loop .transfers ≡ length (p .items) = omega (arith, put-is j .places) in
-    c .part-head .ensures ∙ rw (own-part m i n, e) (sym (head-opened (parAt m i n)))
+    c .part-head .ensures ∙ rw (own-part m i n, e) (sym (head-opened (parIn m i n)))
 
 loop-again-2 : tie.Need-loop-again-2 Inv-loop μ-loop
 loop-again-2 c =

@@ -1,4 +1,4 @@
--- `held_as` meets its contract: digits of PLI 10 are told by their form, the three numbers by their headers, and over all other headers
+-- `holding_of` meets its contract: digits of PLI 10 are told by their form, the three numbers by their headers, and over all other headers
 -- the definition computes to contents.
 use native.Mathlib.Omega.{arith}
 use mathlib.Core.Path.{_≡_, refl, sym, _∙_}
@@ -18,8 +18,8 @@ use Rattle.parameter.specs.declared.opening.Held.{Held}
 use Rattle.parameter.specs.declared.opening.Held.the-variants as held
 use Rattle.parameter.specs.Forms.{isDialled}
 use Rattle.parameter.specs.Opening.{heldBy}
-use Rattle.parameter.proofs.opening.held_as.Statement.{statement}
-use Rattle.parameter.proofs.opening.held_as.Tie as tie
+use Rattle.parameter.proofs.opening.holding_of.Statement.{statement}
+use Rattle.parameter.proofs.opening.holding_of.Tie as tie
 
 dialled : (f : Form) (x : ℕ) → T (isDialled f) → held.Digits ≡ heldBy (holdingBy f x)
 dialled Carried x t = absurd t
@@ -77,8 +77,8 @@ returns-5 c =
     let a = d .before .args in
     carried (a .header) (a .first) (omega arith) (c .match .rest) (sym (d .holds-digits .ensures) ∙ e .if1 .left)
 
-pub held-as-spec : {M : Type 1} → statement M
-held-as-spec =
+pub holding-of-spec : {M : Type 1} → statement M
+holding-of-spec =
     tie.close
     (tie.spec
     (λ c κs. search needs)

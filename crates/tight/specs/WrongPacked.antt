@@ -39,7 +39,7 @@ use Rattle.annex.specs.declared.Record.{Record}
 use Rattle.annex.specs.declared.Imaged.{Imaged}
 use Rattle.annex.specs.declared.Class.the-variants.{HeldBack}
 use Rattle.annex.specs.declared.ClassAnswer.the-variants as classes
-use Rattle.theorems.specs.Wrong.{short, shorter, another, roomy, said}
+use Rattle.tight.specs.Wrong.{short, shorter, another, roomy, said}
 
 -- the image of case 2's record, and with an octet left over
 abbrev imageOfK : List ℕ

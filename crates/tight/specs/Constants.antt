@@ -1,0 +1,108 @@
+-- Two wrong programs for each function that serves the product's: one that always answers what is right at the first input of its row, one
+-- that always answers what is right at the second. For `Common::none`, `Transfer::none`, `reader::reading::empty` and, in the base, where
+-- every name may stand once, for `often_of` a constant is right, and they have no row.
+use Prim.Native.Nat.{ℕ, _+_}
+use native.Mathlib.Omega.{arith}
+use mathlib.Core.Path.{_≡_, refl, sym, ap, _∙_}
+use mathlib.Core.Bool.{Bool, true, false, not}
+use mathlib.Core.List.{List, [], _∷_, _++_}
+use borrow.Author.Tests.{eq-eqb}
+use lib.Dec.{eqb, leb}
+use lib.ListN.{length, getD, drop}
+use Rattle.annex.specs.Answers.{numberOf, givenOf, faultNumberOf, stopOf, over-limits, refuse}
+use Rattle.annex.specs.Units.{octetsOf, afterOf, leadOf, commonExtentOf, extentOf}
+use Rattle.annex.specs.Heads.{among, listedHeaders, isCall, signalOf, nameUsed, pliRight, oftenOf, zeroesOf, formOf}
+use Rattle.annex.specs.Digits.{halves, joined, digitOf, codeOf, isCode, halvesFault, digitsFault, digitsOf, packed}
+use Rattle.annex.specs.Contents.{dialledFault, faultOf}
+use Rattle.annex.specs.Items.{plainItem, holdingOf, openBy, itemOf, contentsOf, ownOf}
+use Rattle.annex.specs.Items.Holding.{AsContents}
+use Rattle.annex.specs.Layout.{layoutItem}
+use Rattle.annex.specs.Allowed.{every, lengthRight, formRight, digitsRight}
+use Rattle.annex.specs.Walk.{walk}
+use Rattle.annex.specs.Reading.{transferOf, octetAllowed, commonForm, endOf, commonsOf}
+use Rattle.annex.specs.Records.{valueHead, dataHead, carriedHead, dialledHead, numberHead, pad, valuesOf, pack, viewItems, lengthsOf, transfersSum, viewParts, commonsIn, isWhole, view}
+use Rattle.annex.specs.Writing.{itemWriting, overLimits}
+use Rattle.annex.specs.Promises.{Gives}
+use Rattle.annex.specs.Bench.{K, recordOfK, recordOfM}
+use Rattle.annex.specs.declared.Alphabet.the-variants.{Dialled, Numbered}
+use Rattle.annex.specs.declared.Answer.the-variants.{Accepted, Refused}
+use Rattle.annex.specs.declared.Extent.the-variants.{CountOctet, LengthOctet}
+use Rattle.annex.specs.declared.Key.the-variants.{Name}
+use Rattle.laws.specs.Plain.{pars}
+use Rattle.laws.specs.Finding.{searchFrom, firstIn, commonPlain}
+use Rattle.octets.specs.Splice.{spliceFits}
+use Rattle.parameter.specs.Forms.{isDialled}
+use Rattle.parameter.specs.Opening.{heldBy, headFor, openedHead}
+use Rattle.parameter.specs.declared.opening.Held.{Held}
+use Rattle.parameter.specs.declared.opening.Held.the-variants as held
+use Rattle.writer.specs.Along.{usedAt}
+use Rattle.writer.specs.Laying.{headLength}
+use Rattle.writer.specs.Limits.{isOver}
+
+-- whatever number tells two answers apart
+pub no-constant : {A : Type 0} (number : A → ℕ) (x y c : A) → eqb (number x) (number y) ≡ false → Gives x c → Gives y c → ⊥
+no-constant number x y c apart p q =
+    let e : number x ≡ number y = ap number (sym p ∙ q) in
+    let t : true ≡ false = sym (eq-eqb (number x) (number y) e) ∙ apart in
+    absurd (let z : _≡_ {A = ℕ} 0 1 = cc in omega arith)
+
+abbrev flag : Bool → ℕ
+flag true = 1
+flag false = 0
+
+abbrev heldNumber : Held → ℕ
+heldNumber held.Contents = 0
+heldNumber held.Digits = 1
+heldNumber held.Number = 2
+heldNumber held.Generic = 3
+
+-- a row to a function: what its definition gives at two inputs, told as numbers
+abbrev pub rows : List (ℕ × ℕ)
+rows =
+    (octetsOf (record { 0 = 3 }) .0, octetsOf (record { 0 = 5 }) .0) ∷  -- HalfOctets::octets
+    (valueHead 0x06 0x11 .value, valueHead 0x06 0x12 .value) ∷  -- Common::octet, Common::call_number
+    (dataHead 1 .transfers, dataHead 2 .transfers) ∷  -- Common::transfer_data
+    (carriedHead 0xCC 1 .len, carriedHead 0xCC 2 .len) ∷  -- Transfer::carried
+    (dialledHead 0x91 1 0 0 2 .notification, dialledHead 0x91 0 1 0 2 .notification) ∷  -- Transfer::dialled
+    (numberHead 0xD7 0x83 0x11 1 .plan, numberHead 0xD7 0x83 0x21 1 .plan) ∷  -- Transfer::number
+    (signalOf 1 2, signalOf 2 1) ∷  -- Signal::of
+    (afterOf (extentOf 0x07) 0, afterOf (extentOf 0x41) 0) ∷  -- extent_of
+    (afterOf (commonExtentOf 0x01) 0, afterOf (commonExtentOf 0x83) 0) ∷  -- common_extent_of
+    (afterOf CountOctet 4, afterOf LengthOctet 4) ∷  -- octets_after
+    (leadOf CountOctet, leadOf LengthOctet) ∷  -- lead
+    (flag (nameUsed 0x90), flag (nameUsed 0x08)) ∷  -- name_used
+    (flag (pliRight 0x90), flag (pliRight 0xD0)) ∷  -- pli_right
+    (zeroesOf 0x41, zeroesOf 0x42) ∷  -- zeroes_of
+    (flag (isDialled (formOf 0x90)), flag (isDialled (formOf 0x41))) ∷  -- holds_digits
+    (getD (halves (0x21 ∷ [])) 0 0, getD (halves (0x21 ∷ [])) 1 0) ∷  -- half_at
+    (digitOf Dialled 10, digitOf Numbered 10) ∷  -- digit_of
+    (codeOf Dialled 0, codeOf Numbered 0) ∷  -- code_of
+    (flag (isCode Dialled 10), flag (isCode Numbered 10)) ∷  -- is_code
+    (getD (0x21 ∷ 0x43 ∷ []) 0 0, getD (0x21 ∷ 0x43 ∷ []) 1 0) ∷  -- octet_at
+    (length {A = ℕ} (drop 0 (0x21 ∷ [])), length {A = ℕ} (drop 1 (0x21 ∷ []))) ∷  -- octets_from
+    (faultNumberOf (faultOf 0x90 (0x01 ∷ 0x0A ∷ [])), faultNumberOf (faultOf 0x90 (0x01 ∷ 0x00 ∷ []))) ∷  -- contents_fault
+    (numberOf (transferOf 0 0x41 (0x01 ∷ [])), numberOf (transferOf 0 0x41 [])) ∷  -- transfer
+    (heldNumber (heldBy (holdingOf 0xDA 0x06)), heldNumber (heldBy (holdingOf 0xDA 0x07))) ∷  -- holding_of
+    (headFor (openBy AsContents 0xCC (1 ∷ [])) 0 .len, headFor (openBy AsContents 0xCC []) 0 .len) ∷  -- open_contents
+    (openedHead 0x90 (0x02 ∷ 0x21 ∷ []) 0 .len, openedHead 0x90 (0x01 ∷ 0x01 ∷ []) 0 .len) ∷  -- open
+    (length (contentsOf (plainItem 0x41 (1 ∷ []))), length (contentsOf (plainItem 0xCC []))) ∷  -- contents_len
+    (numberOf (itemWriting 0 0 (plainItem 0x41 (1 ∷ []))), numberOf (itemWriting 0 0 (plainItem 0x08 []))) ∷  -- refusal
+    (flag (leb (length (layoutItem (plainItem 0x41 (1 ∷ [])))) 2), flag (leb (length (layoutItem (plainItem 0x41 (1 ∷ [])))) 1)) ∷  -- put
+    (flag (among 0xC5 listedHeaders), flag (among 0x44 listedHeaders)) ∷  -- listed
+    (flag (octetAllowed 0x01 0x01), flag (octetAllowed 0x01 0x02)) ∷  -- octet_allowed
+    (numberOf (commonForm 0 0x01 (0x01 ∷ [])), numberOf (commonForm 1 0x01 (0x01 ∷ []))) ∷  -- common_form
+    (numberOf (endOf true []), numberOf (endOf false [])) ∷  -- end_mark
+    (flag (isCall 0x83), flag (isCall 0x04)) ∷  -- is_call
+    (stopOf (searchFrom (Name 0x01) 0 (0x41 ∷ 0x01 ∷ [])), stopOf (searchFrom (Name 0x02) 0 (0x41 ∷ 0x01 ∷ []))) ∷  -- search
+    (stopOf (commonPlain 0x01 K), stopOf (commonPlain 0x06 K)) ∷  -- common_plain
+    (givenOf (Accepted 9), givenOf (Refused 15 0)) ∷  -- given
+    (usedAt (pack recordOfM) 0, usedAt (pack recordOfM) 1) ∷  -- values_before
+    (flag (isOver (pack recordOfK)), flag (isOver (pack (recordOfK ++ (recordOfK ++ (recordOfK ++ recordOfK)))))) ∷  -- over_limits
+    (givenOf (refuse (not (isWhole (pack recordOfM))) over-limits 0 (Accepted (transfersSum (commonsIn (pack recordOfM))))), givenOf (refuse (not (isWhole (pack recordOfK))) over-limits 0 (Accepted (transfersSum (commonsIn (pack recordOfK)))))) ∷  -- transfers_held
+    (headLength 0x83, headLength 0x01) ∷  -- head_len
+    (flag (leb (0 + 1) 1), flag (leb (1 + 1) 1)) ∷  -- copy_in
+    (flag (spliceFits (0x00 ∷ []) 1 0 0 []), flag (spliceFits (0x00 ∷ []) 2 0 0 [])) ∷ []  -- splice
+
+pub rows-differ : every (λ (r : ℕ × ℕ). not (eqb (r .0) (r .1))) rows ≡ true
+unfolding afterOf extentOf commonExtentOf leadOf nameUsed pliRight oftenOf zeroesOf formOf halves joined digitOf codeOf isCode halvesFault digitsFault digitsOf packed dialledFault faultOf holdingOf itemOf contentsOf ownOf layoutItem lengthRight formRight digitsRight walk transferOf octetAllowed commonForm endOf commonsOf pad valuesOf pack lengthsOf transfersSum isWhole viewItems viewParts view overLimits itemWriting pars firstIn
+rows-differ = refl

@@ -1,0 +1,1 @@
+// How tight each promise is: lemmas alone, in specs/.
