@@ -2,6 +2,8 @@
 -- value of every case of every answer is said here.
 use Prim.Native.Nat.{ℕ, _+_}
 use mathlib.Core.Bool.{Bool, true, false}
+use mathlib.Core.List.{List, _++_}
+use lib.ListN.{drop}
 use Rattle.annex.specs.declared.Answer.{Answer}
 use Rattle.annex.specs.declared.Answer.the-variants.{Accepted, Refused}
 use Rattle.annex.specs.declared.Fault.{Fault}
@@ -93,6 +95,11 @@ placeOf (Refused k p) = p
 abbrev pub givenOf : Answer → ℕ
 givenOf (Accepted n) = n
 givenOf (Refused k p) = 0
+
+-- what lent room holds after an answer: so many elements written at its front and those past them as before; unchanged where refused
+abbrev pub roomAfter : {A : Type 0} → Answer → List A → List A → List A
+roomAfter (Accepted n) written room = written ++ drop n room
+roomAfter (Refused k p) written room = room
 
 -- the number of a fault, 0 where there is none, and the offset of the octet in the contents
 abbrev pub faultNumberOf : Fault → ℕ

@@ -18,15 +18,13 @@ use Rattle.annex.specs.declared.Fault.the-variants.{Sound, Bad}
 abbrev pub clear : ℕ → ℕ → Bool
 clear mask x = eqb (bitAnd x mask) 0
 
--- 12 where the form is not kept
-abbrev pub formed : Bool → Fault
-formed true = Sound
-formed false = Bad bad-form 0
-
--- 12 comes first
+-- 12 where the form is not kept; it comes before other faults
 abbrev pub formedThen : Bool → Fault → Fault
 formedThen true f = f
 formedThen false f = Bad bad-form 0
+
+abbrev pub formed : Bool → Fault
+formed b = formedThen b Sound
 
 -- a number's first octet: odd mark (bit 7). Its second: presentation (3-2)
 abbrev pub oddOf : List ℕ → ℕ

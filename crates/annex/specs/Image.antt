@@ -4,12 +4,11 @@ use mathlib.Core.Bool.{Bool, cond, not, _&&_}
 use mathlib.Core.List.{List, [], _∷_, _++_}
 use lib.Dec.{eqb, leb, ltb}
 use lib.ListN.{length, getD, take, drop}
-use Rattle.annex.specs.Answers.{over-limits, no-room, refuse}
+use Rattle.annex.specs.Answers.{over-limits, no-room, refuse, roomAfter}
 use Rattle.annex.specs.Heads.{transfer-data, most-commons, most-transfers, most-values}
 use Rattle.annex.specs.Items.{Item, Part}
 use Rattle.annex.specs.Allowed.{itemsIn}
 use Rattle.annex.specs.Records.{headOf, commonHeadOf, rawItem, valuesOf, pack, isWhole, view}
-use Rattle.annex.specs.Writing.{roomAfter}
 use Rattle.annex.specs.declared.Common.{Common}
 use Rattle.annex.specs.declared.Transfer.{Transfer}
 use Rattle.annex.specs.declared.Record.{Record}

@@ -4,11 +4,11 @@ use Prim.Native.Nat.{ℕ, _+_, _*_, _/_, _%_}
 use mathlib.Core.List.{List, [], _∷_, _++_}
 use lib.Dec.{ltb}
 use lib.ListN.{length, drop}
-use Rattle.annex.specs.Answers.{numberOf, placeOf, givenOf, classNumberOf, classPlaceOf, classGivenOf, no-room, refuse, andThen}
+use Rattle.annex.specs.Answers.{numberOf, placeOf, givenOf, classNumberOf, classPlaceOf, classGivenOf, no-room, refuse, andThen, roomAfter}
 use Rattle.annex.specs.Layout.{layout}
 use Rattle.annex.specs.Reading.{verdictOf, recordOf}
 use Rattle.annex.specs.Records.{view}
-use Rattle.annex.specs.Writing.{writingOf, roomAfter}
+use Rattle.annex.specs.Writing.{writingOf}
 use Rattle.annex.specs.Image.{twoOctets, imageOf, imagedOf}
 use Rattle.annex.specs.Spans.{rowsOf, spansOf}
 use Rattle.annex.specs.declared.Answer.{Answer}

@@ -4,8 +4,8 @@ use Prim.Native.Nat.{ℕ, _+_, _-_}
 use mathlib.Core.Bool.{cond}
 use mathlib.Core.List.{List, [], _∷_, _++_}
 use lib.Dec.{eqb, ltb}
-use lib.ListN.{length, getD, drop}
-use Rattle.annex.specs.Answers.{no-room, refuse, andThen}
+use lib.ListN.{length, getD}
+use Rattle.annex.specs.Answers.{no-room, refuse, andThen, roomAfter}
 use Rattle.annex.specs.Units.{leadOf, extentOf, commonExtentOf}
 use Rattle.annex.specs.Heads.{transfer-data}
 use Rattle.annex.specs.Walk.{Par}
@@ -53,9 +53,5 @@ unfoldable pub spansOf : List ℕ → ℕ → Answer
 spansOf m room = andThen (verdictOf m) (λ _. refuse (ltb room (length (rowsOf m))) no-room 0 (Accepted (length (rowsOf m))))
 
 -- what the table then holds
-abbrev pub tableBy : Answer → List Row → List Row → List Row
-tableBy (Accepted n) rows table = rows ++ drop n table
-tableBy (Refused k p) rows table = table
-
 unfoldable pub tableOf : List ℕ → List Row → List Row
-tableOf m table = tableBy (spansOf m (length table)) (rowsOf m) table
+tableOf m table = roomAfter (spansOf m (length table)) (rowsOf m) table

@@ -2,9 +2,9 @@
 -- stand, each at the place where they would stand; 14 behind the last of C5, 6 at the end mark, 15 last; and what the room then holds.
 use Prim.Native.Nat.{ℕ, _+_, _-_}
 use mathlib.Core.Bool.{Bool, cond, not, _||_}
-use mathlib.Core.List.{List, [], _∷_, _++_}
+use mathlib.Core.List.{List, [], _∷_}
 use lib.Dec.{eqb, leb, ltb}
-use lib.ListN.{length, drop}
+use lib.ListN.{length}
 use Rattle.annex.specs.Answers.{
   over-limits,
   unlisted,
@@ -21,6 +21,7 @@ use Rattle.annex.specs.Answers.{
   no-room,
   refuse,
   andThen,
+  roomAfter,
 }
 use Rattle.annex.specs.Units.{nameOf}
 use Rattle.annex.specs.Heads.{
@@ -42,7 +43,7 @@ use Rattle.annex.specs.Reading.{wholeIn}
 use Rattle.annex.specs.Records.{isWhole, view}
 use Rattle.annex.specs.declared.Record.{Record}
 use Rattle.annex.specs.declared.Answer.{Answer}
-use Rattle.annex.specs.declared.Answer.the-variants.{Accepted, Refused}
+use Rattle.annex.specs.declared.Answer.the-variants.{Accepted}
 
 -- a transfer parameter whose name stood so many times before, its header at the place p: 8 to 13, or the place behind it
 unfoldable pub itemWriting : ℕ → ℕ → Item → Answer
@@ -101,10 +102,6 @@ structWriting s = refuse (not (isWhole s)) over-limits 0 (recordWriting (view s)
 unfoldable pub writingOf : Record → ℕ → Answer
 writingOf s room = andThen (structWriting s) (λ n. refuse (ltb room n) no-room 0 (Accepted n))
 
--- what the room then holds: the message at its front, octets past it as before; unchanged where refused
-abbrev pub roomAfter : Answer → List ℕ → List ℕ → List ℕ
-roomAfter (Accepted n) octets room = octets ++ drop n room
-roomAfter (Refused k p) octets room = room
-
+-- what the room then holds
 unfoldable pub writtenOf : Record → List ℕ → List ℕ
 writtenOf s room = roomAfter (writingOf s (length room)) (layout (view s)) room

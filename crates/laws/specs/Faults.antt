@@ -11,10 +11,9 @@ pub passed : (b : Bool) (f : Fault) (k i : ℕ) → cond b f (Bad k i) ≡ Sound
 passed true f k i e = (refl, e)
 passed false f k i e = absurd (let z : _≡_ {A = ℕ} 0 1 = cc in omega arith)
 
-pub formed-sound : (b : Bool) → formed b ≡ Sound → b ≡ true
-formed-sound true e = refl
-formed-sound false e = absurd (let z : _≡_ {A = ℕ} 0 1 = cc in omega arith)
-
 pub then-sound : (b : Bool) (f : Fault) → formedThen b f ≡ Sound → (b ≡ true) × (f ≡ Sound)
 then-sound true f e = (refl, e)
 then-sound false f e = absurd (let z : _≡_ {A = ℕ} 0 1 = cc in omega arith)
+
+pub formed-sound : (b : Bool) → formed b ≡ Sound → b ≡ true
+formed-sound b e = then-sound b Sound e .0

@@ -7,9 +7,9 @@ use mathlib.Core.List.{List, _++_}
 use lib.Dec.{ltb}
 use lib.ListN.{length, getD, set, take, drop, length-append, length-drop}
 use lib.Seq.{take-suc, take-all, length-take-le, drop-cons, set-at, append-snoc}
-use Rattle.annex.specs.Answers.{givenOf}
+use Rattle.annex.specs.Answers.{givenOf, roomAfter}
 use Rattle.annex.specs.Reading.{verdictOf}
-use Rattle.annex.specs.Spans.{rowsOf, noRow, rowAt, spansOf, tableBy, tableOf}
+use Rattle.annex.specs.Spans.{rowsOf, noRow, rowAt, spansOf, tableOf}
 use Rattle.annex.specs.declared.Answer.{Answer}
 use Rattle.annex.specs.declared.Answer.the-variants.{Accepted, Refused}
 use Rattle.annex.specs.declared.Row.{Row}
@@ -44,7 +44,7 @@ pub filled-all : (m : List ℕ) (table : List Row) → filled m table (givenOf (
 unfolding filled spansOf tableOf
 filled-all m table = go (verdictOf m) (ltb (length table) (length (rowsOf m))) refl
   where
-    go : (a : Answer) (b : Bool) → verdictOf m ≡ a → take (givenOf (spansBy a b m)) (listed m) ++ drop (givenOf (spansBy a b m)) table ≡ tableBy (spansBy a b m) (rowsOf m) table
+    go : (a : Answer) (b : Bool) → verdictOf m ≡ a → take (givenOf (spansBy a b m)) (listed m) ++ drop (givenOf (spansBy a b m)) table ≡ roomAfter (spansBy a b m) (rowsOf m) table
     go (Accepted q) true e = refl
     go (Accepted q) false e = rw (e, take-all (length (rowsOf m)) (rowsOf m) (omega arith))
     go (Refused k p) b e = refl
