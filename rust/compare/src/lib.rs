@@ -77,7 +77,7 @@ pub fn compare(seed: u64, count: u64) -> Result<Coverage, Difference> {
         if proved(&input) != outcome {
             return Err(Difference { seed, index });
         }
-        coverage.note(input.kind(), &outcome);
+        coverage.note(&input, &outcome);
     }
     Ok(coverage)
 }

@@ -6,7 +6,8 @@ use std::time::Instant;
 use trial::{answer, input_at, Outcome};
 
 const USAGE: &str = "\
-usage: compare SEED COUNT        puts so many inputs to both codecs; stops at the first difference
+usage: compare SEED COUNT        puts so many inputs to both codecs; fails at the first difference,
+                                 or if an answer that can be given did not occur
        compare show SEED INDEX   one input, and what each codec makes of it";
 
 fn main() -> ExitCode {
@@ -33,13 +34,22 @@ fn compare_all(seed: u64, count: u64) -> ExitCode {
         Ok(coverage) => {
             let seconds = start.elapsed().as_secs_f64();
             println!("{coverage}\n{count} inputs without a difference in {seconds:.2} s");
-            ExitCode::SUCCESS
+            judge(&coverage.lacking())
         }
         Err(difference) => {
             println!("{difference}");
             ExitCode::FAILURE
         }
     }
+}
+
+/// Fails, naming them, if answers did not occur that can be given.
+fn judge(lacking: &[String]) -> ExitCode {
+    if lacking.is_empty() {
+        return ExitCode::SUCCESS;
+    }
+    println!("answers that did not occur: {}", lacking.join("; "));
+    ExitCode::FAILURE
 }
 
 fn show(seed: u64, index: u64) -> ExitCode {

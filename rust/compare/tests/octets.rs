@@ -1,7 +1,6 @@
 //! The two codecs give the same answers and leave the same octets.
 
 use codec::boundary;
-use trial::input::KINDS;
 use trial::{answer, Input};
 
 const SEED: u64 = 7;
@@ -12,9 +11,8 @@ fn over_many_inputs() {
     let coverage =
         compare::compare(SEED, COUNT).unwrap_or_else(|difference| panic!("{difference}"));
     println!("{coverage}");
-    for kind in KINDS {
-        assert_eq!(coverage.occurred(kind), kind.possible(), "{kind:?}");
-    }
+    assert_eq!(coverage.lacking(), [""; 0]);
+    assert_eq!(coverage.surplus(), [""; 0]);
 }
 
 #[test]
@@ -48,6 +46,24 @@ fn lengths_beyond_any_message() {
     }
     assert_eq!(boundary::remove(&mut lent, 70_000, 0x10), refused(1, 0));
     assert!(lent.iter().all(|&octet| octet == 0x5A));
+}
+
+/// The replacement behind 41, or the parameter CC behind its length octet, has
+/// more octets than it can have.
+#[test]
+fn new_parameters_beyond_any() {
+    let message = [0x01, 0x01, 0x06, 0x11, 0xC5, 0x02, 0x41, 0x01, 0x00];
+    let before = [&message[..], &[0x5A; 600]].concat();
+    let mut buffer = before.clone();
+    for more in [257, 258, 511, 512, 65_534, 65_535, 65_536, 65_537, 70_000] {
+        let long = |head: &[u8]| [head, &vec![0x01; more]].concat();
+        let n = message.len();
+        let replaced = boundary::replace(&mut buffer, n, &long(&[0x41]));
+        assert_eq!(replaced, refused(11, 0));
+        let appended = boundary::append(&mut buffer, n, &long(&[0xCC, 0xFF]));
+        assert_eq!(appended, refused(11, 0));
+        assert_eq!(buffer, before);
+    }
 }
 
 #[test]

@@ -1,70 +1,139 @@
 //! Which answers occurred for each kind of call.
 
-use crate::input::{Kind, KINDS};
+use crate::input::{Input, Kind, KINDS};
 use crate::outcome::Outcome;
 use std::fmt;
 
 /// The refusal numbers, and 0 for accepted.
 const NUMBERS: usize = 18;
 
-/// How often each number was the answer to each kind of call.
+/// Calls that are counted together: those of a kind, the edits of messages that
+/// reading accepts apart from the other edits.
+#[derive(Clone, Copy, Debug, PartialEq, Eq)]
+pub struct Case {
+    kind: Kind,
+    edits_sound: bool,
+}
+
+/// The cases: every kind, then the edits of sound messages.
+const CASES: usize = KINDS.len() + EDITS.len();
+const EDITS: [Kind; 3] = [Kind::Replace, Kind::Append, Kind::Remove];
+
+impl Case {
+    /// The case of a call.
+    pub fn of(input: &Input) -> Self {
+        let edits_sound = match input {
+            Input::Replace { buffer, n, .. }
+            | Input::Append { buffer, n, .. }
+            | Input::Remove { buffer, n, .. } => {
+                let message = buffer.get(..usize::from(*n));
+                message.is_some_and(|message| plain::verdict(message).is_ok())
+            }
+            _ => false,
+        };
+        let kind = input.kind();
+        Case { kind, edits_sound }
+    }
+
+    /// All cases, each at its own index.
+    pub fn all() -> impl Iterator<Item = Case> {
+        let case = |edits_sound| move |kind| Case { kind, edits_sound };
+        let kinds = KINDS.into_iter().map(case(false));
+        kinds.chain(EDITS.into_iter().map(case(true)))
+    }
+
+    fn index(self) -> usize {
+        let at = Case::all().position(|case| case == self);
+        at.expect("a case among all")
+    }
+
+    /// All numbers that such a call can be answered with, 0 for accepted.
+    ///
+    /// Reading gives 1 to 13. Finding adds 16; rows, and reading into a lent
+    /// image, add 15. Writing knows no cut message and no octets after the end
+    /// mark: it has neither 4 nor 7, but 14 and 15. An edit gives 15 for a
+    /// length beyond the buffer and reading's numbers; then, where the message
+    /// is sound, its own.
+    pub fn possible(self) -> Vec<u8> {
+        let reading = 0..=13;
+        match (self.kind, self.edits_sound) {
+            (Kind::Read | Kind::Rows, _) => reading.chain([15]).collect(),
+            (Kind::Write, _) => [0, 1, 2, 3, 5, 6].into_iter().chain(8..=15).collect(),
+            (Kind::FindCommon | Kind::FindTransfer, _) => reading.chain([16]).collect(),
+            (Kind::Class, _) => vec![0, 12, 17],
+            (_, false) => (1..=13).chain([15]).collect(),
+            (Kind::Replace, true) => [0, 8, 9].into_iter().chain(11..=16).collect(),
+            (Kind::Append, true) => [0].into_iter().chain(8..=16).collect(),
+            (Kind::Remove, true) => vec![0, 16],
+        }
+    }
+}
+
+impl fmt::Display for Case {
+    fn fmt(&self, f: &mut fmt::Formatter<'_>) -> fmt::Result {
+        let of = match self.edits_sound {
+            true => ", sound",
+            false => "",
+        };
+        f.pad(&format!("{:?}{of}", self.kind))
+    }
+}
+
+/// How often each number was the answer in each case.
 #[derive(Clone, Debug, Default, PartialEq, Eq)]
 pub struct Coverage {
-    counts: [[u64; NUMBERS]; KINDS.len()],
+    counts: [[u64; NUMBERS]; CASES],
 }
 
 impl Coverage {
     /// Counts one outcome.
-    pub fn note(&mut self, kind: Kind, outcome: &Outcome) {
-        self.counts[kind as usize][usize::from(outcome.number())] += 1;
+    pub fn note(&mut self, input: &Input, outcome: &Outcome) {
+        self.counts[Case::of(input).index()][usize::from(outcome.number())] += 1;
     }
 
-    /// How often `number` was the answer to calls of `kind`; 0 is accepted.
-    pub fn count(&self, kind: Kind, number: u8) -> u64 {
-        self.counts[kind as usize][usize::from(number)]
+    /// How often `number` was the answer in a case; 0 is accepted.
+    pub fn count(&self, case: Case, number: u8) -> u64 {
+        self.counts[case.index()][usize::from(number)]
     }
 
-    /// The numbers that occurred for calls of `kind`.
-    pub fn occurred(&self, kind: Kind) -> Vec<u8> {
-        let numbers = 0..NUMBERS as u8;
-        numbers.filter(|&n| self.count(kind, n) > 0).collect()
+    /// The numbers that can be the answer in a case and did not occur.
+    pub fn lacking(&self) -> Vec<String> {
+        self.named(|possible, count| possible && count == 0)
     }
-}
 
-impl Kind {
-    /// All numbers that a call of this kind can be answered with, 0 among them.
-    ///
-    /// Reading gives 1 to 13. Finding adds 16; rows, and reading into a lent
-    /// image, add 15. Writing knows no cut message and no octets after the end
-    /// mark: it has neither 4 nor 7, but 14 and 15. An edit reads the message
-    /// first, so it has all of reading's, 10 in a replacement too; then 14 and
-    /// 15 for what grows, and 16. Removal never grows: it has no 14, and its 15
-    /// is a length beyond the buffer.
-    pub fn possible(self) -> Vec<u8> {
-        let reading = 0..=13;
-        match self {
-            Kind::Read | Kind::Rows => reading.chain([15]).collect(),
-            Kind::Write => [0, 1, 2, 3, 5, 6].into_iter().chain(8..=15).collect(),
-            Kind::FindCommon | Kind::FindTransfer => reading.chain([16]).collect(),
-            Kind::Class => vec![0, 12, 17],
-            Kind::Replace | Kind::Append => (0..=16).collect(),
-            Kind::Remove => reading.chain([15, 16]).collect(),
+    /// The numbers that cannot be the answer in a case and did occur.
+    pub fn surplus(&self) -> Vec<String> {
+        self.named(|possible, count| !possible && count > 0)
+    }
+
+    /// The cases and numbers, in words, of which this is true: whether the
+    /// number can be the answer, and how often it was.
+    fn named(&self, wanted: impl Fn(bool, u64) -> bool) -> Vec<String> {
+        let mut named = Vec::new();
+        for case in Case::all() {
+            let possible = case.possible();
+            for number in 0..NUMBERS as u8 {
+                if wanted(possible.contains(&number), self.count(case, number)) {
+                    named.push(format!("{case}: {number}"));
+                }
+            }
         }
+        named
     }
 }
 
 impl fmt::Display for Coverage {
     fn fmt(&self, f: &mut fmt::Formatter<'_>) -> fmt::Result {
-        write!(f, "{:<13}", "number")?;
+        write!(f, "{:<14}", "number")?;
         for number in 0..NUMBERS {
-            write!(f, "{number:>7}")?;
+            write!(f, "{number:>8}")?;
         }
-        for kind in KINDS {
-            write!(f, "\n{:<13}", format!("{kind:?}"))?;
+        for case in Case::all() {
+            write!(f, "\n{case:<14}")?;
             for number in 0..NUMBERS as u8 {
-                match self.count(kind, number) {
-                    0 if !kind.possible().contains(&number) => write!(f, "{:>7}", "-")?,
-                    count => write!(f, "{count:>7}")?,
+                match self.count(case, number) {
+                    0 if !case.possible().contains(&number) => write!(f, "{:>8}", "-")?,
+                    count => write!(f, "{count:>8}")?,
                 }
             }
         }

@@ -187,6 +187,12 @@ fn fillers(names: &mut Vec<u8>) -> [u8; 2] {
     })
 }
 
+/// A message whose transfer data is `parameter`, of at most 255 octets, alone.
+pub fn with_alone(parameter: &[u8]) -> Vec<u8> {
+    let head = [0x01, 0x01, 0x06, 0x11, 0xC5, parameter.len() as u8];
+    [&head, parameter, &[0x00]].concat()
+}
+
 /// A message that reading accepts.
 pub fn sound_message(rng: &mut Rng) -> Vec<u8> {
     let size = size(rng);

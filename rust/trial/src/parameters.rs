@@ -239,11 +239,11 @@ fn wrong_length(rng: &mut Rng) -> Vec<u8> {
 }
 
 fn bad_form(rng: &mut Rng) -> Vec<u8> {
-    let name = rng.pick(&names_with(|layout| match layout {
-        Layout::Octet { zero } | Layout::Digits { zero } => zero != 0,
-        Layout::Unused | Layout::Open | Layout::Carried => false,
-        _ => true,
-    }));
+    let name = if rng.one_in(4) {
+        rng.pick(&[0x1C, 0x1C, 0x1B])
+    } else {
+        rng.pick(&names_with(has_form))
+    };
     match layout_of(name) {
         Layout::Octet { zero } | Layout::Digits { zero } => {
             let mut octets = sound(rng, name, 16);
@@ -262,7 +262,7 @@ fn bad_form(rng: &mut Rng) -> Vec<u8> {
             counted(name, &rng.octets(len))
         }
         Layout::Two { zero } if rng.one_in(2) => {
-            let second = rng.octet() | rng.bit_of(zero);
+            let second = rng.octet() & !zero | rng.bit_of(zero);
             counted(name, &[rng.octet(), second])
         }
         Layout::Two { .. } => {
@@ -270,6 +270,15 @@ fn bad_form(rng: &mut Rng) -> Vec<u8> {
             counted(name, &rng.octets(len))
         }
         _ => counted(name, &bad_number(rng)),
+    }
+}
+
+/// Whether contents of the right length can be of a bad form.
+fn has_form(layout: Layout) -> bool {
+    match layout {
+        Layout::Octet { zero } | Layout::Digits { zero } => zero != 0,
+        Layout::Unused | Layout::Open | Layout::Carried => false,
+        _ => true,
     }
 }
 
@@ -354,11 +363,10 @@ fn twofold(rng: &mut Rng) -> Vec<u8> {
 #[cfg(test)]
 mod tests {
     use super::*;
+    use crate::messages::with_alone;
 
-    /// The verdict on a message whose transfer data is `parameter` alone.
     fn verdict(parameter: &[u8]) -> Result<(), plain::Refusal> {
-        let head = [0x01, 0x01, 0x06, 0x11, 0xC5, parameter.len() as u8];
-        plain::verdict(&[&head, parameter, &[0x00]].concat())
+        plain::verdict(&with_alone(parameter))
     }
 
     #[test]

@@ -1,6 +1,6 @@
 //! Records and their images: sound, with fields out of range, over the limits.
 
-use crate::messages::{self, sound_draft, Size};
+use crate::messages::{self, sound_draft, with_alone, Size};
 use crate::parameters::{shuffled_names, sound, spoilt_somehow};
 use crate::rng::Rng;
 use plain::{Common, Record, Transfer};
@@ -37,25 +37,42 @@ fn sound_record(rng: &mut Rng) -> Record {
 }
 
 /// How a record holds the transfer parameter in these octets, if it is sound.
-fn held(parameter: &[u8]) -> Option<Transfer> {
-    let head = [0x01, 0x01, 0x06, 0x11, 0xC5, parameter.len() as u8];
-    let message = [&head, parameter, &[0x00]].concat();
-    let record = plain::read(&message).ok()?;
-    record.common.into_iter().last()?.transfers.pop()
+pub fn held(parameter: &[u8]) -> Option<Transfer> {
+    let mut record = plain::read(&with_alone(parameter)).ok()?;
+    record.common.pop()?.transfers.pop()
 }
 
 /// A record whose transfer data comes near the limits, from below or above.
 fn heavy_record(rng: &mut Rng) -> Record {
-    let target = rng.between(225, 257);
-    let mut octets = 0;
+    let mut transfers = heavy_transfers(rng);
+    if rng.one_in(4) {
+        let at = rng.below(transfers.len());
+        transfers[at].header ^= rng.pick(&[0x01, 0x40, 0x80, 0xC0, 0xC1]);
+    }
+    let mut record = plain::read(&sound_draft(rng, Size::Crowd).octets()).unwrap_or_default();
+    if let Some(data) = data_of(&mut record) {
+        data.transfers = transfers;
+    }
+    if rng.one_in(8) {
+        split_data(rng, &mut record);
+    }
+    if rng.one_in(4) {
+        damage_common(rng, &mut record);
+    }
+    record
+}
+
+/// Sound transfer parameters whose contents come to 225 to 257 octets.
+fn heavy_transfers(rng: &mut Rng) -> Vec<Transfer> {
+    let mut left = rng.between(225, 257);
     let mut transfers = Vec::new();
     for name in shuffled_names(rng) {
         let room = rng.between(6, 120);
         let Some(transfer) = held(&sound(rng, name, room)) else {
             continue;
         };
-        if octets + transfer.contents_len() <= target {
-            octets += transfer.contents_len();
+        if transfer.contents_len() <= left {
+            left -= transfer.contents_len();
             transfers.push(transfer);
         }
         if rng.one_in(30) {
@@ -67,22 +84,11 @@ fn heavy_record(rng: &mut Rng) -> Record {
     if let Some(name) = carried.into_iter().find(|&name| !used(name)) {
         transfers.push(Transfer {
             header: 0xC0 | name,
-            values: rng.octets(target - octets),
+            values: rng.octets(left),
             ..Transfer::default()
         });
     }
-    if rng.one_in(4) {
-        let at = rng.below(transfers.len());
-        transfers[at].header ^= rng.pick(&[0x01, 0x40, 0x80, 0xC0, 0xC1]);
-    }
-    let mut record = plain::read(&sound_draft(rng, Size::Crowd).octets()).unwrap_or_default();
-    if let Some(data) = data_of(&mut record) {
-        data.transfers = transfers;
-    }
-    if rng.one_in(4) {
-        damage_common(rng, &mut record);
-    }
-    record
+    transfers
 }
 
 /// Takes a C5 apart into two.
@@ -151,7 +157,7 @@ fn damage_common(rng: &mut Rng, record: &mut Record) {
 }
 
 fn damage_transfers(rng: &mut Rng, transfers: &mut Vec<Transfer>) {
-    let parameter = match rng.below(10) {
+    let parameter = match rng.below(12) {
         0 | 1 if !transfers.is_empty() => {
             let mut again = transfers[rng.below(transfers.len())].clone();
             if rng.one_in(3) {
@@ -163,14 +169,11 @@ fn damage_transfers(rng: &mut Rng, transfers: &mut Vec<Transfer>) {
         3 => stranger(rng),
         4 => not_withheld(rng),
         5 => twofold(rng),
-        6 if rng.one_in(3) => {
-            let header = rng.octet();
-            let bare = Transfer {
-                header,
-                ..Transfer::default()
-            };
-            transfers.resize(rng.between(50, 53), bare.clone());
-            bare
+        6 if rng.one_in(3) => crowd(rng, transfers),
+        7 | 8 => {
+            let parameter = at_limit(rng);
+            transfers.retain(|t| (t.header ^ parameter.header) & 0x3F != 0);
+            parameter
         }
         _ if !transfers.is_empty() => {
             let at = rng.below(transfers.len());
@@ -186,6 +189,47 @@ fn damage_transfers(rng: &mut Rng, transfers: &mut Vec<Transfer>) {
     transfers.insert(to, parameter);
 }
 
+/// Brings the transfer parameters to 50 to 53, and gives one more.
+fn crowd(rng: &mut Rng, transfers: &mut Vec<Transfer>) -> Transfer {
+    let bare = Transfer {
+        header: rng.octet(),
+        ..Transfer::default()
+    };
+    transfers.resize(rng.between(50, 53), bare.clone());
+    bare
+}
+
+/// A parameter that is sound but for one field, which is as large as it can be,
+/// or larger.
+fn at_limit(rng: &mut Rng) -> Transfer {
+    let header = rng.pick(&WITH_FIELDS);
+    let len = rng.below(6);
+    let mut parameter = Transfer {
+        header,
+        values: digits(rng, header, len),
+        ..Transfer::default()
+    };
+    let fields = fields_of(header);
+    for &(index, most) in fields {
+        *field(&mut parameter, index) = rng.between(0, most.into()) as u8;
+    }
+    if parameter.presentation == 2 {
+        parameter.presentation = 1;
+    }
+    let (index, most) = rng.pick(fields);
+    let value = rng.pick(&[most, most + 1, most + 1, 2 * most + 1, 255]);
+    *field(&mut parameter, index) = value;
+    parameter
+}
+
+/// So many digits as a record holds them under this header: DA has 06 before
+/// them.
+fn digits(rng: &mut Rng, header: u8, len: usize) -> Vec<u8> {
+    let first = (header == 0xDA).then_some(0x06);
+    let digits = (0..len).map(|_| rng.below(12) as u8);
+    first.into_iter().chain(digits).collect()
+}
+
 /// DC with presentation 2 and, as a rule, something that must not stand beside it.
 fn not_withheld(rng: &mut Rng) -> Transfer {
     let mut parameter = Transfer {
@@ -199,7 +243,7 @@ fn not_withheld(rng: &mut Rng) -> Transfer {
         1 => parameter.incomplete = 1,
         2 => parameter.plan = rng.octet() & 0x07,
         3 => parameter.values.push(rng.octet() & 0x0F),
-        4 => *field(rng, &mut parameter) = 0,
+        4 => *any_field(rng, &mut parameter) = 0,
         _ => {}
     }
     parameter
@@ -209,13 +253,10 @@ fn not_withheld(rng: &mut Rng) -> Transfer {
 fn twofold(rng: &mut Rng) -> Transfer {
     let header = rng.pick(&[0x90, 0x91, 0x95, 0x98, 0xA3, 0xD7, 0xDC, 0xDA]);
     let len = rng.pick(&[1, 2, 62, 63, 64, 65]);
-    let mut values: Vec<u8> = (0..len).map(|_| rng.below(12) as u8).collect();
+    let mut values = digits(rng, header, len);
     if rng.one_in(2) {
-        let at = rng.below(len);
+        let at = values.len() - 1 - rng.below(len);
         values[at] = 12;
-    }
-    if header == 0xDA {
-        values.insert(0, 0x06);
     }
     let mut parameter = Transfer {
         header,
@@ -223,7 +264,7 @@ fn twofold(rng: &mut Rng) -> Transfer {
         ..Transfer::default()
     };
     for _ in 0..rng.below(4) {
-        *field(rng, &mut parameter) = 2;
+        *any_field(rng, &mut parameter) = 2;
     }
     parameter
 }
@@ -259,11 +300,11 @@ fn damage_transfer(rng: &mut Rng, parameter: &mut Transfer) {
                 1 => rng.pick(&[0, 1, 2, 3, 4, 7, 8, 127, 128, 255]),
                 _ => rng.octet() & 0x03,
             };
-            *field(rng, parameter) = value;
+            *any_field(rng, parameter) = value;
         }
         5 => {
             for value in rng.octets(8) {
-                *field(rng, parameter) = value;
+                *any_field(rng, parameter) = value;
             }
         }
         6 => parameter.presentation = 2,
@@ -298,8 +339,35 @@ fn damage_values(rng: &mut Rng, values: &mut Vec<u8>) {
 }
 
 /// One of the eight fields.
-fn field<'t>(rng: &mut Rng, parameter: &'t mut Transfer) -> &'t mut u8 {
-    match rng.below(8) {
+fn any_field<'t>(rng: &mut Rng, parameter: &'t mut Transfer) -> &'t mut u8 {
+    field(parameter, rng.below(8))
+}
+
+/// The headers of the parameters with fields; DA has them with 06.
+pub const WITH_FIELDS: [u8; 7] = [0x90, 0x91, 0x95, 0x98, 0xD7, 0xDC, 0xDA];
+
+/// The fields under a header by their indices, and the most that each can be.
+pub fn fields_of(header: u8) -> &'static [(usize, u8)] {
+    match header {
+        0x90 | 0x95 => &[(0, 1)],
+        0x91 => &[(0, 1), (1, 1)],
+        0x98 => &[(2, 3)],
+        0xD7 | 0xDC | 0xDA => &[(3, 127), (4, 1), (5, 7), (6, 3), (7, 3)],
+        _ => &[],
+    }
+}
+
+/// The fields that a parameter has, as [`fields_of`] tells them.
+pub fn fields_in(parameter: &Transfer) -> &'static [(usize, u8)] {
+    match (parameter.header, parameter.values.first()) {
+        (0xDA, first) if first != Some(&0x06) => &[],
+        (header, _) => fields_of(header),
+    }
+}
+
+/// The field with this index, by the order of the fields in an image.
+pub fn field(parameter: &mut Transfer, index: usize) -> &mut u8 {
+    match index {
         0 => &mut parameter.notification,
         1 => &mut parameter.verification,
         2 => &mut parameter.dialling,
@@ -341,24 +409,9 @@ fn noisy_image(rng: &mut Rng, record: &Record) -> Vec<u8> {
 
 /// Fills the fields that a parameter does not have.
 fn add_noise(rng: &mut Rng, parameter: &mut Transfer) {
-    let noise = rng.number().to_le_bytes();
-    let is_number = matches!(parameter.header, 0xD7 | 0xDC)
-        || parameter.header == 0xDA && parameter.values.first() == Some(&0x06);
-    if !matches!(parameter.header, 0x90 | 0x91 | 0x95) {
-        parameter.notification = noise[0];
-    }
-    if parameter.header != 0x91 {
-        parameter.verification = noise[1];
-    }
-    if parameter.header != 0x98 {
-        parameter.dialling = noise[2];
-    }
-    if !is_number {
-        parameter.number_type = noise[3];
-        parameter.incomplete = noise[4];
-        parameter.plan = noise[5];
-        parameter.presentation = noise[6];
-        parameter.screening = noise[7];
+    let own = fields_in(parameter);
+    for index in (0..8).filter(|index| own.iter().all(|(i, _)| i != index)) {
+        *field(parameter, index) = rng.octet();
     }
 }
 

@@ -1,14 +1,26 @@
-//! Over many inputs every answer occurs that a kind of call can give, and no
-//! other; every name meets every refusal that its layout can give.
+//! Over many inputs every answer occurs that a call can have, and no other;
+//! every name meets every refusal that its layout can give; every field is met
+//! at its limit and one above; and every condition of a list occurs.
 
+mod conditions;
+
+use conditions::CONDITIONS;
 use plain::{Record, Transfer};
-use std::collections::BTreeMap;
-use std::collections::BTreeSet;
-use trial::input::KINDS;
+use std::collections::{BTreeMap, BTreeSet};
+use trial::records::{field, fields_in, fields_of, WITH_FIELDS};
 use trial::{answer, input_at, Coverage, Input, Outcome};
 
 const SEED: u64 = 17;
 const COUNT: u64 = 200_000;
+
+/// The inputs under the seed, with the answers to them.
+fn calls() -> impl Iterator<Item = (Input, Outcome)> {
+    (0..COUNT).map(|index| {
+        let input = input_at(SEED, index);
+        let outcome = answer(&input);
+        (input, outcome)
+    })
+}
 
 /// Names by refusal number.
 type Names = BTreeMap<u8, BTreeSet<u8>>;
@@ -18,17 +30,14 @@ fn every_possible_answer_occurs() {
     let mut coverage = Coverage::default();
     let mut read = Names::new();
     let mut written = Names::new();
-    for index in 0..COUNT {
-        let input = input_at(SEED, index);
-        let outcome = answer(&input);
-        coverage.note(input.kind(), &outcome);
+    for (input, outcome) in calls() {
+        coverage.note(&input, &outcome);
         note_read(&input, &outcome, &mut read);
         note_written(&input, &outcome, &mut written);
     }
     println!("{coverage}");
-    for kind in KINDS {
-        assert_eq!(coverage.occurred(kind), kind.possible(), "{kind:?}");
-    }
+    assert_eq!(coverage.lacking(), [""; 0]);
+    assert_eq!(coverage.surplus(), [""; 0]);
 
     // 12 names are unused, 47 of the others have a PLI of their own. Eleven
     // names under PLI 01 and three under PLI 10 have zero bits, and six under
@@ -46,29 +55,73 @@ fn every_possible_answer_occurs() {
 }
 
 #[test]
-fn every_size_occurs() {
-    let (mut full, mut short, mut many_rows) = (0, 0, 0);
-    let (mut past, mut tight) = (0, 0);
-    for index in 0..COUNT / 10 {
-        let input = input_at(SEED, index);
-        let outcome = answer(&input);
-        let accepted = outcome.number() == 0;
-        match &input {
-            Input::Read { message, .. } if accepted => {
-                full += usize::from(message.len() == 272);
-                short += usize::from(message.len() < 12);
-            }
-            Input::Rows { .. } if accepted => many_rows += usize::from(outcome.value() > 50),
-            Input::Replace { buffer, .. } | Input::Append { buffer, .. } if accepted => {
-                past += usize::from(outcome.value() < buffer.len());
-                tight += usize::from(outcome.value() == buffer.len());
-            }
-            _ => {}
+fn every_condition_occurs() {
+    let mut missing = CONDITIONS.to_vec();
+    for (input, outcome) in calls() {
+        missing.retain(|(_, occurs)| !occurs(&input, &outcome));
+        if missing.is_empty() {
+            return;
         }
     }
-    for count in [full, short, many_rows, past, tight] {
-        assert!(count > 10, "{full} {short} {many_rows} {past} {tight}");
+    let missing: Vec<&str> = missing.into_iter().map(|(name, _)| name).collect();
+    panic!("did not occur: {missing:?}");
+}
+
+/// Headers and indices of fields.
+type Fields = BTreeSet<(u8, usize)>;
+
+#[test]
+fn every_field_occurs_at_its_limit_and_above() {
+    let (mut at, mut above) = (Fields::new(), Fields::new());
+    for (input, outcome) in calls() {
+        note_fields(&input, &outcome, &mut at, &mut above);
     }
+    let pairs = |header| fields_of(header).iter().map(move |&(i, _)| (header, i));
+    let all: Fields = WITH_FIELDS.into_iter().flat_map(pairs).collect();
+    assert_eq!(all.len(), 20);
+    assert_eq!((&at, &above), (&all, &all));
+}
+
+/// Notes the fields that are at their limits in a record that is written, and
+/// the one that is one above where nothing else is wrong.
+fn note_fields(input: &Input, outcome: &Outcome, at: &mut Fields, above: &mut Fields) {
+    let Input::Write { image, .. } = input else {
+        return;
+    };
+    let Ok(mut record) = plain::from_image(image) else {
+        return;
+    };
+    if outcome.number() == 0 {
+        let fields = record.common.iter_mut().flat_map(fields_at_limit);
+        at.extend(fields);
+    } else if outcome.number() == 12 {
+        above.extend(sole_fault(record, outcome.place()));
+    }
+}
+
+fn fields_at_limit(common: &mut plain::Common) -> Vec<(u8, usize)> {
+    let mut at = Vec::new();
+    for transfer in &mut common.transfers {
+        for &(index, most) in fields_in(transfer) {
+            if *field(transfer, index) == most {
+                at.push((transfer.header, index));
+            }
+        }
+    }
+    at
+}
+
+/// The field of the transfer parameter at `place` that is one above its limit,
+/// if the record can be written once it is at the limit.
+fn sole_fault(mut record: Record, place: usize) -> Option<(u8, usize)> {
+    let transfer = transfer_at(&mut record, place)?;
+    let header = transfer.header;
+    let mut fields = fields_in(transfer).iter();
+    let &(index, most) = fields.find(|&&(i, most)| *field(transfer, i) == most + 1)?;
+    *field(transfer, index) = most;
+    plain::write(&record, &mut [0; 272])
+        .is_ok()
+        .then_some((header, index))
 }
 
 fn counts(names: &Names) -> Vec<(u8, usize)> {
@@ -98,8 +151,8 @@ fn note_written(input: &Input, outcome: &Outcome, names: &mut Names) {
     if !(8..=13).contains(&outcome.number()) {
         return;
     }
-    let record = plain::from_image(image).expect("a record within its limits");
-    if let Some(parameter) = transfer_at(&record, outcome.place()) {
+    let mut record = plain::from_image(image).expect("a record within its limits");
+    if let Some(parameter) = transfer_at(&mut record, outcome.place()) {
         let name = parameter.header & 0x3F;
         names.entry(outcome.number()).or_default().insert(name);
     }
@@ -107,9 +160,9 @@ fn note_written(input: &Input, outcome: &Outcome, names: &mut Names) {
 
 /// The transfer parameter whose header would stand at `place`, if all before
 /// it is sound.
-fn transfer_at(record: &Record, place: usize) -> Option<&Transfer> {
+fn transfer_at(record: &mut Record, place: usize) -> Option<&mut Transfer> {
     let mut offset = 0;
-    for parameter in &record.common {
+    for parameter in &mut record.common {
         if parameter.header != 0xC5 {
             offset += usize::from(parameter.header >> 6) + 2;
             continue;
@@ -118,7 +171,7 @@ fn transfer_at(record: &Record, place: usize) -> Option<&Transfer> {
             return None;
         }
         offset += 2;
-        for transfer in &parameter.transfers {
+        for transfer in &mut parameter.transfers {
             if offset == place {
                 return Some(transfer);
             }

@@ -1,0 +1,300 @@
+//! Conditions on a call and its outcome, each of which is to occur.
+
+use plain::Transfer;
+use trial::{answer, Input, Kind, Outcome};
+
+/// A condition and its name.
+pub type Condition = (&'static str, fn(&Input, &Outcome) -> bool);
+
+pub const CONDITIONS: &[Condition] = &[
+    ("5 octets read", |i, o| reads(i, o, 0, |m| m.len() == 5)),
+    ("272 octets read", |i, o| reads(i, o, 0, |m| m.len() == 272)),
+    ("273 octets read", |i, o| reads(i, o, 1, |m| m.len() == 273)),
+    ("data of 255 read", |i, o| {
+        reads(i, o, 0, |m| data_len(m) == Some(255))
+    }),
+    ("data of 255 written", |i, o| {
+        writes(i, o, 0, |w| w.data_len() == 255)
+    }),
+    ("data of 256 written", |i, o| {
+        writes(i, o, 14, |w| w.data_len() == 256)
+    }),
+    ("data of 255 by appending", |i, o| appends(i, o, 0, 255)),
+    ("data of 256 by appending", |i, o| appends(i, o, 14, 256)),
+    ("52 transfer parameters", |i, o| {
+        writes(i, o, 0, |w| w.transfers.len() == 52)
+    }),
+    ("53 transfer parameters", |i, o| {
+        writes(i, o, 1, |w| {
+            w.loads() == [true, false, true] && w.transfers.len() == 53
+        })
+    }),
+    ("6 common parameters", |i, o| {
+        writes(i, o, 0, |w| w.common == 6)
+    }),
+    ("7 common parameters", |i, o| {
+        writes(i, o, 1, |w| {
+            w.loads() == [false, true, true] && w.common == 7
+        })
+    }),
+    ("contents of 255 in one C5", |i, o| {
+        writes(i, o, 14, |w| w.data == 1 && w.contents_len() == 255)
+    }),
+    ("contents of 256 in one C5", |i, o| {
+        writes(i, o, 1, |w| w.data == 1 && w.contents_alone_are(256))
+    }),
+    ("contents of 255 in two C5", |i, o| {
+        writes(i, o, 3, |w| w.data == 2 && w.contents_len() == 255)
+    }),
+    ("contents of 256 in two C5", |i, o| {
+        writes(i, o, 1, |w| w.data == 2 && w.contents_alone_are(256))
+    }),
+    ("63 digits read", |i, o| {
+        holds(i, o, 0x18, |c| c[0] & 0x3F == 63)
+    }),
+    ("63 digits written", |i, o| {
+        writes(i, o, 0, |w| w.transfers.iter().any(|t| is_dialled(t, 63)))
+    }),
+    ("64 digits written", |i, o| {
+        writes(i, o, 11, |w| w.transfers.iter().any(|t| is_dialled(t, 64)))
+    }),
+    ("odd count of dialled digits", |i, o| {
+        holds(i, o, 0x18, |c| c[0] & 1 == 1)
+    }),
+    ("even count of dialled digits", |i, o| {
+        holds(i, o, 0x18, |c| c[0] & 1 == 0 && c.len() > 1)
+    }),
+    ("odd count of a number's digits", |i, o| {
+        holds(i, o, 0x17, |c| c[0] & 0x80 != 0)
+    }),
+    ("even count of a number's digits", |i, o| {
+        holds(i, o, 0x17, |c| c[0] & 0x80 == 0 && c.len() > 2)
+    }),
+    ("filler of dialled digits", |i, o| {
+        refuses(i, o, 13, |p| is_odd(p, 0x98, 0x01) && mends(i, o, p, 0x0F))
+    }),
+    ("filler of a number", |i, o| {
+        refuses(i, o, 13, |p| is_odd(p, 0xD7, 0x80) && mends(i, o, p, 0x0F))
+    }),
+    ("DA with 06", |i, o| holds(i, o, 0x1A, |c| c[0] == 0x06)),
+    ("DA without 06", |i, o| holds(i, o, 0x1A, |c| c[0] != 0x06)),
+    ("DC withheld", |i, o| {
+        holds(i, o, 0x1C, |c| c[1] & 0x0C == 0x08)
+    }),
+    ("DC withheld with one wrong bit", |i, o| {
+        refuses(i, o, 12, |p| withheld_wrong_bits(p) == Some(1))
+    }),
+    ("DC withheld with digits", |i, o| {
+        refuses(
+            i,
+            o,
+            12,
+            |p| matches!(p, [0xDC, _, 0, second, _, ..] if second & 0xFC == 0x08),
+        )
+    }),
+    ("more than 50 rows", |i, o| {
+        matches!(i, Input::Rows { .. }) && o.number() == 0 && o.value() > 50
+    }),
+    ("octets past what is replaced in", |i, o| {
+        past(i, o, Kind::Replace)
+    }),
+    ("octets past what is appended to", |i, o| {
+        past(i, o, Kind::Append)
+    }),
+    ("octets past what is removed from", |i, o| {
+        past(i, o, Kind::Remove)
+    }),
+    ("image short by one", |i, o| short(i, o, Kind::Read)),
+    ("room short by one", |i, o| short(i, o, Kind::Write)),
+    ("table short by one", |i, o| short(i, o, Kind::Rows)),
+    ("buffer short by one for a new one", |i, o| {
+        short(i, o, Kind::Replace)
+    }),
+    ("buffer short by one for one more", |i, o| {
+        short(i, o, Kind::Append)
+    }),
+];
+
+/// Whether a message that is wanted was read, with this number for an answer.
+fn reads(input: &Input, outcome: &Outcome, number: u8, wanted: impl Fn(&[u8]) -> bool) -> bool {
+    matches!(input, Input::Read { message, .. } if outcome.number() == number && wanted(message))
+}
+
+/// Whether a message was read in which the contents under a name are wanted.
+fn holds(input: &Input, outcome: &Outcome, name: u8, wanted: impl Fn(&[u8]) -> bool) -> bool {
+    let found = |m: &[u8]| plain::find_transfer(m, name).is_ok_and(|range| wanted(&m[range]));
+    reads(input, outcome, 0, found)
+}
+
+/// Whether reading refused the wanted parameter, of which the octets from the
+/// header to its end are looked at; none where they are cut.
+fn refuses(input: &Input, outcome: &Outcome, number: u8, wanted: impl Fn(&[u8]) -> bool) -> bool {
+    let whole = |m: &[u8]| {
+        let octets = &m[outcome.place()..];
+        let count = usize::from(*octets.get(1).unwrap_or(&0));
+        let len = match octets[0] >> 6 {
+            0b10 => (count & 0x3F).div_ceil(2),
+            _ => count,
+        };
+        octets.get(..2 + len).is_some_and(&wanted)
+    };
+    reads(input, outcome, number, whole)
+}
+
+/// Whether the mark of an odd count is set in the first octet behind the header,
+/// or behind the length octet, of a parameter with this header.
+fn is_odd(parameter: &[u8], header: u8, mark: u8) -> bool {
+    let at = usize::from(header >> 6) - 1;
+    parameter[0] == header && parameter.get(at).is_some_and(|octet| octet & mark != 0)
+}
+
+/// Whether the message would be accepted if of the refused parameter's last
+/// octet these bits alone were set.
+fn mends(input: &Input, outcome: &Outcome, parameter: &[u8], bits: u8) -> bool {
+    let last = outcome.place() + parameter.len() - 1;
+    reads(input, outcome, outcome.number(), |message| {
+        let mut mended = message.to_vec();
+        mended[last] &= bits;
+        plain::verdict(&mended).is_ok()
+    })
+}
+
+/// How many bits are set that must be 0 in a DC without digits that is withheld.
+fn withheld_wrong_bits(parameter: &[u8]) -> Option<u32> {
+    match parameter {
+        [0xDC, 2, first, second] if second & 0x0C == 0x08 => {
+            Some(first.count_ones() + (second & 0xF0).count_ones())
+        }
+        _ => None,
+    }
+}
+
+/// The length of the transfer data of an accepted message.
+fn data_len(message: &[u8]) -> Option<usize> {
+    let data = plain::find_common(message, 0xC5).ok()?;
+    Some(data.len())
+}
+
+/// Whether an appending whose transfer data would have so many octets was
+/// answered with this number.
+fn appends(input: &Input, outcome: &Outcome, number: u8, len: usize) -> bool {
+    let Input::Append { buffer, n, new } = input else {
+        return false;
+    };
+    let message = buffer.get(..usize::from(*n)).unwrap_or(&[]);
+    outcome.number() == number && data_len(message).is_some_and(|old| old + new.len() == len)
+}
+
+/// Whether an edit was accepted, and octets stand past the message.
+fn past(input: &Input, outcome: &Outcome, kind: Kind) -> bool {
+    let n = match input {
+        Input::Replace { n, .. } | Input::Append { n, .. } | Input::Remove { n, .. } => *n,
+        _ => return false,
+    };
+    let end = outcome.value().max(n.into());
+    input.kind() == kind && outcome.number() == 0 && end < input.lent().len()
+}
+
+/// Whether the call was refused with 15, and would not have been with one more
+/// octet lent.
+fn short(input: &Input, outcome: &Outcome, kind: Kind) -> bool {
+    let mut longer = input.clone();
+    match &mut longer {
+        Input::Read { image: lent, .. }
+        | Input::Write { room: lent, .. }
+        | Input::Rows { table: lent, .. }
+        | Input::Replace { buffer: lent, .. }
+        | Input::Append { buffer: lent, .. }
+        | Input::Remove { buffer: lent, .. } => lent.push(0),
+        _ => return false,
+    }
+    input.kind() == kind && outcome.number() == 15 && answer(&longer).number() == 0
+}
+
+/// What a record that is to be written comes to, also over its limits.
+struct Written {
+    common: usize,
+    /// How many of the common parameters are C5.
+    data: usize,
+    /// The headers and values of the transfer parameters, of all C5 together.
+    transfers: Vec<Transfer>,
+}
+
+impl Written {
+    /// None if the image is no whole record.
+    fn of(image: &[u8]) -> Option<Self> {
+        let (&common, mut rest) = image.split_first()?;
+        let mut written = Written {
+            common: common.into(),
+            data: 0,
+            transfers: Vec::new(),
+        };
+        for _ in 0..common {
+            let (&[header, _, _, _, _, count], behind) = rest.split_first_chunk()?;
+            rest = behind;
+            if header == 0xC5 {
+                written.data += 1;
+                for _ in 0..count {
+                    rest = written.take_transfer(rest)?;
+                }
+            }
+        }
+        rest.is_empty().then_some(written)
+    }
+
+    /// Takes one transfer parameter; gives what stands behind it.
+    fn take_transfer<'i>(&mut self, octets: &'i [u8]) -> Option<&'i [u8]> {
+        let (head, rest) = octets.split_first_chunk::<11>()?;
+        let count = u16::from_le_bytes([head[9], head[10]]);
+        let (values, rest) = rest.split_at_checked(count.into())?;
+        self.transfers.push(Transfer {
+            header: head[0],
+            values: values.to_vec(),
+            ..Transfer::default()
+        });
+        Some(rest)
+    }
+
+    fn contents_len(&self) -> usize {
+        self.transfers.iter().map(Transfer::contents_len).sum()
+    }
+
+    /// The octets of the transfer parameters, laid out.
+    fn data_len(&self) -> usize {
+        let heads = self
+            .transfers
+            .iter()
+            .map(|t| 1 + usize::from(t.header >> 6 == 3));
+        heads.sum::<usize>() + self.contents_len()
+    }
+
+    /// Whether the common parameters, the transfer parameters and their contents
+    /// are within their limits.
+    fn loads(&self) -> [bool; 3] {
+        [
+            self.common <= 6,
+            self.transfers.len() <= 52,
+            self.contents_len() <= 255,
+        ]
+    }
+
+    /// Whether the contents have so many octets, over their limit, and nothing
+    /// else is over its own.
+    fn contents_alone_are(&self, len: usize) -> bool {
+        self.contents_len() == len && self.loads() == [true, true, false]
+    }
+}
+
+/// Whether writing a record that is wanted was answered with this number.
+fn writes(input: &Input, outcome: &Outcome, number: u8, wanted: impl Fn(&Written) -> bool) -> bool {
+    let Input::Write { image, .. } = input else {
+        return false;
+    };
+    outcome.number() == number && Written::of(image).is_some_and(|written| wanted(&written))
+}
+
+/// Whether a parameter holds so many dialled digits.
+fn is_dialled(parameter: &Transfer, count: usize) -> bool {
+    let headers = [0x90, 0x91, 0x95, 0x98, 0xA3];
+    headers.contains(&parameter.header) && parameter.values.len() == count
+}
