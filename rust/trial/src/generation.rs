@@ -2,6 +2,7 @@
 
 use crate::input::{Input, Kind, KINDS};
 use crate::messages::{message, sound_draft, sound_message, Size};
+use crate::outcome::ROW_LEN;
 use crate::parameters::{shuffled_names, sound, spoilt_somehow};
 use crate::records;
 use crate::rng::Rng;
@@ -61,7 +62,7 @@ fn write(rng: &mut Rng) -> Input {
 
 fn rows(rng: &mut Rng) -> Input {
     let message = message(rng);
-    let needed = plain::rows(&message).map_or(0, |rows| 5 * rows.len());
+    let needed = plain::rows(&message).map_or(0, |rows| ROW_LEN * rows.len());
     let table = lent(rng, needed);
     Input::Rows { message, table }
 }

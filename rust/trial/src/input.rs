@@ -53,7 +53,7 @@ pub enum Input {
         /// The lent room.
         room: Vec<u8>,
     },
-    /// List the rows of `message` into `table`, 5 octets each.
+    /// List the rows of `message` into `table`.
     Rows {
         /// The message.
         message: Vec<u8>,

@@ -6,8 +6,12 @@
 //! The same seed and index give the same input on every machine.
 //!
 //! ```
-//! let input = trial::input_at(1, 0);
-//! assert_eq!(trial::answer(&input).memory.len(), input.lent().len());
+//! use trial::{answer, Input};
+//!
+//! let message = vec![0x01, 0x01, 0x06, 0x11, 0xC5, 0x01, 0x08, 0x00];
+//! let outcome = answer(&Input::FindCommon { message, header: 0x01 });
+//! assert_eq!((outcome.number(), outcome.place()), (8, 6));
+//! assert_eq!(trial::input_at(1, 42), trial::input_at(1, 42));
 //! ```
 
 #![forbid(unsafe_code)]

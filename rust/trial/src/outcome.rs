@@ -6,7 +6,7 @@ use std::ops::Range;
 
 /// Octets of a row in a lent table: offset (2, least first), header, contents
 /// length (2, least first).
-const ROW_LEN: usize = 5;
+pub const ROW_LEN: usize = 5;
 
 /// What came of a call.
 #[derive(Clone, Debug, PartialEq, Eq)]

@@ -1,7 +1,10 @@
 //! What the plain codec's answers must have to do with one another, over many
 //! inputs.
 
-use plain::{Record, Transfer};
+use plain::{Record, Refusal, Row, Transfer};
+use std::ops::Range;
+use trial::outcome::ROW_LEN;
+use trial::records::held;
 use trial::{answer, input_at, Input, Outcome};
 
 const SEED: u64 = 4242;
@@ -12,28 +15,36 @@ fn answers_agree() {
     for index in 0..COUNT {
         let input = input_at(SEED, index);
         let outcome = answer(&input);
-        assert_eq!(outcome.memory.len(), input.lent().len());
         if outcome.number() > 0 {
             assert_eq!(outcome.memory, input.lent(), "{input:02X?}");
-            assert_eq!(outcome.value(), 0);
         }
         match &input {
-            Input::Read { message, .. } => read_agrees(message, &outcome),
+            Input::Read { message, .. } => read_agrees(message, &input, &outcome),
             Input::Write { image, .. } => write_agrees(image, &input, &outcome),
             Input::Rows { message, .. } => rows_agree(message, &input, &outcome),
-            Input::FindCommon { message, .. } | Input::FindTransfer { message, .. } => {
-                assert!(outcome.number() == 16 || agrees_with_verdict(message, &outcome));
+            Input::FindCommon { message, header } => {
+                find_agrees(message, &outcome, |row, inside| {
+                    !inside && row.header == *header && *header != 0x00
+                });
             }
-            Input::Class { .. } => assert!(outcome.value() <= 2),
+            Input::FindTransfer { message, name } => {
+                find_agrees(message, &outcome, |row, inside| {
+                    inside && row.header & 0x3F == *name
+                });
+            }
+            // The tests of `plain` count the classes of every header.
+            Input::Class { .. } => {}
             Input::Replace { n, new, .. } => {
                 let header = new.first().copied().unwrap_or(0);
                 edit_agrees(&input, *n, &outcome, |transfers| {
                     let at = position(transfers, header & 0x3F);
-                    transfers[at] = held(new);
+                    transfers[at] = held(new).expect("a sound parameter");
                 });
             }
             Input::Append { n, new, .. } => {
-                edit_agrees(&input, *n, &outcome, |transfers| transfers.push(held(new)));
+                edit_agrees(&input, *n, &outcome, |transfers| {
+                    transfers.push(held(new).expect("a sound parameter"));
+                });
             }
             Input::Remove { n, name, .. } => {
                 edit_agrees(&input, *n, &outcome, |transfers| {
@@ -44,15 +55,57 @@ fn answers_agree() {
     }
 }
 
-fn agrees_with_verdict(message: &[u8], outcome: &Outcome) -> bool {
-    match plain::verdict(message) {
-        Ok(()) => outcome.number() == 0,
-        Err(refusal) => (refusal.number, refusal.place) == (outcome.number(), outcome.place()),
+/// The packed form of a refusal.
+fn refused(refusal: Refusal) -> u64 {
+    u64::from(refusal.number) << 32 | (refusal.place as u64) << 16
+}
+
+/// Finding gives reading's refusal, or the contents of the row that is sought
+/// (a row, and whether it stands inside C5), or 16 without such a row.
+fn find_agrees(message: &[u8], outcome: &Outcome, sought: impl Fn(&Row, bool) -> bool) {
+    let expected = match plain::rows(message) {
+        Err(refusal) => refused(refusal),
+        Ok(rows) => {
+            let data = data_of(&rows);
+            let inside = |row: &Row| data.contains(&row.offset.into());
+            match rows.iter().find(|row| sought(row, inside(row))) {
+                None => refused(Refusal::new(Refusal::ABSENT, 0)),
+                Some(row) => (contents_of(row).start as u64) << 16 | u64::from(row.len),
+            }
+        }
+    };
+    assert_eq!(outcome.packed, expected, "{message:02X?}");
+}
+
+/// Where a row's contents stand.
+fn contents_of(row: &Row) -> Range<usize> {
+    let start = usize::from(row.offset) + 1 + usize::from(row.header >> 6 == 3);
+    start..start + usize::from(row.len)
+}
+
+/// Where the transfer data stands; empty without any.
+fn data_of(rows: &[Row]) -> Range<usize> {
+    let data = rows.iter().find(|row| row.header == 0xC5);
+    data.map_or(0..0, contents_of)
+}
+
+/// The answer is 15 just where the message is accepted and `needed` octets are
+/// more than were lent; otherwise it is the verdict.
+fn agrees_with_verdict(message: &[u8], input: &Input, outcome: &Outcome, needed: usize) {
+    let expected = match plain::verdict(message) {
+        Err(refusal) => Some(refusal),
+        Ok(()) if needed > input.lent().len() => Some(Refusal::new(Refusal::ROOM_SHORT, 0)),
+        Ok(()) => None,
+    };
+    match expected {
+        Some(refusal) => assert_eq!(outcome.packed, refused(refusal), "{message:02X?}"),
+        None => assert_eq!(outcome.number(), 0, "{message:02X?}"),
     }
 }
 
-fn read_agrees(message: &[u8], outcome: &Outcome) {
-    assert!(outcome.number() == 15 || agrees_with_verdict(message, outcome));
+fn read_agrees(message: &[u8], input: &Input, outcome: &Outcome) {
+    let needed = plain::read(message).map_or(0, |record| plain::image(&record).len());
+    agrees_with_verdict(message, input, outcome, needed);
     let Ok(record) = plain::read(message) else {
         return;
     };
@@ -77,24 +130,24 @@ fn write_agrees(image: &[u8], input: &Input, outcome: &Outcome) {
 }
 
 fn rows_agree(message: &[u8], input: &Input, outcome: &Outcome) {
-    assert!(outcome.number() == 15 || agrees_with_verdict(message, outcome));
+    let rows = plain::rows(message).unwrap_or_default();
+    let needed = ROW_LEN * rows.len();
+    agrees_with_verdict(message, input, outcome, needed);
     if outcome.number() > 0 {
         return;
     }
-    let rows = plain::rows(message).expect("an accepted message");
-    let len = 5 * outcome.value();
     assert_eq!(rows.len(), outcome.value());
-    assert_eq!(outcome.memory[len..], input.lent()[len..]);
-    for (row, octets) in rows.iter().zip(outcome.memory.chunks(5)) {
+    assert_eq!(outcome.memory[needed..], input.lent()[needed..]);
+    for (row, octets) in rows.iter().zip(outcome.memory.chunks(ROW_LEN)) {
         assert_eq!(row.offset.to_le_bytes(), octets[..2]);
         assert_eq!(row.header, octets[2]);
         assert_eq!(row.len.to_le_bytes(), octets[3..]);
         assert_eq!(row.header, message[usize::from(row.offset)]);
     }
-    let data = plain::find_common(message, 0xC5).unwrap_or(0..0);
+    let data = data_of(&rows);
     let (mut inside, mut outside) = (0, 0);
     for row in rows {
-        let len = 1 + usize::from(row.header >> 6 == 3) + usize::from(row.len);
+        let len = contents_of(&row).end - usize::from(row.offset);
         match data.contains(&row.offset.into()) {
             true => inside += len,
             false => outside += len,
@@ -107,17 +160,6 @@ fn rows_agree(message: &[u8], input: &Input, outcome: &Outcome) {
 fn position(transfers: &[Transfer], name: u8) -> usize {
     let at = transfers.iter().position(|t| t.header & 0x3F == name);
     at.expect("the name of an accepted edit")
-}
-
-/// How a record holds the transfer parameter in these octets.
-fn held(parameter: &[u8]) -> Transfer {
-    let head = [0x01, 0x01, 0x06, 0x11, 0xC5, parameter.len() as u8];
-    let record = plain::read(&[&head, parameter, &[0x00]].concat());
-    let mut transfers = record.expect("a sound parameter").common.pop();
-    transfers
-        .as_mut()
-        .and_then(|data| data.transfers.pop())
-        .expect("one parameter")
 }
 
 /// An accepted edit leaves the message whose record is edited so, zeros up to
