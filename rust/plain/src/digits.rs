@@ -14,13 +14,13 @@ pub(crate) const HIGHEST: u8 = 11;
 pub(crate) struct Coding {
     /// The code of each digit value: 0 to 9, 10 for `*`, 11 for `#`.
     code: [u8; 12],
-    /// The digit value of each code, or [`SPARE`].
-    digit: [u8; 16],
-    /// For each octet, whether both its halves are digits' codes.
-    pair: [bool; 256],
+    /// For each octet, the digit values of its low half and its high half, or
+    /// [`SPARE`].
+    digits: [[u8; 2]; 256],
 }
 
-/// Stands where a spare code has no digit value.
+/// Stands where a spare code has no digit value: all bits are set, so that one
+/// of it among digit values shows in their union.
 const SPARE: u8 = 0xFF;
 
 /// The coding under PLI 10: zero is 10, and code 0 is spare.
@@ -37,13 +37,18 @@ impl Coding {
             digit[code[value] as usize] = value as u8;
             value += 1;
         }
-        let mut pair = [false; 256];
+        let mut digits = [[SPARE; 2]; 256];
         let mut octet = 0;
-        while octet < pair.len() {
-            pair[octet] = digit[octet & 0x0F] != SPARE && digit[octet >> 4] != SPARE;
+        while octet < digits.len() {
+            digits[octet] = [digit[octet & 0x0F], digit[octet >> 4]];
             octet += 1;
         }
-        Coding { code, digit, pair }
+        Coding { code, digits }
+    }
+
+    /// The digit values of an octet's low half and its high half.
+    fn pair(&self, octet: u8) -> [u8; 2] {
+        self.digits[usize::from(octet)]
     }
 
     /// Whether `octets` hold digits only, the last high half being 0 where the
@@ -53,29 +58,28 @@ impl Coding {
             Some((&last, pairs)) if odd => (pairs, Some(last)),
             _ => (octets, None),
         };
-        pairs
-            .iter()
-            .fold(true, |all, &octet| all & self.pair[usize::from(octet)])
-            && last.is_none_or(|octet| octet < 0x10 && self.lists(octet))
+        let union = pairs.iter().fold(0, |union, &octet| {
+            let [low, high] = self.pair(octet);
+            union | low | high
+        });
+        union != SPARE && last.is_none_or(|octet| octet < 0x10 && self.lists(octet))
     }
 
     fn lists(&self, code: u8) -> bool {
-        self.digit[usize::from(code)] != SPARE
+        self.pair(code)[0] != SPARE
     }
 
     /// Appends the `count` digits of accepted `octets`, which are as many as
     /// they take, to `values`.
     pub(crate) fn decode(&self, octets: &[u8], count: usize, values: &mut Vec<u8>) {
-        let digit = |code: u8| self.digit[usize::from(code & 0x0F)];
         let start = values.len();
         values.resize(start + count, 0);
         let mut pairs = values[start..].chunks_exact_mut(2);
         for (pair, &octet) in pairs.by_ref().zip(octets) {
-            pair[0] = digit(octet);
-            pair[1] = digit(octet >> 4);
+            pair.copy_from_slice(&self.pair(octet));
         }
         if let ([last], Some(&octet)) = (pairs.into_remainder(), octets.last()) {
-            *last = digit(octet);
+            *last = self.pair(octet)[0];
         }
     }
 

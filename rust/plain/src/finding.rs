@@ -60,35 +60,3 @@ pub fn find_transfer(message: &[u8], name: u8) -> Result<Range<usize>, Refusal> 
     walk(message, &mut sought)?;
     sought.found.ok_or(Refusal::placeless(Refusal::ABSENT))
 }
-
-#[cfg(test)]
-mod tests {
-    use super::*;
-
-    const M: [u8; 23] = [
-        0x01, 0x01, 0x83, 0x39, 0x30, 0x00, 0x04, 0x01, 0x06, 0x11, 0xC5, 0x0A, 0x90, 0x04, 0x21,
-        0x3A, 0x52, 0x81, 0x98, 0x03, 0x21, 0x0A, 0x00,
-    ];
-    const ABSENT: Refusal = Refusal::new(16, 0);
-
-    #[test]
-    fn common_contents() {
-        assert_eq!(find_common(&M, 0x01), Ok(1..2));
-        assert_eq!(find_common(&M, 0x83), Ok(3..6));
-        assert_eq!(find_common(&M, 0xC5), Ok(12..22));
-        for header in [0x00, 0x82, 0x90, 0x05] {
-            assert_eq!(find_common(&M, header), Err(ABSENT));
-        }
-        assert_eq!(find_common(&M[..22], 0x01), Err(Refusal::new(4, 22)));
-    }
-
-    #[test]
-    fn transfer_contents() {
-        assert_eq!(find_transfer(&M, 0x10), Ok(13..16));
-        assert_eq!(find_transfer(&M, 0x12), Ok(17..18));
-        for name in [0x00, 0x07, 0x0C, 0x50, 0x90] {
-            assert_eq!(find_transfer(&M, name), Err(ABSENT));
-        }
-        assert_eq!(find_transfer(&[1, 1, 6, 0x11, 0], 0x10), Err(ABSENT));
-    }
-}

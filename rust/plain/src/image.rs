@@ -158,6 +158,7 @@ fn parse_transfer(rest: &mut Rest<'_>) -> Option<Transfer> {
         ..Transfer::default()
     };
     parameter.set_fields(fields);
+    // Only those that it has stay.
     parameter.set_fields(parameter.fields());
     Some(parameter)
 }

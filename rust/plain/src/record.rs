@@ -49,8 +49,8 @@ pub struct Transfer {
     /// The screening of D7, DC and DA with 06: 0 to 3.
     pub screening: u8,
     /// Digits, first digit first (0 to 9, 10 for `*`, 11 for `#`), under PLI
-    /// 10, D7 and DC; for DA with 06 that octet, then digits; otherwise the
-    /// contents.
+    /// 10 but for the five names without layout, and for D7 and DC; for DA with
+    /// 06 that octet, then digits; otherwise the contents.
     pub values: Vec<u8>,
 }
 

@@ -3,7 +3,7 @@
 mod support;
 
 use plain::{Common, Record, Refusal, Transfer};
-use support::{m, octets};
+use support::{octets, M};
 
 /// Reads K and what follows it.
 fn after_k(rest: &str) -> Result<Record, Refusal> {
@@ -55,7 +55,7 @@ fn case_1() {
         common(0x06, 0x11),
         data,
     ];
-    assert_eq!(both(&m()), Ok(Record { common }));
+    assert_eq!(both(&M), Ok(Record { common }));
 }
 
 #[test]
@@ -113,9 +113,9 @@ fn case_14() {
 
 #[test]
 fn case_15() {
-    let mut buffer = m();
+    let mut buffer = M;
     assert_eq!(plain::replace(&mut buffer, 23, &octets("98 02 21")), Ok(22));
     let edited = "01 01 83 39 30 00 04 01 06 11 C5 09 90 04 21 3A 52 81 98 02 21 00 00";
-    assert_eq!(buffer, octets(edited));
+    assert_eq!(buffer[..], octets(edited));
     assert_eq!((buffer[11], buffer[21], buffer[22]), (9, 0, 0));
 }

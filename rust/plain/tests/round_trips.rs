@@ -3,7 +3,7 @@
 mod support;
 
 use plain::{Common, Record, Refusal, Transfer};
-use support::{m, octets, vectors};
+use support::{octets, vectors, M};
 
 /// The messages of the vectors and the bench table that reading accepts.
 fn accepted() -> Vec<Vec<u8>> {
@@ -12,7 +12,7 @@ fn accepted() -> Vec<Vec<u8>> {
         .map(|line| octets(&line[0]))
         .filter(|message| plain::verdict(message).is_ok())
         .collect();
-    messages.push(m());
+    messages.push(M.to_vec());
     assert!(messages.len() > 40);
     messages
 }

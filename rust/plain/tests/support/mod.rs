@@ -16,18 +16,18 @@ pub fn octets(hex: &str) -> Vec<u8> {
         .collect()
 }
 
-/// The fields of each line of a vector file.
+/// The fields of each line of a vector file, which has some.
 pub fn vectors(file: &str) -> Vec<Vec<String>> {
     let path = format!("{}/../../tests/vectors/{file}", env!("CARGO_MANIFEST_DIR"));
     let text = std::fs::read_to_string(&path).expect("the vector file");
-    text.lines()
+    let fields = |line: &str| line.split('|').map(|f| f.trim().to_owned()).collect();
+    let lines: Vec<Vec<String>> = text
+        .lines()
         .filter(|line| !line.is_empty() && !line.starts_with('#'))
-        .map(|line| {
-            line.split('|')
-                .map(|field| field.trim().to_owned())
-                .collect()
-        })
-        .collect()
+        .map(fields)
+        .collect();
+    assert!(!lines.is_empty(), "{path} has no lines");
+    lines
 }
 
 /// What a vector expects.
@@ -59,6 +59,7 @@ pub fn expected(field: &str) -> Expected {
 }
 
 /// The message M of the bench table.
-pub fn m() -> Vec<u8> {
-    octets("01 01 83 39 30 00 04 01 06 11 C5 0A 90 04 21 3A 52 81 98 03 21 0A 00")
-}
+pub const M: [u8; 23] = [
+    0x01, 0x01, 0x83, 0x39, 0x30, 0x00, 0x04, 0x01, 0x06, 0x11, 0xC5, 0x0A, 0x90, 0x04, 0x21, 0x3A,
+    0x52, 0x81, 0x98, 0x03, 0x21, 0x0A, 0x00,
+];
