@@ -62,11 +62,11 @@ pub struct Row {
 /// What a code value is.
 #[derive(Clone, Copy, Debug, PartialEq, Eq, Hash)]
 pub enum Class {
-    /// It has a meaning.
+    /// Named.
     Named,
-    /// It is kept for a use of its own.
+    /// Held back.
     HeldBack,
-    /// It has no meaning.
+    /// Spare: all else.
     Spare,
 }
 

@@ -3,18 +3,8 @@
 //! A record can hold more than a message can: any header, any number. Writing
 //! refuses what is out of range.
 
-/// Header of the user class.
-pub const USER_CLASS: u8 = 0x01;
-/// Header of the partner's call number.
-pub const PARTNERS_CALL: u8 = 0x82;
-/// Header of the own call number.
-pub const OWN_CALL: u8 = 0x83;
-/// Header of the sequence octet.
-pub const SEQUENCE: u8 = 0x04;
-/// Header of the signal kind.
-pub const SIGNAL_KIND: u8 = 0x06;
 /// Header of the transfer data.
-pub const TRANSFER_DATA: u8 = 0xC5;
+pub(crate) const TRANSFER_DATA: u8 = 0xC5;
 
 /// A message's common parameters in their order, without the end mark.
 #[derive(Clone, Debug, Default, PartialEq, Eq, Hash)]
@@ -63,7 +53,8 @@ pub struct Transfer {
     pub screening: u8,
     /// Digits under PLI 10, D7 and DC, the first digit first: 0 to 9, 10 for
     /// `*`, 11 for `#`. For DA with 06, that octet and then digits. For all
-    /// others, and for the names without layout, the contents.
+    /// others, and for the names without layout (07, 24, 30, 31, 3B), the
+    /// contents.
     pub values: Vec<u8>,
 }
 
@@ -76,8 +67,9 @@ impl Record {
     /// The first transfer parameter with this name (the lower six bits of its
     /// header), if there is one.
     pub fn transfer(&self, name: u8) -> Option<&Transfer> {
-        let data = self.common(TRANSFER_DATA)?;
-        data.transfers.iter().find(|t| t.header & 0x3F == name)
+        let data = self.common.iter().filter(|c| c.header == TRANSFER_DATA);
+        data.flat_map(|c| &c.transfers)
+            .find(|t| t.header & 0x3F == name)
     }
 }
 
@@ -138,5 +130,19 @@ impl Transfer {
             self.presentation,
             self.screening,
         ] = fields;
+    }
+}
+
+#[cfg(test)]
+mod tests {
+    use super::*;
+
+    #[test]
+    fn a_transfer_parameter_is_sought_in_every_c5() {
+        let data = |header| Common::transfer_data(vec![Transfer::new(header, [])]);
+        let common = vec![Common::new(0x01, 1), data(0x90), data(0x98)];
+        let record = Record { common };
+        assert_eq!(record.transfer(0x18), Some(&Transfer::new(0x98, [])));
+        assert_eq!(record.transfer(0x17), None);
     }
 }

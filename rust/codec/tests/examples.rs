@@ -4,7 +4,8 @@ use std::env;
 use std::path::PathBuf;
 use std::process::Command;
 
-/// An example that cargo has built beside this test.
+/// An example that cargo has built beside this test: a full `cargo test` builds
+/// the examples first, `cargo test --test examples` does not.
 fn example(name: &str) -> PathBuf {
     let test = env::current_exe().expect("this test's own path");
     let folder = test.ancestors().nth(2).expect("the folder of the build");
