@@ -77,41 +77,65 @@ static inline size_t tk_value_of(uint64_t answer) { return (size_t)(answer & 0xF
  *         1  presentation
  *         1  screening
  *         2  count of values
- *         .. values: the digits of what is held as digits, 0 to 9, 10 for *, 11 for # (DA: 06 before them), else the contents
+ *         .. values: digits or the contents
+ *
+ * Values are digits, the first digit first, 0 to 9, 10 for *, 11 for #, under PLI 10 (the upper two bits of the header) but for the
+ * names 07, 24, 30, 31 and 3B (the lower six bits), and under D7 and DC. Under DA with 06 they are 06, then digits. All other values
+ * are the contents: the octets after the header, and after the length octet under PLI 11.
  *
  * What a parameter does not have is 0 in an image that is handed out, and is not looked at in one that is handed in.
  */
 
-/* The record of a message. Value: the length of its image, at the front of `image`; the octets behind it stay. */
+/*
+ * A message is read from left to right. "Reading's" refusals are 1 at 0; for each common parameter 2, 3, 4, 5 at its header, and for
+ * each transfer parameter of C5 8 to 13 at its own; 4 at the message's length if there is no end mark; 6 at the end mark; 7 at the
+ * octet behind it. The first that applies is the answer, here and below.
+ */
+
+/* The record of a message. Value: the length of its image, at the front of `image`; the octets behind it stay.
+ * Refused: reading's; 15 at 0 if `image` is too short. */
 uint64_t tk_read(const uint8_t *message, size_t message_len, uint8_t *image, size_t image_len);
 
 /* The message of a record. Value: the message's length; it stands at the front of `room`, and the octets behind it stay.
- * An image that ends too early or too late is TK_OVER_LIMITS. */
+ * Refused: 1 at 0, also for an image that ends too early or too late; where the headers would stand, 2, 3, 5, 12 (call number or
+ * sequence octet too large) and 8 to 13; 14 at C5 after its last parameter; 6 where the end mark would stand; 15 at 0 if `room` is too
+ * short. */
 uint64_t tk_write(const uint8_t *image, size_t image_len, uint8_t *room, size_t room_len);
 
 /* A row for each parameter, in the order of the message, the end mark last. Value: the count of rows, at the front of `table`;
- * the octets behind them stay. A row is the header's offset (2, least first), the header, the length of the contents (2, least first). */
+ * the octets behind them stay. A row is the header's offset (2, least first), the header, the length of the contents (2, least first).
+ * Refused: reading's; 15 at 0 if `table` is too short. */
 uint64_t tk_rows(const uint8_t *message, size_t message_len, uint8_t *table, size_t table_len);
 
-/* The contents of a common parameter. Place: their offset in `message`. Value: their length. */
+/* The contents of a common parameter; those of C5 are the whole transfer data. Place: their offset in `message`. Value: their length.
+ * Refused: reading's; 16 at 0 if there is no such parameter, and for 00. */
 uint64_t tk_find_common(const uint8_t *message, size_t message_len, uint8_t header);
 
-/* The contents of a transfer parameter by its name, the lower six bits of its header. Place and value as above. */
+/* The contents of a transfer parameter by its name, the lower six bits of its header. Place and value as above.
+ * Refused: reading's; 16 at 0 if there is no such parameter, and for a name over 63. */
 uint64_t tk_find_transfer(const uint8_t *message, size_t message_len, uint8_t name);
 
-/* The class of an octet under a transfer header. Value: a tk_class_value. */
+/* The class of an octet under a transfer header; under D7 and DC bit 7 is not looked at. Value: a tk_class_value.
+ * Refused: 17 at 0; 12 at 0 if a bit is set that must be 0. */
 uint64_t tk_class(uint8_t header, uint8_t octet);
 
-/* Edits of the message in the first `n` octets of `buffer`. Value: the message's new length. Octets between the new end and a
- * later old one become 0; those behind both stay. `new_octets` is a whole transfer parameter, header first. */
+/*
+ * Edits of the message in the first `n` octets of `buffer`. Value: the message's new length. Octets between the new end and a later
+ * old one become 0; those behind both stay. `new_octets` is a whole transfer parameter, header first. An `n` beyond the buffer is
+ * TK_NO_ROOM, 15 at 0, before all else; then come reading's refusals with their places; all that come after reading are at 0.
+ */
 
-/* Puts the new parameter in the place of the one with its name. */
+/* Puts the new parameter in the place of the one with its name.
+ * Refused: 15 (n); reading's; then at 0: 16 (no transfer data), 11 (no new octets), 8, 9, 16 (name absent), 11 (new octets too few
+ * or left over), 12, 13, 14, 15 (`buffer` too short). */
 uint64_t tk_replace(uint8_t *buffer, size_t buffer_len, size_t n, const uint8_t *new_octets, size_t new_len);
 
-/* Puts the new parameter behind the last one of the transfer data. */
+/* Puts the new parameter behind the last one of the transfer data.
+ * Refused: as tk_replace, but 10 (name present) where that has 16 (name absent). */
 uint64_t tk_append(uint8_t *buffer, size_t buffer_len, size_t n, const uint8_t *new_octets, size_t new_len);
 
-/* Takes the parameter of this name out. */
+/* Takes the parameter of this name out.
+ * Refused: 15 (n); reading's; then at 0: 16 (no transfer data; name absent, or over 63). */
 uint64_t tk_remove(uint8_t *buffer, size_t buffer_len, size_t n, uint8_t name);
 
 #ifdef __cplusplus

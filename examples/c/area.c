@@ -1,4 +1,4 @@
-/* Reads a message, tells the calling area, puts another number of dialled digits in, and meets a refusal. */
+/* Reads a message, tells the calling area, replaces the dialled digits, and meets a refusal. */
 #include <stdio.h>
 
 #include "tsurakemobu.h"
@@ -47,6 +47,7 @@ int main(void) {
     print_octets("message", message, len);
 
     answer = tk_find_transfer(message, len, DIALLED);
+    if (tk_number_of(answer) != TK_ACCEPTED) return 1;
     print_octets("dialled", message + tk_place_of(answer), tk_value_of(answer));
 
     answer = tk_remove(message, sizeof message, len, 0x17);
