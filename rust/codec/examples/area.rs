@@ -1,5 +1,5 @@
-//! Reads a message, tells the calling area, puts another number of dialled
-//! digits in, and meets a refusal.
+//! Reads a message, tells the calling area, replaces the dialled digits, and
+//! meets a refusal.
 
 use codec::Refusal;
 
@@ -31,10 +31,8 @@ fn main() -> Result<(), Refusal> {
     let mut buffer = MESSAGE;
     let len = codec::replace(&mut buffer, MESSAGE.len(), &[0x98, 0x02, 0x21])?;
     println!("message {:02X?}", &buffer[..len]);
-    println!(
-        "dialled {:02X?}",
-        codec::find_transfer(&buffer[..len], DIALLED)?
-    );
+    let dialled = codec::find_transfer(&buffer[..len], DIALLED)?;
+    println!("dialled {dialled:02X?}");
 
     match codec::remove(&mut buffer, len, 0x17) {
         Ok(len) => println!("removed, {len} octets are left"),
