@@ -18,39 +18,43 @@ fn answers_agree() {
         if outcome.number() > 0 {
             assert_eq!(outcome.memory, input.lent(), "{input:02X?}");
         }
-        match &input {
-            Input::Read { message, .. } => read_agrees(message, &input, &outcome),
-            Input::Write { image, .. } => write_agrees(image, &input, &outcome),
-            Input::Rows { message, .. } => rows_agree(message, &input, &outcome),
-            Input::FindCommon { message, header } => {
-                find_agrees(message, &outcome, |row, inside| {
-                    !inside && row.header == *header && *header != 0x00
-                });
-            }
-            Input::FindTransfer { message, name } => {
-                find_agrees(message, &outcome, |row, inside| {
-                    inside && row.header & 0x3F == *name
-                });
-            }
-            // The tests of `plain` count the classes of every header.
-            Input::Class { .. } => {}
-            Input::Replace { n, new, .. } => {
-                let header = new.first().copied().unwrap_or(0);
-                edit_agrees(&input, *n, &outcome, |transfers| {
-                    let at = position(transfers, header & 0x3F);
-                    transfers[at] = held(new).expect("a sound parameter");
-                });
-            }
-            Input::Append { n, new, .. } => {
-                edit_agrees(&input, *n, &outcome, |transfers| {
-                    transfers.push(held(new).expect("a sound parameter"));
-                });
-            }
-            Input::Remove { n, name, .. } => {
-                edit_agrees(&input, *n, &outcome, |transfers| {
-                    transfers.remove(position(transfers, *name));
-                });
-            }
+        agrees(&input, &outcome);
+    }
+}
+
+fn agrees(input: &Input, outcome: &Outcome) {
+    match input {
+        Input::Read { message, .. } => read_agrees(message, input, outcome),
+        Input::Write { image, .. } => write_agrees(image, input, outcome),
+        Input::Rows { message, .. } => rows_agree(message, input, outcome),
+        Input::FindCommon { message, header } => {
+            find_agrees(message, outcome, |row, inside| {
+                !inside && row.header == *header && *header != 0x00
+            });
+        }
+        Input::FindTransfer { message, name } => {
+            find_agrees(message, outcome, |row, inside| {
+                inside && row.header & 0x3F == *name
+            });
+        }
+        // The tests of `plain` count the classes of every header.
+        Input::Class { .. } => {}
+        Input::Replace { n, new, .. } => {
+            let header = new.first().copied().unwrap_or(0);
+            edit_agrees(input, *n, outcome, |transfers| {
+                let at = position(transfers, header & 0x3F);
+                transfers[at] = held(new).expect("a sound parameter");
+            });
+        }
+        Input::Append { n, new, .. } => {
+            edit_agrees(input, *n, outcome, |transfers| {
+                transfers.push(held(new).expect("a sound parameter"));
+            });
+        }
+        Input::Remove { n, name, .. } => {
+            edit_agrees(input, *n, outcome, |transfers| {
+                transfers.remove(position(transfers, *name));
+            });
         }
     }
 }
