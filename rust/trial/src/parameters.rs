@@ -273,7 +273,7 @@ fn bad_form(rng: &mut Rng) -> Vec<u8> {
     }
 }
 
-/// Whether contents of the right length can be of a bad form.
+/// Whether contents of a length that the PLI rule gives can be of a bad form.
 fn has_form(layout: Layout) -> bool {
     match layout {
         Layout::Octet { zero } | Layout::Digits { zero } => zero != 0,

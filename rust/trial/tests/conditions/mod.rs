@@ -26,7 +26,7 @@ pub const CONDITIONS: &[Condition] = &[
     }),
     ("53 transfer parameters", |i, o| {
         writes(i, o, 1, |w| {
-            w.loads() == [true, false, true] && w.transfers.len() == 53
+            w.within() == [true, false, true] && w.transfers.len() == 53
         })
     }),
     ("6 common parameters", |i, o| {
@@ -34,7 +34,7 @@ pub const CONDITIONS: &[Condition] = &[
     }),
     ("7 common parameters", |i, o| {
         writes(i, o, 1, |w| {
-            w.loads() == [false, true, true] && w.common == 7
+            w.within() == [false, true, true] && w.common == 7
         })
     }),
     ("contents of 255 in one C5", |i, o| {
@@ -52,11 +52,9 @@ pub const CONDITIONS: &[Condition] = &[
     ("63 digits read", |i, o| {
         holds(i, o, 0x18, |c| c[0] & 0x3F == 63)
     }),
-    ("63 digits written", |i, o| {
-        writes(i, o, 0, |w| w.transfers.iter().any(|t| is_dialled(t, 63)))
-    }),
+    ("63 digits written", |i, o| writes(i, o, 0, |w| w.dials(63))),
     ("64 digits written", |i, o| {
-        writes(i, o, 11, |w| w.transfers.iter().any(|t| is_dialled(t, 64)))
+        writes(i, o, 11, |w| w.dials(64))
     }),
     ("odd count of dialled digits", |i, o| {
         holds(i, o, 0x18, |c| c[0] & 1 == 1)
@@ -85,12 +83,7 @@ pub const CONDITIONS: &[Condition] = &[
         refuses(i, o, 12, |p| withheld_wrong_bits(p) == Some(1))
     }),
     ("DC withheld with digits", |i, o| {
-        refuses(
-            i,
-            o,
-            12,
-            |p| matches!(p, [0xDC, _, 0, second, _, ..] if second & 0xFC == 0x08),
-        )
+        refuses(i, o, 12, |p| withheld_wrong_bits(p) == Some(0))
     }),
     ("more than 50 rows", |i, o| {
         matches!(i, Input::Rows { .. }) && o.number() == 0 && o.value() > 50
@@ -159,14 +152,16 @@ fn mends(input: &Input, outcome: &Outcome, parameter: &[u8], bits: u8) -> bool {
     })
 }
 
-/// How many bits are set that must be 0 in a DC without digits that is withheld.
+/// How many bits are set that must be 0 in the first two octets of a DC that is
+/// withheld. If there is none, digits are what is wrong about it; if there are
+/// some, it is looked at without digits only.
 fn withheld_wrong_bits(parameter: &[u8]) -> Option<u32> {
-    match parameter {
-        [0xDC, 2, first, second] if second & 0x0C == 0x08 => {
-            Some(first.count_ones() + (second & 0xF0).count_ones())
-        }
-        _ => None,
-    }
+    let [0xDC, _, first, second, digits @ ..] = parameter else {
+        return None;
+    };
+    let bits = first.count_ones() + (second & 0xF0).count_ones();
+    let withheld = second & 0x0C == 0x08;
+    (withheld && (bits == 0 || digits.is_empty())).then_some(bits)
 }
 
 /// The length of the transfer data of an accepted message.
@@ -255,6 +250,16 @@ impl Written {
         Some(rest)
     }
 
+    /// Whether a parameter has so many dialled digits.
+    fn dials(&self, count: usize) -> bool {
+        let headers = [0x90, 0x91, 0x95, 0x98, 0xA3];
+        let mut dialled = self
+            .transfers
+            .iter()
+            .filter(|t| headers.contains(&t.header));
+        dialled.any(|t| t.values.len() == count)
+    }
+
     fn contents_len(&self) -> usize {
         self.transfers.iter().map(Transfer::contents_len).sum()
     }
@@ -270,7 +275,7 @@ impl Written {
 
     /// Whether the common parameters, the transfer parameters and their contents
     /// are within their limits.
-    fn loads(&self) -> [bool; 3] {
+    fn within(&self) -> [bool; 3] {
         [
             self.common <= 6,
             self.transfers.len() <= 52,
@@ -281,7 +286,7 @@ impl Written {
     /// Whether the contents have so many octets, over their limit, and nothing
     /// else is over its own.
     fn contents_alone_are(&self, len: usize) -> bool {
-        self.contents_len() == len && self.loads() == [true, true, false]
+        self.contents_len() == len && self.within() == [true, true, false]
     }
 }
 
@@ -291,10 +296,4 @@ fn writes(input: &Input, outcome: &Outcome, number: u8, wanted: impl Fn(&Written
         return false;
     };
     outcome.number() == number && Written::of(image).is_some_and(|written| wanted(&written))
-}
-
-/// Whether a parameter holds so many dialled digits.
-fn is_dialled(parameter: &Transfer, count: usize) -> bool {
-    let headers = [0x90, 0x91, 0x95, 0x98, 0xA3];
-    headers.contains(&parameter.header) && parameter.values.len() == count
 }
