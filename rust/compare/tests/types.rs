@@ -10,7 +10,7 @@ fn refusal(refusal: plain::Refusal) -> Refusal {
     Refusal::new(refusal.number, refusal.place)
 }
 
-fn transfer(transfer: plain::Transfer) -> Transfer {
+fn transfer(transfer: &plain::Transfer, values: &[u8]) -> Transfer {
     Transfer {
         header: transfer.header,
         notification: transfer.notification,
@@ -21,21 +21,20 @@ fn transfer(transfer: plain::Transfer) -> Transfer {
         plan: transfer.plan,
         presentation: transfer.presentation,
         screening: transfer.screening,
-        values: transfer.values,
+        values: values.to_vec(),
     }
 }
 
-fn common(common: plain::Common) -> Common {
-    Common {
+fn record(record: &plain::Record) -> Record {
+    let transfer = |t: &plain::Transfer| transfer(t, record.values_of(t));
+    let common = |common: &plain::Common| Common {
         header: common.header,
         value: common.value,
-        transfers: common.transfers.into_iter().map(transfer).collect(),
+        transfers: common.transfers.iter().map(transfer).collect(),
+    };
+    Record {
+        common: record.common.iter().map(common).collect(),
     }
-}
-
-fn record(record: plain::Record) -> Record {
-    let common = record.common.into_iter().map(common).collect();
-    Record { common }
 }
 
 fn row(row: plain::Row) -> Row {
@@ -106,14 +105,15 @@ fn reading_agrees(message: &[u8]) -> bool {
         Ok(record) => codec::write_to_vec(record).as_deref() == Ok(message),
         Err(_) => true,
     };
-    returns && read == plain::read(message).map(record).map_err(refusal)
+    let theirs = plain::read(message).map(|read| record(&read));
+    returns && read == theirs.map_err(refusal)
 }
 
 fn writing_agrees(image: &[u8], room: &[u8]) -> bool {
     let Ok(held) = plain::from_image(image) else {
         return true;
     };
-    let ours = record(held.clone());
+    let ours = record(&held);
     same_lent(
         room,
         |room| codec::write(&ours, room),

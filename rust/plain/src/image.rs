@@ -8,7 +8,7 @@
 use crate::common::{COMMON_LIMIT, TRANSFER_DATA};
 use crate::record::{Common, Record, Transfer};
 use crate::refusal::Refusal;
-use crate::transfer::NAME_COUNT;
+use crate::transfer::{Held, NAME_COUNT};
 
 /// Octets of a common parameter in an image, without its transfer parameters.
 const COMMON_LEN: usize = 6;
@@ -25,7 +25,7 @@ pub fn image(record: &Record) -> Vec<u8> {
     let mut octets = Vec::with_capacity(image_len(common));
     octets.push(common.len() as u8);
     for parameter in common {
-        put_common(parameter, &mut octets);
+        put_common(record, parameter, &mut octets);
     }
     octets
 }
@@ -52,7 +52,7 @@ fn image_len(common: &[Common]) -> usize {
             .sum::<usize>()
 }
 
-fn put_common(parameter: &Common, octets: &mut Vec<u8>) {
+fn put_common(record: &Record, parameter: &Common, octets: &mut Vec<u8>) {
     let value = match parameter.header {
         TRANSFER_DATA => 0,
         _ => parameter.value,
@@ -62,14 +62,14 @@ fn put_common(parameter: &Common, octets: &mut Vec<u8>) {
     octets.extend_from_slice(&value.to_le_bytes());
     octets.push(transfers.len() as u8);
     for transfer in transfers {
-        put_transfer(transfer, octets);
+        put_transfer(record, transfer, octets);
     }
 }
 
-fn put_transfer(parameter: &Transfer, octets: &mut Vec<u8>) {
-    let values = up_to(&parameter.values, u16::MAX.into());
+fn put_transfer(record: &Record, parameter: &Transfer, octets: &mut Vec<u8>) {
+    let values = up_to(record.values_of(parameter), u16::MAX.into());
     octets.push(parameter.header);
-    octets.extend_from_slice(&parameter.fields());
+    octets.extend_from_slice(&parameter.fields(record.held(parameter)));
     octets.extend_from_slice(&(values.len() as u16).to_le_bytes());
     octets.extend_from_slice(values);
 }
@@ -114,53 +114,52 @@ fn parse(image: &[u8]) -> Option<Record> {
     if count > COMMON_LIMIT {
         return None;
     }
-    let mut common = Vec::with_capacity(count);
+    let mut record = Record {
+        common: Vec::with_capacity(count),
+        values: Vec::with_capacity(image.len()),
+    };
     for _ in 0..count {
-        common.push(parse_common(&mut rest)?);
+        parse_common(&mut rest, &mut record)?;
     }
-    rest.0.is_empty().then_some(Record { common })
+    rest.0.is_empty().then_some(record)
 }
 
-fn parse_common(rest: &mut Rest<'_>) -> Option<Common> {
+fn parse_common(rest: &mut Rest<'_>, record: &mut Record) -> Option<()> {
     let header = rest.octet()?;
     let value = u32::from_le_bytes(rest.array()?);
     let count = usize::from(rest.octet()?);
     if header != TRANSFER_DATA {
-        let transfers = Vec::new();
-        return Some(Common {
-            header,
-            value,
-            transfers,
-        });
+        record.push_common(header, value);
+        return Some(());
     }
     if count > NAME_COUNT {
         return None;
     }
-    let mut transfers = Vec::with_capacity(count);
-    for _ in 0..count {
-        transfers.push(parse_transfer(rest)?);
-    }
-    Some(Common {
+    record.common.push(Common {
         header,
         value: 0,
-        transfers,
-    })
+        transfers: Vec::with_capacity(count),
+    });
+    for _ in 0..count {
+        parse_transfer(rest, record)?;
+    }
+    Some(())
 }
 
-fn parse_transfer(rest: &mut Rest<'_>) -> Option<Transfer> {
+fn parse_transfer(rest: &mut Rest<'_>, record: &mut Record) -> Option<()> {
     let header = rest.octet()?;
     let fields = rest.array()?;
     let count = u16::from_le_bytes(rest.array()?);
-    let values = rest.octets(count.into())?.to_vec();
+    let values = rest.octets(count.into())?;
     let mut parameter = Transfer {
         header,
-        values,
         ..Transfer::default()
     };
     parameter.set_fields(fields);
     // Only those that it has stay.
-    parameter.set_fields(parameter.fields());
-    Some(parameter)
+    parameter.set_fields(parameter.fields(Held::of(header, values)));
+    record.push_transfer(parameter, values);
+    Some(())
 }
 
 #[cfg(test)]
@@ -201,6 +200,7 @@ mod tests {
         };
         let mut record = Record {
             common: vec![parameter; 6],
+            ..Record::default()
         };
         assert!(from_image(&image(&record)).is_ok());
         record.common.resize(300, record.common[0].clone());

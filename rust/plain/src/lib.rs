@@ -13,7 +13,8 @@
 //! ```
 //! let message = [0x01, 0x01, 0x06, 0x11, 0xC5, 0x03, 0x98, 0x02, 0x21, 0x00];
 //! let record = plain::read(&message).unwrap();
-//! assert_eq!(record.common[2].transfers[0].values, [1, 2]);
+//! let dialled = &record.common[2].transfers[0];
+//! assert_eq!(record.values_of(dialled), [1, 2]);
 //!
 //! let mut room = [0; 16];
 //! assert_eq!(plain::write(&record, &mut room), Ok(10));

@@ -33,8 +33,9 @@ pub(crate) fn check_calling(octets: &[u8]) -> Result<(), u8> {
     }
 }
 
-/// Takes the fields and digits of a checked number into `parameter`.
-pub(crate) fn take(octets: &[u8], parameter: &mut Transfer) {
+/// Takes the fields of a checked number into `parameter`, and appends its
+/// digits to `values`.
+pub(crate) fn take(octets: &[u8], parameter: &mut Transfer, values: &mut Vec<u8>) {
     let (first, second, digits) = (octets[0], octets[1], &octets[2..]);
     parameter.number_type = first & 0x7F;
     parameter.incomplete = second >> 7;
@@ -42,8 +43,7 @@ pub(crate) fn take(octets: &[u8], parameter: &mut Transfer) {
     parameter.presentation = second >> 2 & 0x03;
     parameter.screening = second & 0x03;
     let count = 2 * digits.len() - usize::from(first & ODD != 0);
-    parameter.values.reserve_exact(count);
-    NUMBER.decode(digits, count, &mut parameter.values);
+    NUMBER.decode(digits, count, values);
 }
 
 /// Whether the fields of `parameter` fit their bits.
@@ -55,14 +55,14 @@ pub(crate) fn fits(parameter: &Transfer) -> bool {
         && parameter.screening <= 3
 }
 
-/// Whether DC may hold what it holds: with presentation 2 its type, incomplete
-/// mark and plan are 0, and there are no digits.
-pub(crate) fn calling_formed(parameter: &Transfer) -> bool {
+/// Whether DC may hold these digits and what else it holds: with presentation 2
+/// its type, incomplete mark and plan are 0, and there are no digits.
+pub(crate) fn calling_formed(parameter: &Transfer, digits: &[u8]) -> bool {
     parameter.presentation != WITHHELD
         || (parameter.number_type == 0
             && parameter.incomplete == 0
             && parameter.plan == 0
-            && parameter.values.is_empty())
+            && digits.is_empty())
 }
 
 /// Lays the fields of `parameter` and `digits`, all of them checked, into the

@@ -153,9 +153,9 @@ impl Visitor for Record {
     }
 
     fn transfer(&mut self, parameter: Parameter<'_>) {
-        if let Some(data) = self.common.last_mut() {
-            data.transfers.push(hold_transfer(parameter));
-        }
+        let start = self.values.len();
+        let held = hold_transfer(parameter, &mut self.values);
+        self.enter(held, start);
     }
 }
 
@@ -165,6 +165,7 @@ impl Visitor for Record {
 pub fn read(message: &[u8]) -> Result<Record, Refusal> {
     let mut record = Record {
         common: Vec::with_capacity(common::COMMON_LIMIT),
+        values: Vec::with_capacity(2 * message.len()),
     };
     walk(message, &mut record)?;
     Ok(record)
@@ -184,28 +185,29 @@ fn hold_common(parameter: Parameter<'_>) -> Common {
     }
 }
 
-/// A transfer parameter as the record holds it.
-fn hold_transfer(parameter: Parameter<'_>) -> Transfer {
+/// A transfer parameter as the record holds it; its values are appended to
+/// `values`.
+fn hold_transfer(parameter: Parameter<'_>, values: &mut Vec<u8>) -> Transfer {
     let contents = parameter.contents;
     let mut held = Transfer {
         header: parameter.header,
         ..Transfer::default()
     };
-    match Held::of(parameter.header, contents.first().copied()) {
-        Held::Octets => held.values = contents.to_vec(),
-        Held::Digits => hold_digits(contents, &mut held),
-        Held::Number => number::take(contents, &mut held),
+    match Held::of(parameter.header, contents) {
+        Held::Octets => values.extend_from_slice(contents),
+        Held::Digits => hold_digits(contents, &mut held, values),
+        Held::Number => number::take(contents, &mut held, values),
         Held::Generic => {
-            held.values.reserve_exact(1 + 2 * (contents.len() - 3));
-            held.values.push(contents[0]);
-            number::take(&contents[1..], &mut held);
+            values.push(contents[0]);
+            number::take(&contents[1..], &mut held, values);
         }
     }
     held
 }
 
-/// Takes the marks and digits of checked contents under PLI 10.
-fn hold_digits(contents: &[u8], held: &mut Transfer) {
+/// Takes the marks of checked contents under PLI 10, and appends the digits to
+/// `values`.
+fn hold_digits(contents: &[u8], held: &mut Transfer, values: &mut Vec<u8>) {
     let upper = contents[0] >> 6;
     match held.header {
         0x90 | 0x95 => held.notification = upper >> 1,
@@ -216,7 +218,5 @@ fn hold_digits(contents: &[u8], held: &mut Transfer) {
         0x98 => held.dialling = upper,
         _ => {}
     }
-    let count = digit_count(contents[0]);
-    held.values.reserve_exact(count);
-    DIALLED.decode(&contents[1..], count, &mut held.values);
+    DIALLED.decode(&contents[1..], digit_count(contents[0]), values);
 }

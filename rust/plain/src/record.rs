@@ -3,12 +3,19 @@
 use crate::common::{COMMON_LIMIT, TRANSFER_DATA};
 use crate::digits::octets_for;
 use crate::transfer::{Held, DATA_LIMIT, NAME_COUNT};
+use std::ops::Range;
 
 /// A message's common parameters in their order, without the end mark.
+///
+/// The values of all transfer parameters stand in one vector, in the order of
+/// the parameters: so reading, taking an image and adding to a record put them,
+/// and records so made are equal where all parameters and their values are.
 #[derive(Clone, Debug, Default, PartialEq, Eq)]
 pub struct Record {
     /// The common parameters, at most 6.
     pub common: Vec<Common>,
+    /// The values of all transfer parameters, one after the other.
+    pub(crate) values: Vec<u8>,
 }
 
 /// One common parameter.
@@ -48,13 +55,51 @@ pub struct Transfer {
     pub presentation: u8,
     /// The screening of D7, DC and DA with 06: 0 to 3.
     pub screening: u8,
-    /// Digits, first digit first (0 to 9, 10 for `*`, 11 for `#`), under PLI
-    /// 10 but for the five names without layout, and for D7 and DC; for DA with
-    /// 06 that octet, then digits; otherwise the contents.
-    pub values: Vec<u8>,
+    /// Where its values stand among those of the record; [`Record::values_of`]
+    /// gives them.
+    pub values: Range<usize>,
 }
 
 impl Record {
+    /// The values of a transfer parameter of this record: digits, first digit
+    /// first (0 to 9, 10 for `*`, 11 for `#`), under PLI 10 but for the five
+    /// names without layout, and for D7 and DC; for DA with 06 that octet, then
+    /// digits; otherwise the contents. A parameter of another record, whose
+    /// values would stand past the last, has none.
+    pub fn values_of(&self, parameter: &Transfer) -> &[u8] {
+        self.values
+            .get(parameter.values.clone())
+            .unwrap_or_default()
+    }
+
+    /// Adds a common parameter without transfer parameters.
+    pub fn push_common(&mut self, header: u8, value: u32) {
+        self.common.push(Common {
+            header,
+            value,
+            transfers: Vec::new(),
+        });
+    }
+
+    /// Adds a transfer parameter with these values to the last common parameter;
+    /// nothing where there is none.
+    pub fn push_transfer(&mut self, parameter: Transfer, values: &[u8]) {
+        if self.common.is_empty() {
+            return;
+        }
+        let start = self.values.len();
+        self.values.extend_from_slice(values);
+        self.enter(parameter, start);
+    }
+
+    /// Adds a transfer parameter whose values are those from `start` on.
+    pub(crate) fn enter(&mut self, mut parameter: Transfer, start: usize) {
+        parameter.values = start..self.values.len();
+        if let Some(data) = self.common.last_mut() {
+            data.transfers.push(parameter);
+        }
+    }
+
     /// Whether the record is within its limits: at most 6 common parameters,
     /// and in all its C5 together at most 52 transfer parameters, whose
     /// contents, laid out, come to at most 255 octets.
@@ -69,37 +114,39 @@ impl Record {
             if count > NAME_COUNT {
                 return false;
             }
-            octets += data
-                .transfers
-                .iter()
-                .map(Transfer::contents_len)
-                .sum::<usize>();
+            let lens = data.transfers.iter().map(|t| self.contents_len(t));
+            octets += lens.sum::<usize>();
         }
         octets <= DATA_LIMIT
+    }
+
+    fn contents_len(&self, parameter: &Transfer) -> usize {
+        contents_len(parameter.header, self.values_of(parameter))
+    }
+
+    /// How a transfer parameter of this record is held.
+    pub(crate) fn held(&self, parameter: &Transfer) -> Held {
+        Held::of(parameter.header, self.values_of(parameter))
+    }
+}
+
+/// How many octets the contents of a transfer parameter with this header and
+/// these values come to, laid out.
+pub fn contents_len(header: u8, values: &[u8]) -> usize {
+    let count = values.len();
+    match Held::of(header, values) {
+        Held::Octets => count,
+        Held::Digits => 1 + octets_for(count),
+        Held::Number => 2 + octets_for(count),
+        Held::Generic => 3 + octets_for(count - 1),
     }
 }
 
 impl Transfer {
-    /// How many octets the contents come to, laid out.
-    pub fn contents_len(&self) -> usize {
-        let count = self.values.len();
-        match self.held() {
-            Held::Octets => count,
-            Held::Digits => 1 + octets_for(count),
-            Held::Number => 2 + octets_for(count),
-            Held::Generic => 3 + octets_for(count - 1),
-        }
-    }
-
-    /// How this parameter is held.
-    pub(crate) fn held(&self) -> Held {
-        Held::of(self.header, self.values.first().copied())
-    }
-
     /// The eight fields in the order of their declaration, with 0 for those
-    /// that this parameter does not have.
-    pub(crate) fn fields(&self) -> [u8; 8] {
-        match (self.held(), self.header) {
+    /// that a parameter so held does not have.
+    pub(crate) fn fields(&self, held: Held) -> [u8; 8] {
+        match (held, self.header) {
             (Held::Digits, 0x90 | 0x95) => [self.notification, 0, 0, 0, 0, 0, 0, 0],
             (Held::Digits, 0x91) => [self.notification, self.verification, 0, 0, 0, 0, 0, 0],
             (Held::Digits, 0x98) => [0, 0, self.dialling, 0, 0, 0, 0, 0],

@@ -157,12 +157,12 @@ pub(crate) enum Held {
 }
 
 impl Held {
-    /// How a parameter with this header and first value is held, also where it
-    /// will be refused.
-    pub(crate) fn of(header: u8, first: Option<u8>) -> Held {
+    /// How a parameter with this header and these values or contents is held,
+    /// also where it will be refused; none but the first of them matters.
+    pub(crate) fn of(header: u8, values: &[u8]) -> Held {
         match header {
             0xD7 | 0xDC => Held::Number,
-            0xDA if first == Some(GENERIC_IS_NUMBER) => Held::Generic,
+            0xDA if values.first() == Some(&GENERIC_IS_NUMBER) => Held::Generic,
             _ if pli_of(header) == 0b10 && layout_of(header) != Layout::Open => Held::Digits,
             _ => Held::Octets,
         }

@@ -49,7 +49,7 @@ pub fn write(record: &Record, room: &mut [u8]) -> Result<usize, Refusal> {
     };
     let mut seen = Seen::default();
     for parameter in &record.common {
-        lay_common(parameter, &mut seen, &mut draft)?;
+        lay_common(record, parameter, &mut seen, &mut draft)?;
     }
     if !seen.complete() {
         return Err(Refusal::new(Refusal::MISSING, draft.len));
@@ -62,7 +62,12 @@ pub fn write(record: &Record, room: &mut [u8]) -> Result<usize, Refusal> {
 }
 
 /// Lays one common parameter.
-fn lay_common(parameter: &Common, seen: &mut Seen, draft: &mut Draft) -> Result<(), Refusal> {
+fn lay_common(
+    record: &Record,
+    parameter: &Common,
+    seen: &mut Seen,
+    draft: &mut Draft,
+) -> Result<(), Refusal> {
     let Common { header, value, .. } = *parameter;
     let place = draft.len;
     let refusal = |number| Refusal::new(number, place);
@@ -73,7 +78,7 @@ fn lay_common(parameter: &Common, seen: &mut Seen, draft: &mut Draft) -> Result<
         return Err(refusal(Refusal::COMMON_REPEATED));
     }
     match header {
-        TRANSFER_DATA => lay_transfer_data(&parameter.transfers, draft),
+        TRANSFER_DATA => lay_transfer_data(record, &parameter.transfers, draft),
         PARTNER_CALL | OWN_CALL => {
             if value > CALL_LIMIT {
                 return Err(refusal(Refusal::BAD_FORM));
@@ -100,14 +105,20 @@ fn held_octet(header: u8, value: u32) -> Result<u8, u8> {
 }
 
 /// Lays C5 with its length and its parameters.
-fn lay_transfer_data(transfers: &[Transfer], draft: &mut Draft) -> Result<(), Refusal> {
+fn lay_transfer_data(
+    record: &Record,
+    transfers: &[Transfer],
+    draft: &mut Draft,
+) -> Result<(), Refusal> {
     let place = draft.len;
     draft.put(&[TRANSFER_DATA, 0]);
     let start = draft.len;
     let mut names = Names::default();
     for parameter in transfers {
         let place = draft.len;
-        lay_transfer(parameter, &mut names, draft).map_err(|number| Refusal::new(number, place))?;
+        let values = record.values_of(parameter);
+        lay_transfer(parameter, values, &mut names, draft)
+            .map_err(|number| Refusal::new(number, place))?;
     }
     let len = draft.len - start;
     if len > DATA_LIMIT {
@@ -118,20 +129,25 @@ fn lay_transfer_data(transfers: &[Transfer], draft: &mut Draft) -> Result<(), Re
 }
 
 /// Tries 8 to 13 on one transfer parameter and lays it.
-fn lay_transfer(parameter: &Transfer, names: &mut Names, draft: &mut Draft) -> Result<(), u8> {
+fn lay_transfer(
+    parameter: &Transfer,
+    values: &[u8],
+    names: &mut Names,
+    draft: &mut Draft,
+) -> Result<(), u8> {
     let layout = transfer::check_header(parameter.header)?;
     names.enter(parameter.header)?;
-    match parameter.held() {
+    match Held::of(parameter.header, values) {
         Held::Octets => {
-            check_len(parameter.header, &parameter.values)?;
-            transfer::check_contents(layout, &parameter.values)?;
-            lay_octets(parameter.header, &parameter.values, draft);
+            check_len(parameter.header, values)?;
+            transfer::check_contents(layout, values)?;
+            lay_octets(parameter.header, values, draft);
             Ok(())
         }
-        Held::Digits => lay_digits(parameter, draft),
-        Held::Number => lay_number(parameter, &[], &parameter.values, draft),
+        Held::Digits => lay_digits(parameter, values, draft),
+        Held::Number => lay_number(parameter, &[], values, draft),
         Held::Generic => {
-            let (first, digits) = parameter.values.split_at(1);
+            let (first, digits) = values.split_at(1);
             lay_number(parameter, first, digits, draft)
         }
     }
@@ -160,8 +176,7 @@ fn lay_octets(header: u8, contents: &[u8], draft: &mut Draft) {
 }
 
 /// Tries 11 to 13 on a parameter held as marks and digits, and lays it.
-fn lay_digits(parameter: &Transfer, draft: &mut Draft) -> Result<(), u8> {
-    let digits = &parameter.values;
+fn lay_digits(parameter: &Transfer, digits: &[u8], draft: &mut Draft) -> Result<(), u8> {
     if digits.len() > DIGIT_LIMIT {
         return Err(Refusal::CONTENTS_CUT);
     }
@@ -195,7 +210,7 @@ fn lay_number(
     draft: &mut Draft,
 ) -> Result<(), u8> {
     formed(number::fits(parameter))?;
-    formed(parameter.header != 0xDC || number::calling_formed(parameter))?;
+    formed(parameter.header != 0xDC || number::calling_formed(parameter, digits))?;
     if !all_digits(digits) {
         return Err(Refusal::SPARE_DIGIT);
     }

@@ -2,8 +2,8 @@
 
 mod support;
 
-use plain::{Common, Record, Refusal, Transfer};
-use support::{octets, M};
+use plain::{Record, Refusal, Transfer};
+use support::{octets, record, transfer, M};
 
 /// Reads K and what follows it.
 fn after_k(rest: &str) -> Result<Record, Refusal> {
@@ -21,47 +21,21 @@ fn refused(number: u8, place: usize) -> Result<Record, Refusal> {
     Err(Refusal::new(number, place))
 }
 
-fn common(header: u8, value: u32) -> Common {
-    Common {
-        header,
-        value,
-        transfers: Vec::new(),
-    }
-}
-
-fn transfer(header: u8, values: &[u8]) -> Transfer {
-    Transfer {
-        header,
-        values: values.to_vec(),
-        ..Transfer::default()
-    }
-}
-
 #[test]
 fn case_1() {
-    let data = Common {
-        header: 0xC5,
-        value: 0,
-        transfers: vec![
-            transfer(0x90, &[1, 2, 0, 3]),
-            transfer(0x52, &[0x81]),
-            transfer(0x98, &[1, 2, 0]),
-        ],
-    };
-    let common = vec![
-        common(0x01, 1),
-        common(0x83, 12345),
-        common(0x04, 1),
-        common(0x06, 0x11),
-        data,
+    let common = [(0x01, 1), (0x83, 12345), (0x04, 1), (0x06, 0x11), (0xC5, 0)];
+    let transfers: [(Transfer, &[u8]); 3] = [
+        (transfer(0x90), &[1, 2, 0, 3]),
+        (transfer(0x52), &[0x81]),
+        (transfer(0x98), &[1, 2, 0]),
     ];
-    assert_eq!(both(&M), Ok(Record { common }));
+    assert_eq!(both(&M), Ok(record(&common, &transfers)));
 }
 
 #[test]
 fn case_2() {
-    let common = vec![common(0x01, 1), common(0x06, 0x11)];
-    assert_eq!(after_k("00"), Ok(Record { common }));
+    let expected = record(&[(0x01, 1), (0x06, 0x11)], &[]);
+    assert_eq!(after_k("00"), Ok(expected));
 }
 
 #[test]
@@ -105,10 +79,10 @@ fn case_14() {
         number_type: 3,
         plan: 1,
         screening: 1,
-        ..transfer(0xD7, &[0])
+        ..transfer(0xD7)
     };
-    let record = after_k("C5 05 D7 03 83 11 00 00").unwrap();
-    assert_eq!(record.common[2].transfers, [number]);
+    let expected = record(&[(0x01, 1), (0x06, 0x11), (0xC5, 0)], &[(number, &[0])]);
+    assert_eq!(after_k("C5 05 D7 03 83 11 00 00"), Ok(expected));
 }
 
 #[test]

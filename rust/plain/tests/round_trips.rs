@@ -2,8 +2,8 @@
 
 mod support;
 
-use plain::{Common, Record, Refusal, Transfer};
-use support::{octets, vectors, M};
+use plain::{Record, Refusal, Transfer};
+use support::{octets, record, transfer, vectors, M};
 
 /// The messages of the vectors and the bench table that reading accepts.
 fn accepted() -> Vec<Vec<u8>> {
@@ -89,21 +89,10 @@ fn a_parameter_removed_and_appended_stands_last() {
     }
 }
 
-/// A record with 01, 06 and a C5 of these transfer parameters.
-fn with_transfers(transfers: Vec<Transfer>) -> Record {
-    let common = |header, value| Common {
-        header,
-        value,
-        transfers: Vec::new(),
-    };
-    let data = Common {
-        header: 0xC5,
-        value: 0,
-        transfers,
-    };
-    Record {
-        common: vec![common(0x01, 1), common(0x06, 0x11), data],
-    }
+/// A record with 01, 06 and a C5 of this transfer parameter.
+fn with_transfer(parameter: Transfer, values: &[u8]) -> Record {
+    let common = [(0x01, 1), (0x06, 0x11), (0xC5, 0)];
+    record(&common, &[(parameter, values)])
 }
 
 #[test]
@@ -112,11 +101,8 @@ fn digits_of_every_count_return() {
         for count in 0..=63 {
             let digits = (0..count).map(|i| (i % 12) as u8);
             let first = (header == 0xDA).then_some(0x06);
-            let record = with_transfers(vec![Transfer {
-                header,
-                values: first.into_iter().chain(digits).collect(),
-                ..Transfer::default()
-            }]);
+            let values: Vec<u8> = first.into_iter().chain(digits).collect();
+            let record = with_transfer(transfer(header), &values);
             let mut room = [0; 272];
             let len = plain::write(&record, &mut room).unwrap();
             assert_eq!(plain::read(&room[..len]), Ok(record));
@@ -143,12 +129,9 @@ fn fields_of_every_value_return_or_are_refused() {
     ];
     for (header, most, field) in fields {
         for value in 0..=255 {
-            let mut parameter = Transfer {
-                header,
-                ..Transfer::default()
-            };
+            let mut parameter = transfer(header);
             *field(&mut parameter) = value;
-            let record = with_transfers(vec![parameter]);
+            let record = with_transfer(parameter, &[]);
             let mut room = [0; 272];
             match plain::write(&record, &mut room) {
                 Ok(len) => {

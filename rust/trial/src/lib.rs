@@ -23,6 +23,7 @@ pub mod input;
 pub mod messages;
 pub mod outcome;
 pub mod parameters;
+pub mod record;
 pub mod records;
 pub mod rng;
 

@@ -2,13 +2,14 @@
 
 use crate::messages::{self, sound_draft, with_alone, Size};
 use crate::parameters::{shuffled_names, sound, spoilt_somehow};
+use crate::record::{fields_in, fields_of, Common, Record, Transfer, WITH_FIELDS};
+use crate::record::{INCOMPLETE, NUMBER_TYPE, PLAN, PRESENTATION, SCREENING};
 use crate::rng::Rng;
-use plain::{Common, Record, Transfer};
 
 /// An image of any kind: of a sound record, of a damaged one, or of none.
 pub fn image(rng: &mut Rng) -> Vec<u8> {
     let mut image = match rng.weighted(&[5, 2, 10, 3]) {
-        0 => raw_image(&sound_record(rng)),
+        0 => sound_record(rng).image(),
         1 => {
             let record = sound_record(rng);
             noisy_image(rng, &record)
@@ -19,9 +20,9 @@ pub fn image(rng: &mut Rng) -> Vec<u8> {
             if rng.one_in(4) {
                 damage(rng, &mut record);
             }
-            raw_image(&record)
+            record.image()
         }
-        _ => raw_image(&heavy_record(rng)),
+        _ => heavy_record(rng).image(),
     };
     if rng.one_in(16) {
         messages::scratch(rng, &mut image);
@@ -33,12 +34,12 @@ pub fn image(rng: &mut Rng) -> Vec<u8> {
 fn sound_record(rng: &mut Rng) -> Record {
     let size = messages::size(rng);
     let message = sound_draft(rng, size).octets();
-    plain::read(&message).unwrap_or_default()
+    Record::read(&message).unwrap_or_default()
 }
 
 /// How a record holds the transfer parameter in these octets, if it is sound.
 pub fn held(parameter: &[u8]) -> Option<Transfer> {
-    let mut record = plain::read(&with_alone(parameter)).ok()?;
+    let mut record = Record::read(&with_alone(parameter)).ok()?;
     record.common.pop()?.transfers.pop()
 }
 
@@ -49,7 +50,7 @@ fn heavy_record(rng: &mut Rng) -> Record {
         let at = rng.below(transfers.len());
         transfers[at].header ^= rng.pick(&[0x01, 0x40, 0x80, 0xC0, 0xC1]);
     }
-    let mut record = plain::read(&sound_draft(rng, Size::Crowd).octets()).unwrap_or_default();
+    let mut record = Record::read(&sound_draft(rng, Size::Crowd).octets()).unwrap_or_default();
     if let Some(data) = data_of(&mut record) {
         data.transfers = transfers;
     }
@@ -211,14 +212,13 @@ fn at_limit(rng: &mut Rng) -> Transfer {
     };
     let fields = fields_of(header);
     for &(index, most) in fields {
-        *field(&mut parameter, index) = rng.between(0, most.into()) as u8;
+        parameter.fields[index] = rng.between(0, most.into()) as u8;
     }
-    if parameter.presentation == 2 {
-        parameter.presentation = 1;
+    if parameter.fields[PRESENTATION] == 2 {
+        parameter.fields[PRESENTATION] = 1;
     }
     let (index, most) = rng.pick(fields);
-    let value = rng.pick(&[most, most + 1, most + 1, 2 * most + 1, 255]);
-    *field(&mut parameter, index) = value;
+    parameter.fields[index] = rng.pick(&[most, most + 1, most + 1, 2 * most + 1, 255]);
     parameter
 }
 
@@ -234,14 +234,14 @@ fn digits(rng: &mut Rng, header: u8, len: usize) -> Vec<u8> {
 fn not_withheld(rng: &mut Rng) -> Transfer {
     let mut parameter = Transfer {
         header: rng.pick(&[0xDC, 0xDC, 0xDC, 0xD7]),
-        presentation: 2,
-        screening: rng.octet() & 0x03,
         ..Transfer::default()
     };
+    parameter.fields[PRESENTATION] = 2;
+    parameter.fields[SCREENING] = rng.octet() & 0x03;
     match rng.below(6) {
-        0 => parameter.number_type = rng.octet() & 0x7F,
-        1 => parameter.incomplete = 1,
-        2 => parameter.plan = rng.octet() & 0x07,
+        0 => parameter.fields[NUMBER_TYPE] = rng.octet() & 0x7F,
+        1 => parameter.fields[INCOMPLETE] = 1,
+        2 => parameter.fields[PLAN] = rng.octet() & 0x07,
         3 => parameter.values.push(rng.octet() & 0x0F),
         4 => *any_field(rng, &mut parameter) = 0,
         _ => {}
@@ -307,7 +307,7 @@ fn damage_transfer(rng: &mut Rng, parameter: &mut Transfer) {
                 *any_field(rng, parameter) = value;
             }
         }
-        6 => parameter.presentation = 2,
+        6 => parameter.fields[PRESENTATION] = 2,
         _ => damage_values(rng, &mut parameter.values),
     }
 }
@@ -340,52 +340,7 @@ fn damage_values(rng: &mut Rng, values: &mut Vec<u8>) {
 
 /// One of the eight fields.
 fn any_field<'t>(rng: &mut Rng, parameter: &'t mut Transfer) -> &'t mut u8 {
-    field(parameter, rng.below(8))
-}
-
-/// The headers of the parameters with fields; DA has them with 06.
-pub const WITH_FIELDS: [u8; 7] = [0x90, 0x91, 0x95, 0x98, 0xD7, 0xDC, 0xDA];
-
-/// The fields under a header by their indices, and the most that each can be.
-pub fn fields_of(header: u8) -> &'static [(usize, u8)] {
-    match header {
-        0x90 | 0x95 => &[(0, 1)],
-        0x91 => &[(0, 1), (1, 1)],
-        0x98 => &[(2, 3)],
-        0xD7 | 0xDC | 0xDA => &[(3, 127), (4, 1), (5, 7), (6, 3), (7, 3)],
-        _ => &[],
-    }
-}
-
-/// The fields that a parameter has, as [`fields_of`] tells them.
-pub fn fields_in(parameter: &Transfer) -> &'static [(usize, u8)] {
-    match (parameter.header, parameter.values.first()) {
-        (0xDA, first) if first != Some(&0x06) => &[],
-        (header, _) => fields_of(header),
-    }
-}
-
-/// The field with this index, by the order of the fields in an image.
-pub fn field(parameter: &mut Transfer, index: usize) -> &mut u8 {
-    match index {
-        0 => &mut parameter.notification,
-        1 => &mut parameter.verification,
-        2 => &mut parameter.dialling,
-        3 => &mut parameter.number_type,
-        4 => &mut parameter.incomplete,
-        5 => &mut parameter.plan,
-        6 => &mut parameter.presentation,
-        _ => &mut parameter.screening,
-    }
-}
-
-/// The image with every field as it is, also those a parameter does not have.
-fn raw_image(record: &Record) -> Vec<u8> {
-    let mut octets = vec![record.common.len() as u8];
-    for parameter in &record.common {
-        put_common(&mut octets, parameter, parameter.transfers.len() as u8);
-    }
-    octets
+    &mut parameter.fields[rng.below(8)]
 }
 
 /// The image with any octets where nothing is looked at.
@@ -402,7 +357,7 @@ fn noisy_image(rng: &mut Rng, record: &Record) -> Vec<u8> {
         } else {
             rng.octet()
         };
-        put_common(&mut octets, &parameter, count);
+        parameter.put(&mut octets, count);
     }
     octets
 }
@@ -411,33 +366,6 @@ fn noisy_image(rng: &mut Rng, record: &Record) -> Vec<u8> {
 fn add_noise(rng: &mut Rng, parameter: &mut Transfer) {
     let own = fields_in(parameter);
     for index in (0..8).filter(|index| own.iter().all(|(i, _)| i != index)) {
-        *field(parameter, index) = rng.octet();
+        parameter.fields[index] = rng.octet();
     }
-}
-
-fn put_common(octets: &mut Vec<u8>, parameter: &Common, count: u8) {
-    octets.push(parameter.header);
-    octets.extend(parameter.value.to_le_bytes());
-    octets.push(count);
-    if parameter.header == 0xC5 {
-        for transfer in &parameter.transfers {
-            put_transfer(octets, transfer);
-        }
-    }
-}
-
-fn put_transfer(octets: &mut Vec<u8>, parameter: &Transfer) {
-    octets.extend([
-        parameter.header,
-        parameter.notification,
-        parameter.verification,
-        parameter.dialling,
-        parameter.number_type,
-        parameter.incomplete,
-        parameter.plan,
-        parameter.presentation,
-        parameter.screening,
-    ]);
-    octets.extend((parameter.values.len() as u16).to_le_bytes());
-    octets.extend_from_slice(&parameter.values);
 }

@@ -1,9 +1,10 @@
 //! What the plain codec's answers must have to do with one another, over many
 //! inputs.
 
-use plain::{Record, Refusal, Row, Transfer};
+use plain::{Refusal, Row};
 use std::ops::Range;
 use trial::outcome::ROW_LEN;
+use trial::record::{Record, Transfer};
 use trial::records::held;
 use trial::{answer, input_at, Input, Outcome};
 
@@ -173,10 +174,10 @@ fn edit_agrees(input: &Input, n: u16, outcome: &Outcome, edit: impl FnOnce(&mut 
         return;
     }
     let (n, new_n) = (usize::from(n), outcome.value());
-    let mut expected: Record = plain::read(&input.lent()[..n]).expect("an accepted message");
+    let mut expected = Record::read(&input.lent()[..n]).expect("an accepted message");
     let data = expected.common.iter_mut().find(|c| c.header == 0xC5);
     edit(&mut data.expect("transfer data").transfers);
-    assert_eq!(plain::read(&outcome.memory[..new_n]), Ok(expected));
+    assert_eq!(Record::read(&outcome.memory[..new_n]), Ok(expected));
     let end = n.max(new_n);
     assert!(outcome.memory[new_n..end].iter().all(|&octet| octet == 0));
     assert_eq!(outcome.memory[end..], input.lent()[end..]);

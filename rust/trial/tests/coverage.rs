@@ -5,9 +5,8 @@
 mod conditions;
 
 use conditions::CONDITIONS;
-use plain::{Record, Transfer};
 use std::collections::{BTreeMap, BTreeSet};
-use trial::records::{field, fields_in, fields_of, WITH_FIELDS};
+use trial::record::{fields_in, fields_of, Common, Record, Transfer, WITH_FIELDS};
 use trial::{answer, input_at, Coverage, Input, Outcome};
 
 const SEED: u64 = 17;
@@ -88,22 +87,21 @@ fn note_fields(input: &Input, outcome: &Outcome, at: &mut Fields, above: &mut Fi
     let Input::Write { image, .. } = input else {
         return;
     };
-    let Ok(mut record) = plain::from_image(image) else {
+    let Ok(record) = plain::from_image(image).map(Record::from) else {
         return;
     };
     if outcome.number() == 0 {
-        let fields = record.common.iter_mut().flat_map(fields_at_limit);
-        at.extend(fields);
+        at.extend(record.common.iter().flat_map(fields_at_limit));
     } else if outcome.number() == 12 {
         above.extend(sole_fault(record, outcome.place()));
     }
 }
 
-fn fields_at_limit(common: &mut plain::Common) -> Vec<(u8, usize)> {
+fn fields_at_limit(common: &Common) -> Vec<(u8, usize)> {
     let mut at = Vec::new();
-    for transfer in &mut common.transfers {
+    for transfer in &common.transfers {
         for &(index, most) in fields_in(transfer) {
-            if *field(transfer, index) == most {
+            if transfer.fields[index] == most {
                 at.push((transfer.header, index));
             }
         }
@@ -117,11 +115,11 @@ fn sole_fault(mut record: Record, place: usize) -> Option<(u8, usize)> {
     let transfer = transfer_at(&mut record, place)?;
     let header = transfer.header;
     let mut fields = fields_in(transfer).iter();
-    let &(index, most) = fields.find(|&&(i, most)| *field(transfer, i) == most + 1)?;
-    *field(transfer, index) = most;
-    plain::write(&record, &mut [0; 272])
-        .is_ok()
-        .then_some((header, index))
+    let &(index, most) = fields.find(|&&(i, most)| transfer.fields[i] == most + 1)?;
+    transfer.fields[index] = most;
+    let mended = plain::from_image(&record.image()).ok()?;
+    plain::write(&mended, &mut [0; 272]).ok()?;
+    Some((header, index))
 }
 
 fn counts(names: &Names) -> Vec<(u8, usize)> {
@@ -151,7 +149,8 @@ fn note_written(input: &Input, outcome: &Outcome, names: &mut Names) {
     if !(8..=13).contains(&outcome.number()) {
         return;
     }
-    let mut record = plain::from_image(image).expect("a record within its limits");
+    let record = plain::from_image(image).expect("a record within its limits");
+    let mut record = Record::from(record);
     if let Some(parameter) = transfer_at(&mut record, outcome.place()) {
         let name = parameter.header & 0x3F;
         names.entry(outcome.number()).or_default().insert(name);

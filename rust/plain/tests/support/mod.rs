@@ -2,6 +2,8 @@
 
 #![allow(dead_code)]
 
+use plain::{Record, Transfer};
+
 /// The octets that a line's hexadecimal gives; `-` gives none.
 pub fn octets(hex: &str) -> Vec<u8> {
     let digits: Vec<u8> = hex
@@ -55,6 +57,27 @@ pub fn expected(field: &str) -> Expected {
             Expected::Refused(plain::Refusal::new(number, next()))
         }
         other => panic!("neither accepted nor refused: {other:?}"),
+    }
+}
+
+/// A record with these common parameters, the last of them with these transfer
+/// parameters and their values.
+pub fn record(common: &[(u8, u32)], transfers: &[(Transfer, &[u8])]) -> Record {
+    let mut record = Record::default();
+    for &(header, value) in common {
+        record.push_common(header, value);
+    }
+    for (parameter, values) in transfers {
+        record.push_transfer(parameter.clone(), values);
+    }
+    record
+}
+
+/// A transfer parameter with this header and 0 in all fields.
+pub fn transfer(header: u8) -> Transfer {
+    Transfer {
+        header,
+        ..Transfer::default()
     }
 }
 

@@ -1,6 +1,6 @@
 //! Conditions on a call and its outcome, each of which is to occur.
 
-use plain::Transfer;
+use trial::record::Transfer;
 use trial::{answer, Input, Kind, Outcome};
 
 /// A condition and its name.
