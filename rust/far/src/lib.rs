@@ -20,77 +20,58 @@ use std::slice;
 // SAFETY of all nine functions: as the header asks, each pointer and its length
 // are memory that may be read, and written where it is `*mut`, during the call.
 
-/// The record of a message, as an image.
-///
-/// # Safety
-///
-/// Each pointer and its length are a slice's, and the two do not overlap.
-#[no_mangle]
-pub unsafe extern "C" fn tk_read(
-    message: *const u8,
-    message_len: usize,
-    image: *mut u8,
-    image_len: usize,
-) -> u64 {
-    let message = slice::from_raw_parts(message, message_len);
-    let image = slice::from_raw_parts_mut(image, image_len);
-    call(Function::Read, [0, 0], message, image)
+/// Functions that read one stretch of octets and are lent another.
+macro_rules! lent_octets {
+    ($($(#[$doc:meta])* $name:ident: $function:ident;)*) => {$(
+        $(#[$doc])*
+        ///
+        /// # Safety
+        ///
+        /// Each pointer and its length are a slice's, and the two do not overlap.
+        #[no_mangle]
+        pub unsafe extern "C" fn $name(
+            fixed: *const u8,
+            fixed_len: usize,
+            lent: *mut u8,
+            lent_len: usize,
+        ) -> u64 {
+            let fixed = slice::from_raw_parts(fixed, fixed_len);
+            let lent = slice::from_raw_parts_mut(lent, lent_len);
+            call(Function::$function, [0, 0], fixed, lent)
+        }
+    )*};
 }
 
-/// The message of a record's image.
-///
-/// # Safety
-///
-/// Each pointer and its length are a slice's, and the two do not overlap.
-#[no_mangle]
-pub unsafe extern "C" fn tk_write(
-    image: *const u8,
-    image_len: usize,
-    room: *mut u8,
-    room_len: usize,
-) -> u64 {
-    let image = slice::from_raw_parts(image, image_len);
-    let room = slice::from_raw_parts_mut(room, room_len);
-    call(Function::Write, [0, 0], image, room)
+lent_octets! {
+    /// The record of a message, as an image.
+    tk_read: Read;
+    /// The message of a record's image.
+    tk_write: Write;
+    /// The rows of a message.
+    tk_rows: Rows;
 }
 
-/// The rows of a message.
-///
-/// # Safety
-///
-/// Each pointer and its length are a slice's, and the two do not overlap.
-#[no_mangle]
-pub unsafe extern "C" fn tk_rows(
-    message: *const u8,
-    message_len: usize,
-    table: *mut u8,
-    table_len: usize,
-) -> u64 {
-    let message = slice::from_raw_parts(message, message_len);
-    let table = slice::from_raw_parts_mut(table, table_len);
-    call(Function::Rows, [0, 0], message, table)
+/// Functions that find a parameter of a message by its header or its name.
+macro_rules! finds {
+    ($($(#[$doc:meta])* $name:ident: $function:ident;)*) => {$(
+        $(#[$doc])*
+        ///
+        /// # Safety
+        ///
+        /// The pointer and its length are a slice's.
+        #[no_mangle]
+        pub unsafe extern "C" fn $name(message: *const u8, message_len: usize, key: u8) -> u64 {
+            let message = slice::from_raw_parts(message, message_len);
+            call(Function::$function, [key.into(), 0], message, &mut [])
+        }
+    )*};
 }
 
-/// The contents of a common parameter.
-///
-/// # Safety
-///
-/// The pointer and its length are a slice's.
-#[no_mangle]
-pub unsafe extern "C" fn tk_find_common(message: *const u8, message_len: usize, header: u8) -> u64 {
-    let message = slice::from_raw_parts(message, message_len);
-    call(Function::FindCommon, [header.into(), 0], message, &mut [])
-}
-
-/// The contents of a transfer parameter.
-///
-/// # Safety
-///
-/// The pointer and its length are a slice's.
-#[no_mangle]
-pub unsafe extern "C" fn tk_find_transfer(message: *const u8, message_len: usize, name: u8) -> u64 {
-    let message = slice::from_raw_parts(message, message_len);
-    call(Function::FindTransfer, [name.into(), 0], message, &mut [])
+finds! {
+    /// The contents of a common parameter.
+    tk_find_common: FindCommon;
+    /// The contents of a transfer parameter.
+    tk_find_transfer: FindTransfer;
 }
 
 /// The class of a code value.
@@ -100,40 +81,34 @@ pub extern "C" fn tk_class(header: u8, octet: u8) -> u64 {
     call(Function::Class, numbers, &[], &mut [])
 }
 
-/// Replaces a transfer parameter.
-///
-/// # Safety
-///
-/// Each pointer and its length are a slice's, and the two do not overlap.
-#[no_mangle]
-pub unsafe extern "C" fn tk_replace(
-    buffer: *mut u8,
-    buffer_len: usize,
-    n: usize,
-    new: *const u8,
-    new_len: usize,
-) -> u64 {
-    let buffer = slice::from_raw_parts_mut(buffer, buffer_len);
-    let new = slice::from_raw_parts(new, new_len);
-    call(Function::Replace, [n as u64, 0], new, buffer)
+/// Edits that bring a transfer parameter.
+macro_rules! edits {
+    ($($(#[$doc:meta])* $name:ident: $function:ident;)*) => {$(
+        $(#[$doc])*
+        ///
+        /// # Safety
+        ///
+        /// Each pointer and its length are a slice's, and the two do not overlap.
+        #[no_mangle]
+        pub unsafe extern "C" fn $name(
+            buffer: *mut u8,
+            buffer_len: usize,
+            n: usize,
+            new: *const u8,
+            new_len: usize,
+        ) -> u64 {
+            let buffer = slice::from_raw_parts_mut(buffer, buffer_len);
+            let new = slice::from_raw_parts(new, new_len);
+            call(Function::$function, [n as u64, 0], new, buffer)
+        }
+    )*};
 }
 
-/// Appends a transfer parameter.
-///
-/// # Safety
-///
-/// Each pointer and its length are a slice's, and the two do not overlap.
-#[no_mangle]
-pub unsafe extern "C" fn tk_append(
-    buffer: *mut u8,
-    buffer_len: usize,
-    n: usize,
-    new: *const u8,
-    new_len: usize,
-) -> u64 {
-    let buffer = slice::from_raw_parts_mut(buffer, buffer_len);
-    let new = slice::from_raw_parts(new, new_len);
-    call(Function::Append, [n as u64, 0], new, buffer)
+edits! {
+    /// Replaces a transfer parameter.
+    tk_replace: Replace;
+    /// Appends a transfer parameter.
+    tk_append: Append;
 }
 
 /// Removes a transfer parameter.
