@@ -67,6 +67,13 @@ imagedIn q room = roomAfter (imagingOf q (length room)) (imageOf (view q)) room
 
 -- ---- from an image to a record
 
+-- the octets of a common parameter before its transfer parameters, and of a transfer parameter before its values
+abbrev pub common-head : ℕ
+common-head = 6
+
+abbrev pub transfer-head : ℕ
+transfer-head = 11
+
 -- so many parameters at the front of octets, with how many octets they take; or the octets are too short for them
 pub data Front (A : Type 0) : Type 0 where
   Taken : List A → ℕ → Front A
@@ -94,11 +101,11 @@ headFront s =
     }
 
 abbrev pub itemFront : List ℕ → Item
-itemFront s = rawItem (headFront s) (take (headFront s .len) (drop 11 s))
+itemFront s = rawItem (headFront s) (take (headFront s .len) (drop transfer-head s))
 
 -- and the octets that it takes
 abbrev pub itemSize : List ℕ → ℕ
-itemSize s = 11 + headFront s .len
+itemSize s = transfer-head + headFront s .len
 
 -- n of them
 unfoldable pub itemsFront : ℕ → List ℕ → Front Item
@@ -120,14 +127,14 @@ partFront s is = record { header = commonFront s .header; value = commonFront s 
 
 -- the head s with these transfer parameters behind it, and what follows them
 abbrev pub partThen : List ℕ → Front Item → (ℕ → Front Part) → Front Part
-partThen s (Taken is k) rest = more (partFront s is) (6 + k) (rest (6 + k))
+partThen s (Taken is k) rest = more (partFront s is) (common-head + k) (rest (common-head + k))
 partThen s Short rest = Short
 
 -- n of them
 unfoldable pub partsFront : ℕ → List ℕ → Front Part
 partsFront zero s = Taken [] 0
 partsFront (suc n) s =
-    cond (leb 6 (length s)) (partThen s (itemsFront (commonFront s .transfers) (drop 6 s)) (λ k. partsFront n (drop k s))) Short
+    cond (leb common-head (length s)) (partThen s (itemsFront (commonFront s .transfers) (drop common-head s)) (λ k. partsFront n (drop k s))) Short
 
 -- no record: 1 at 0, and the empty struct
 abbrev pub noImage : Imaged

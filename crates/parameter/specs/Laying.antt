@@ -4,6 +4,7 @@ use Prim.Native.Nat.{ℕ}
 use mathlib.Core.Bool.{Bool, true, false, cond, _&&_}
 use mathlib.Core.List.{List}
 use lib.Dec.{eqb}
+use Rattle.annex.specs.Heads.{withheld}
 use Rattle.annex.specs.Items.{Item, ownOf}
 use Rattle.annex.specs.Allowed.{fieldsRight, withheldRight}
 use Rattle.annex.specs.Records.{rawItem}
@@ -20,6 +21,6 @@ abbrev pub isSound : Fault → Bool
 isSound Sound = true
 isSound (Bad k i) = false
 
--- a number's fields by their bits, and for DC with presentation 2 that nothing is told
+-- a number's fields by their bits, and for a DC that is withheld that nothing is told
 abbrev pub numberRight : Item → Bool
-numberRight i = fieldsRight i && cond (eqb (i .header) 0xDC && eqb (i .presentation) 2) (withheldRight i) true
+numberRight i = fieldsRight i && cond (eqb (i .header) 0xDC && eqb (i .presentation) withheld) (withheldRight i) true

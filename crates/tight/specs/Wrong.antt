@@ -229,21 +229,31 @@ refuses-every-record k q p = let z : _≡_ {A = ℕ} 0 5 = ap givenOf (p ∙ sai
 
 -- ---- editing: one that claims success and does nothing; one that forgets C5's length octet
 
+-- each of the three edits changes that octet
+pub replaced-differs : M ≡ bufferOf shorter M 23 → ⊥
+replaced-differs e = let z : _≡_ {A = ℕ} 0x0A 0x09 = ap (λ (l : List ℕ). getD l 11 0) e ∙ said .replaced-length in omega arith
+
+pub appended-differs : roomy ≡ bufferOf another roomy 23 → ⊥
+appended-differs e = let z : _≡_ {A = ℕ} 0x0A 0x0C = ap (λ (l : List ℕ). getD l 11 0) e ∙ said .appended-length in omega arith
+
+pub removed-differs : M ≡ bufferOf (Removing 0x18) M 23 → ⊥
+removed-differs e = let z : _≡_ {A = ℕ} 0x0A 0x06 = ap (λ (l : List ℕ). getD l 11 0) e ∙ said .removed-length in omega arith
+
 pub touches-nothing : (k : ℕ) → EditPromise shorter M 23 (Accepted k) M → ⊥
-touches-nothing k p = let z : _≡_ {A = ℕ} 0x0A 0x09 = ap (λ (l : List ℕ). getD l 11 0) (p .1) ∙ said .replaced-length in omega arith
+touches-nothing k p = replaced-differs (p .1)
 
 pub forgets-length : (a : Answer) (now : List ℕ) → getD now 11 0 ≡ 0x0A → EditPromise shorter M 23 a now → ⊥
 forgets-length a now h p = let z : getD now 11 0 ≡ 0x09 = ap (λ (l : List ℕ). getD l 11 0) (p .1) ∙ said .replaced-length in omega arith
 
 pub appends-nothing : (k : ℕ) → EditPromise another roomy 23 (Accepted k) roomy → ⊥
-appends-nothing k p = let z : _≡_ {A = ℕ} 0x0A 0x0C = ap (λ (l : List ℕ). getD l 11 0) (p .1) ∙ said .appended-length in omega arith
+appends-nothing k p = appended-differs (p .1)
 
 -- the end mark moves on
 pub loses-the-tail : (a : Answer) (now : List ℕ) → getD now 24 0 ≡ 0xEE → EditPromise another roomy 23 a now → ⊥
 loses-the-tail a now h p = let z : getD now 24 0 ≡ 0x00 = ap (λ (l : List ℕ). getD l 24 0) (p .1) ∙ said .appended-end in omega arith
 
 pub removes-nothing : (k : ℕ) → EditPromise (Removing 0x18) M 23 (Accepted k) M → ⊥
-removes-nothing k p = let z : _≡_ {A = ℕ} 0x0A 0x06 = ap (λ (l : List ℕ). getD l 11 0) (p .1) ∙ said .removed-length in omega arith
+removes-nothing k p = removed-differs (p .1)
 
 -- octets from the new end to the old are 0
 pub leaves-the-rest : (a : Answer) (now : List ℕ) → getD now 19 0 ≡ 0x03 → EditPromise (Removing 0x18) M 23 a now → ⊥

@@ -39,7 +39,7 @@ use Rattle.annex.specs.declared.Record.{Record}
 use Rattle.annex.specs.declared.Imaged.{Imaged}
 use Rattle.annex.specs.declared.Class.the-variants.{HeldBack}
 use Rattle.annex.specs.declared.ClassAnswer.the-variants as classes
-use Rattle.tight.specs.Wrong.{short, shorter, another, roomy, said}
+use Rattle.tight.specs.Wrong.{short, shorter, another, roomy, said, replaced-differs, appended-differs, removed-differs}
 
 -- the image of case 2's record, and with an octet left over
 abbrev imageOfK : List ℕ
@@ -182,12 +182,11 @@ tk-appends-answers-done = answers-done another roomy 23 25 (said .appended-answe
 pub tk-removes-answers-done : (now : List ℕ) → TkEditPromise (Removing 0x18) M 23 0 now → ⊥
 tk-removes-answers-done = answers-done (Removing 0x18) M 23 19 (said .removed-answer) (omega arith) (omega arith)
 
--- C5's length octet stays
 pub tk-replaces-nothing : (r : ℕ) → TkEditPromise shorter M 23 r M → ⊥
-tk-replaces-nothing r p = let z : _≡_ {A = ℕ} 0x0A 0x09 = ap (at 11) (p .1) ∙ said .replaced-length in omega arith
+tk-replaces-nothing r p = replaced-differs (p .1)
 
 pub tk-appends-nothing : (r : ℕ) → TkEditPromise another roomy 23 r roomy → ⊥
-tk-appends-nothing r p = let z : _≡_ {A = ℕ} 0x0A 0x0C = ap (at 11) (p .1) ∙ said .appended-length in omega arith
+tk-appends-nothing r p = appended-differs (p .1)
 
 pub tk-removes-nothing : (r : ℕ) → TkEditPromise (Removing 0x18) M 23 r M → ⊥
-tk-removes-nothing r p = let z : _≡_ {A = ℕ} 0x0A 0x06 = ap (at 11) (p .1) ∙ said .removed-length in omega arith
+tk-removes-nothing r p = removed-differs (p .1)

@@ -32,7 +32,13 @@ pub struct Transfer {
     pub values: Vec<u8>,
 }
 
-/// Index of the number type among the fields.
+/// Index of the notification mark among the fields.
+pub const NOTIFICATION: usize = 0;
+/// Index of the verification mark.
+pub const VERIFICATION: usize = 1;
+/// Index of the type of dialling.
+pub const DIALLING: usize = 2;
+/// Index of the number type.
 pub const NUMBER_TYPE: usize = 3;
 /// Index of the incomplete mark.
 pub const INCOMPLETE: usize = 4;
@@ -49,10 +55,16 @@ pub const WITH_FIELDS: [u8; 7] = [0x90, 0x91, 0x95, 0x98, 0xD7, 0xDC, 0xDA];
 /// The fields under a header by their indices, and the most that each can be.
 pub fn fields_of(header: u8) -> &'static [(usize, u8)] {
     match header {
-        0x90 | 0x95 => &[(0, 1)],
-        0x91 => &[(0, 1), (1, 1)],
-        0x98 => &[(2, 3)],
-        0xD7 | 0xDC | 0xDA => &[(3, 127), (4, 1), (5, 7), (6, 3), (7, 3)],
+        0x90 | 0x95 => &[(NOTIFICATION, 1)],
+        0x91 => &[(NOTIFICATION, 1), (VERIFICATION, 1)],
+        0x98 => &[(DIALLING, 3)],
+        0xD7 | 0xDC | 0xDA => &[
+            (NUMBER_TYPE, 127),
+            (INCOMPLETE, 1),
+            (PLAN, 7),
+            (PRESENTATION, 3),
+            (SCREENING, 3),
+        ],
         _ => &[],
     }
 }
