@@ -1,18 +1,18 @@
 -- What a record may be: document 01, "Common part", "Transfer data" and "Writing", one line for each rule. Nothing here mentions
--- reading, and nothing says in which order a refusal comes.
+-- reading, and nothing but what is wrong with one parameter's values says in which order a refusal comes.
 use Prim.Native.Nat.{ℕ, suc, _+_, _≤_, _<_}
 use mathlib.Core.Path.{_≡_}
 use mathlib.Core.Bool.{Bool, true, cond, _&&_}
 use mathlib.Core.List.{List, [], _∷_, _++_, map}
 use lib.Dec.{eqb, leb, ltb}
-use lib.ListN.{length, getD}
+use lib.ListN.{length, getD, drop}
+use Rattle.annex.specs.Answers.{bad-digit}
 use Rattle.annex.specs.Units.{nameOf, afterOf, extentOf}
 use Rattle.annex.specs.Heads.{
   advanced-telephony,
-  added-calling-number,
+  calling-number,
   withheld,
   among,
-  Form,
   Marks,
   user-class,
   sequence,
@@ -29,18 +29,17 @@ use Rattle.annex.specs.Heads.{
   nameUsed,
   pliRight,
   oftenOf,
-  zeroesOf,
-  formOf,
 }
 use Rattle.annex.specs.Heads.Marks.{Unmarked, Notified, Verified, Typed}
-use Rattle.annex.specs.Heads.Form.{Carried, Digits, Number, Calling, Generic, Long, Two}
 use Rattle.annex.specs.Digits.{isDigit}
-use Rattle.annex.specs.Contents.{clear}
-use Rattle.annex.specs.Items.{Item, Part, Holding, heldAs, contentsOf, digitsBy, ownOf}
+use Rattle.annex.specs.Contents.{formedThen, isSound, faultOf}
+use Rattle.annex.specs.Items.{Item, Part, Holding, heldAs, contentsOf, ownOf}
 use Rattle.annex.specs.Items.Holding.{AsContents, AsDigits, AsNumber, AsGeneric}
 use Rattle.annex.specs.Layout.{layoutItems}
 use Rattle.annex.specs.declared.Extent.{Extent}
 use Rattle.annex.specs.declared.Extent.the-variants.{Fixed, CountOctet, LengthOctet}
+use Rattle.annex.specs.declared.Fault.{Fault}
+use Rattle.annex.specs.declared.Fault.the-variants.{Sound, Bad}
 
 -- the test passes at each of the list; what holds of each of the list
 abbrev pub every : {A : Type 0} → (A → Bool) → List A → Bool
@@ -96,23 +95,25 @@ fieldsRight i =
 abbrev pub withheldRight : Item → Bool
 withheldRight i = eqb (i .numberType) 0 && (eqb (i .incomplete) 0 && (eqb (i .plan) 0 && eqb (length (i .values)) 0))
 
--- Transfer data, and Writing, 12: by the form that the header asks
-abbrev pub formBy : Form → Item → Bool
-formBy Carried i = clear (zeroesOf (i .header)) (getD (i .values) 0 0)
-formBy (Digits m) i = marksRight m i
-formBy Number i = fieldsRight i
-formBy Calling i = fieldsRight i && cond (eqb (i .presentation) withheld) (withheldRight i) true
-formBy Generic i = leb 1 (length (i .values)) && cond (eqb (getD (i .values) 0 0) added-calling-number) (fieldsRight i) true
-formBy (Long n) i = eqb (length (i .values)) n
-formBy (Two mask) i = eqb (length (i .values)) 2 && clear mask (getD (i .values) 1 0)
-
--- bits that must be 0, and the form that the header asks
-unfoldable pub formRight : Item → Bool
-formRight i = formBy (formOf (i .header)) i
+-- a number's fields, and of DC that nothing is told where it is withheld
+abbrev pub numberRight : Item → Bool
+numberRight i = fieldsRight i && cond (eqb (i .header) calling-number && eqb (i .presentation) withheld) (withheldRight i) true
 
 -- Writing, 13: each digit is one of the twelve values that a record holds for digits
-unfoldable pub digitsRight : Item → Bool
-digitsRight i = every isDigit (digitsBy (heldAs i) i)
+abbrev pub valuesFault : List ℕ → Fault
+valuesFault ds = cond (every isDigit ds) Sound (Bad bad-digit 0)
+
+-- Writing, 12 and then 13: contents held as they are have the faults of contents; of digits and numbers, a mark or field has too many bits, or a
+-- value is no digit
+abbrev pub faultAs : Holding → Item → Fault
+faultAs AsContents i = faultOf (i .header) (i .values)
+faultAs (AsDigits m) i = formedThen (marksRight m i) (valuesFault (i .values))
+faultAs AsNumber i = formedThen (numberRight i) (valuesFault (i .values))
+faultAs AsGeneric i = formedThen (fieldsRight i) (valuesFault (drop 1 (i .values)))
+
+-- what is wrong with the values of a parameter
+unfoldable pub faultIn : Item → Fault
+faultIn i = faultAs (heldAs i) i
 
 -- ---- one common parameter
 
@@ -190,10 +191,9 @@ pub record Allowed (r : List Part) : Type 0 where
   -- Common part, and refusal 14: all of the transfer data is counted by one length octet
   pub few-octets : length (layoutItems (itemsIn r)) ≤ most-transfer-octets
   -- each transfer parameter: its name is used, its PLI is the name's, the name stands no oftener than it may, its contents have the PLI's
-  -- length, the form that the header asks, and digits that are digits
+  -- length, and nothing is wrong with its values
   pub names-used : every (λ i. nameUsed (i .header)) (itemsIn r) ≡ true
   pub plis-right : every (λ i. pliRight (i .header)) (itemsIn r) ≡ true
   pub names-often : atMost oftenOf (namesOf (itemsIn r)) ≡ true
   pub lengths-right : every lengthRight (itemsIn r) ≡ true
-  pub forms-right : every formRight (itemsIn r) ≡ true
-  pub digits-right : every digitsRight (itemsIn r) ≡ true
+  pub faults-none : every (λ i. isSound (faultIn i)) (itemsIn r) ≡ true

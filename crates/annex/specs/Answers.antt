@@ -142,6 +142,15 @@ abbrev pub refuse : Bool → ℕ → ℕ → Answer → Answer
 refuse true k p a = Refused k p
 refuse false k p a = a
 
+-- refused with a fault's number, at the place that `place` makes of number and offset, and else what follows
+abbrev pub soundThen : (ℕ → ℕ → ℕ) → Fault → Answer → Answer
+soundThen place Sound a = a
+soundThen place (Bad k i) a = Refused k (place k i)
+
+-- the place of every fault: the header, which stands at p
+abbrev pub headerAt : ℕ → ℕ → ℕ → ℕ
+headerAt p k i = p
+
 -- what follows an accepted step; a refusal is passed on
 abbrev pub andThen : Answer → (ℕ → Answer) → Answer
 andThen (Accepted n) f = f n

@@ -7,8 +7,9 @@ use lib.Dec.{eqb, ltb}
 use lib.Bits.{bitAnd}
 use lib.ListN.{length, getD, drop}
 use Rattle.annex.specs.Answers.{bad-form}
-use Rattle.annex.specs.Heads.{added-calling-number, withheld, Form, zeroesOf, formOf}
-use Rattle.annex.specs.Heads.Form.{Carried, Digits, Number, Calling, Generic, Long, Two}
+use Rattle.annex.specs.Heads.{added-calling-number, withheld, Check, Form, zeroesOf, formOf}
+use Rattle.annex.specs.Heads.Check.{Nothing, Long, Two}
+use Rattle.annex.specs.Heads.Form.{Checked, Digits, Number, Calling, Generic}
 use Rattle.annex.specs.Digits.{digitsFault}
 use Rattle.annex.specs.declared.Alphabet.the-variants.{Dialled, Numbered}
 use Rattle.annex.specs.declared.Fault.{Fault}
@@ -25,6 +26,11 @@ formedThen false f = Bad bad-form 0
 
 abbrev pub formed : Bool → Fault
 formed b = formedThen b Sound
+
+-- nothing is wrong
+abbrev pub isSound : Fault → Bool
+isSound Sound = true
+isSound (Bad k i) = false
 
 -- a number's first octet: odd mark (bit 7). Its second: presentation (3-2)
 abbrev pub oddOf : List ℕ → ℕ
@@ -64,14 +70,18 @@ dialledFault s = digitsFault Dialled (getD s 0 0 % 64) 1 (drop 1 s)
 unfoldable pub twoFault : ℕ → List ℕ → Fault
 twoFault mask s = formed (eqb (length s) 2 && clear mask (getD s 1 0))
 
+-- contents that a record holds as they are, by their check
+abbrev pub checkFault : Check → List ℕ → Fault
+checkFault Nothing s = Sound
+checkFault (Long n) s = formed (eqb (length s) n)
+checkFault (Two mask) s = twoFault mask s
+
 abbrev pub faultBy : Form → List ℕ → Fault
-faultBy Carried s = Sound
+faultBy (Checked c) s = checkFault c s
 faultBy (Digits m) s = dialledFault s
 faultBy Number s = numberFault 0 s
 faultBy Calling s = callingFault s
 faultBy Generic s = genericFault s
-faultBy (Long n) s = formed (eqb (length s) n)
-faultBy (Two mask) s = twoFault mask s
 
 -- the contents s under the header h: first the bits that must be 0, then the form
 unfoldable pub faultOf : ℕ → List ℕ → Fault

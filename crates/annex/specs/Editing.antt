@@ -13,6 +13,8 @@ use Rattle.annex.specs.Answers.{
   no-room,
   absent,
   refuse,
+  soundThen,
+  headerAt,
   andThen,
 }
 use Rattle.annex.specs.Units.{nameOf, afterOf, extentOf, contentsIn}
@@ -21,7 +23,7 @@ use Rattle.annex.specs.Contents.{faultOf}
 use Rattle.annex.specs.Items.{Item, Part, itemOf}
 use Rattle.annex.specs.Layout.{layoutItems, layout}
 use Rattle.annex.specs.Allowed.{headersOf, itemsIn, namesOf, timesIn}
-use Rattle.annex.specs.Reading.{verdictOf, recordOf, soundThen}
+use Rattle.annex.specs.Reading.{verdictOf, recordOf}
 use Rattle.annex.specs.declared.Answer.{Answer}
 use Rattle.annex.specs.declared.Answer.the-variants.{Accepted, Refused}
 
@@ -57,7 +59,7 @@ newContents new =
     let h = newHeader new in
     let xs = newAfter new in
     refuse (not (eqb (length xs) (afterOf (extentOf h) (getD xs 0 0)))) cut-contents 0
-    (soundThen (faultOf h (contentsIn (extentOf h) xs))
+    (soundThen (headerAt 0) (faultOf h (contentsIn (extentOf h) xs))
     (Accepted 0))
 
 -- what the edit itself is refused for; the parameters are those of C5

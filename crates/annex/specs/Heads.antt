@@ -57,9 +57,12 @@ signalKinds =
 abbrev pub advanced-telephony : ℕ
 advanced-telephony = 0x01
 
--- Transfer data, DA: the first octet with which a number follows; DC: the presentation with which it is withheld
+-- Transfer data, DA: the first octet with which a number follows; DC, and the presentation with which it is withheld
 abbrev pub added-calling-number : ℕ
 added-calling-number = 0x06
+
+abbrev pub calling-number : ℕ
+calling-number = 0xDC
 
 abbrev pub withheld : ℕ
 withheld = 2
@@ -91,14 +94,21 @@ most-values = 512
 pub data Marks : Type 0 where
   Unmarked Notified Verified Typed : Marks
 
--- what is checked of contents: nothing more, digits of PLI 10, a number as in D7, as in DC, as in DA, so many octets, or two octets of
--- whose second these bits are 0
+-- what is checked of contents that a record holds as they are: nothing more, so many octets, or two octets of whose second these bits are 0.
+-- `Contents.checkFault` says what each finds wrong
+pub data Check : Type 0 where
+  Nothing : Check
+  Long : ℕ → Check
+  Two : ℕ → Check
+
+-- the forms of contents: held as they are, with a check; digits of PLI 10; a number as in D7, as in DC, as in DA
 pub data Form : Type 0 where
-  Carried : Form
+  Checked : Check → Form
   Digits : Marks → Form
   Number Calling Generic : Form
-  Long : ℕ → Form
-  Two : ℕ → Form
+
+abbrev carried : Form
+carried = Checked Nothing
 
 -- a row of the lists: header, the bits of the first octet of its contents that must be 0, and the form
 pub record Head : Type 0 where
@@ -111,53 +121,53 @@ row h z f = record { header = h; zeroes = z; form = f }
 
 abbrev pub heads : List Head
 heads =
-    row 0x41 0xFE Carried ∷  -- charging signal request
-    row 0x42 0xF0 Carried ∷  -- release event
-    row 0x43 0xFE Carried ∷  -- charging signal resend request
-    row 0x44 0xFE Carried ∷  -- channel check
-    row 0x45 0xFE Carried ∷  -- re-control object
-    row 0x46 0xFC Carried ∷  -- initial setting
-    row 0x52 0x30 Carried ∷  -- calling user class
-    row 0x65 0xFE Carried ∷  -- host or mate
-    row 0x66 0x00 Carried ∷  -- network function kind
-    row 0x67 0xF8 Carried ∷  -- charging form
-    row 0x68 0x00 Carried ∷  -- call that met rejection
-    row 0x6C 0x80 Carried ∷  -- function level
-    row 0x6E 0x00 Carried ∷  -- channel request
-    row 0x6F 0xFC Carried ∷  -- ISUP link wish
-    row 0x73 0x00 Carried ∷  -- number of announcements
-    row 0x75 0x00 Carried ∷  -- section MBI
-    row 0x79 0x00 Carried ∷  -- connection result event
-    row 0x7A 0x00 Carried ∷  -- ARE control result event
-    row 0x7C 0x00 Carried ∷  -- order to send charging information
-    row 0x7E 0x00 Carried ∷  -- adjacent network form
+    row 0x41 0xFE carried ∷  -- charging signal request
+    row 0x42 0xF0 carried ∷  -- release event
+    row 0x43 0xFE carried ∷  -- charging signal resend request
+    row 0x44 0xFE carried ∷  -- channel check
+    row 0x45 0xFE carried ∷  -- re-control object
+    row 0x46 0xFC carried ∷  -- initial setting
+    row 0x52 0x30 carried ∷  -- calling user class
+    row 0x65 0xFE carried ∷  -- host or mate
+    row 0x66 0x00 carried ∷  -- network function kind
+    row 0x67 0xF8 carried ∷  -- charging form
+    row 0x68 0x00 carried ∷  -- call that met rejection
+    row 0x6C 0x80 carried ∷  -- function level
+    row 0x6E 0x00 carried ∷  -- channel request
+    row 0x6F 0xFC carried ∷  -- ISUP link wish
+    row 0x73 0x00 carried ∷  -- number of announcements
+    row 0x75 0x00 carried ∷  -- section MBI
+    row 0x79 0x00 carried ∷  -- connection result event
+    row 0x7A 0x00 carried ∷  -- ARE control result event
+    row 0x7C 0x00 carried ∷  -- order to send charging information
+    row 0x7E 0x00 carried ∷  -- adjacent network form
     row 0x90 0x40 (Digits Notified) ∷  -- originating area (KA)
     row 0x91 0x00 (Digits Verified) ∷  -- originating ID
     row 0x95 0x40 (Digits Notified) ∷  -- called terminal
     row 0x98 0x00 (Digits Typed) ∷  -- dialled digits
     row 0xA3 0xC0 (Digits Unmarked) ∷  -- re-control digits
-    row 0xCC 0x00 Carried ∷  -- carriers
-    row 0xCD 0x00 Carried ∷  -- called IN number
-    row 0xCE 0x00 Carried ∷  -- test call
-    row 0xCF 0x00 (Two 0x08) ∷  -- forward call
-    row 0xD3 0x00 Carried ∷  -- called user number
-    row 0xD6 0x00 Carried ∷  -- added user class
+    row 0xCC 0x00 carried ∷  -- carriers
+    row 0xCD 0x00 carried ∷  -- called IN number
+    row 0xCE 0x00 carried ∷  -- test call
+    row 0xCF 0x00 (Checked (Two 0x08)) ∷  -- forward call
+    row 0xD3 0x00 carried ∷  -- called user number
+    row 0xD6 0x00 carried ∷  -- added user class
     row 0xD7 0x00 Number ∷  -- calling user number
-    row 0xD9 0x00 Carried ∷  -- reason why the caller's number is withheld
+    row 0xD9 0x00 carried ∷  -- reason why the caller's number is withheld
     row 0xDA 0x00 Generic ∷  -- generic number
-    row 0xDB 0x00 (Two 0xFC) ∷  -- second network function kind
+    row 0xDB 0x00 (Checked (Two 0xFC)) ∷  -- second network function kind
     row 0xDC 0x00 Calling ∷  -- calling number
-    row 0xE0 0x00 Carried ∷  -- connection order
-    row 0xE9 0x00 Carried ∷  -- rejection control
-    row 0xEA 0x00 Carried ∷  -- signalling point number
-    row 0xEB 0x00 Carried ∷  -- reason
-    row 0xED 0x00 Carried ∷  -- number set by the user
-    row 0xF2 0x00 (Long 4) ∷  -- duration of the call
-    row 0xF4 0x00 Carried ∷  -- notice of charge
-    row 0xF6 0x00 Carried ∷  -- IP number
-    row 0xF7 0x00 Carried ∷  -- charging information
-    row 0xF8 0x00 Carried ∷  -- NSP setting
-    row 0xFD 0x00 Carried ∷ []  -- originating region
+    row 0xE0 0x00 carried ∷  -- connection order
+    row 0xE9 0x00 carried ∷  -- rejection control
+    row 0xEA 0x00 carried ∷  -- signalling point number
+    row 0xEB 0x00 carried ∷  -- reason
+    row 0xED 0x00 carried ∷  -- number set by the user
+    row 0xF2 0x00 (Checked (Long 4)) ∷  -- duration of the call
+    row 0xF4 0x00 carried ∷  -- notice of charge
+    row 0xF6 0x00 carried ∷  -- IP number
+    row 0xF7 0x00 carried ∷  -- charging information
+    row 0xF8 0x00 carried ∷  -- NSP setting
+    row 0xFD 0x00 carried ∷ []  -- originating region
 
 -- the five names without layout: their PLI is free, and nothing is asked of their contents
 abbrev pub freeNames : List ℕ
@@ -183,7 +193,7 @@ oftenOf x = 1
 
 -- a header in no list: no bits asked; digits under PLI 10, unless the name has no layout; else carried
 abbrev unlistedHead : ℕ → Head
-unlistedHead h = row h 0x00 (cond (not (isFree h) && eqb (pliOf h) 2) (Digits Unmarked) Carried)
+unlistedHead h = row h 0x00 (cond (not (isFree h) && eqb (pliOf h) 2) (Digits Unmarked) carried)
 
 abbrev headIn : List Head → ℕ → Head
 headIn [] h = unlistedHead h

@@ -1,12 +1,12 @@
 -- The parameters of a record: document 01, "Writing", what a record holds of each parameter, and the contents that it stands for.
 use Prim.Native.Nat.{ℕ, _+_, _*_, _/_, _%_}
 use mathlib.Core.Bool.{cond}
-use mathlib.Core.List.{List, [], _∷_}
+use mathlib.Core.List.{List, _∷_}
 use lib.Dec.{eqb}
 use lib.ListN.{length, getD, drop}
 use Rattle.annex.specs.Heads.{added-calling-number, Form, Marks, formOf}
 use Rattle.annex.specs.Heads.Marks.{Unmarked, Notified, Verified, Typed}
-use Rattle.annex.specs.Heads.Form.{Carried, Digits, Number, Calling, Generic, Long, Two}
+use Rattle.annex.specs.Heads.Form.{Checked, Digits, Number, Calling, Generic}
 use Rattle.annex.specs.Digits.{digitsOf, packed}
 use Rattle.annex.specs.Contents.{countOf}
 use Rattle.annex.specs.declared.Alphabet.the-variants.{Dialled, Numbered}
@@ -38,13 +38,11 @@ pub data Holding : Type 0 where
   AsNumber AsGeneric : Holding
 
 abbrev pub holdingBy : Form → ℕ → Holding
-holdingBy Carried x = AsContents
+holdingBy (Checked c) x = AsContents
 holdingBy (Digits m) x = AsDigits m
 holdingBy Number x = AsNumber
 holdingBy Calling x = AsNumber
 holdingBy Generic x = cond (eqb x added-calling-number) AsGeneric AsContents
-holdingBy (Long n) x = AsContents
-holdingBy (Two mask) x = AsContents
 
 -- Writing: the header decides how, and for DA the first octet with it
 unfoldable pub holdingOf : ℕ → ℕ → Holding
@@ -142,13 +140,6 @@ heldAs i = holdingOf (i .header) (getD (i .values) 0 0)
 -- the contents of a parameter
 unfoldable pub contentsOf : Item → List ℕ
 contentsOf i = contentsBy (heldAs i) i
-
--- the digits of a parameter, none where it holds its contents
-abbrev pub digitsBy : Holding → Item → List ℕ
-digitsBy AsContents i = []
-digitsBy (AsDigits m) i = i .values
-digitsBy AsNumber i = i .values
-digitsBy AsGeneric i = drop 1 (i .values)
 
 -- ---- what is the parameter's own: marks and fields that it does not have are no part of its value, and are 0
 

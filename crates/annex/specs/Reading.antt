@@ -18,6 +18,8 @@ use Rattle.annex.specs.Answers.{
   repeated-name,
   cut-contents,
   refuse,
+  soundThen,
+  headerAt,
   andThen,
   shifted,
 }
@@ -41,16 +43,9 @@ use Rattle.annex.specs.Contents.{faultOf}
 use Rattle.annex.specs.Items.{Item, Part, itemOf}
 use Rattle.annex.specs.Walk.{Seen, unseen, timesSeen, Par, Step, walk, judging, listing}
 use Rattle.annex.specs.declared.Answer.{Answer}
-use Rattle.annex.specs.declared.Answer.the-variants.{Accepted, Refused}
-use Rattle.annex.specs.declared.Fault.{Fault}
-use Rattle.annex.specs.declared.Fault.the-variants.{Sound, Bad}
+use Rattle.annex.specs.declared.Answer.the-variants.{Accepted}
 
 -- ---- transfer data
-
--- 12 and 13 are placed at the header
-abbrev pub soundThen : Fault → Answer → Answer
-soundThen Sound a = a
-soundThen (Bad k i) a = Refused k 0
 
 -- a transfer parameter whose name stood so many times before: its header and the octets after it, to the end of the transfer data
 unfoldable pub transferOf : ℕ → ℕ → List ℕ → Answer
@@ -60,7 +55,7 @@ transferOf times h xs =
     (refuse (not (pliRight h)) other-pli 0
     (refuse (leb (oftenOf (nameOf h)) times) repeated-name 0
     (refuse (ltb (length xs) n) cut-contents 0
-    (soundThen (faultOf h (contentsIn (extentOf h) (take n xs)))
+    (soundThen (headerAt 0) (faultOf h (contentsIn (extentOf h) (take n xs)))
     (Accepted n)))))
 
 abbrev pub transferStep : Step

@@ -16,10 +16,11 @@ use Rattle.annex.specs.Answers.{
   repeated-name,
   cut-contents,
   bad-form,
-  bad-digit,
   transfer-over,
   no-room,
   refuse,
+  soundThen,
+  headerAt,
   andThen,
   roomAfter,
 }
@@ -37,7 +38,7 @@ use Rattle.annex.specs.Heads.{
 }
 use Rattle.annex.specs.Items.{Item, Part}
 use Rattle.annex.specs.Layout.{layoutItem, layoutPart, layout}
-use Rattle.annex.specs.Allowed.{lengthRight, formRight, digitsRight, valueRight, valueFits, itemsIn, contentsSum}
+use Rattle.annex.specs.Allowed.{lengthRight, faultIn, valueRight, valueFits, itemsIn, contentsSum}
 use Rattle.annex.specs.Walk.{Seen, unseen, timesSeen, counted}
 use Rattle.annex.specs.Reading.{wholeIn}
 use Rattle.annex.specs.Records.{isWhole, view}
@@ -45,16 +46,16 @@ use Rattle.annex.specs.declared.Record.{Record}
 use Rattle.annex.specs.declared.Answer.{Answer}
 use Rattle.annex.specs.declared.Answer.the-variants.{Accepted}
 
--- a transfer parameter whose name stood so many times before, its header at the place p: 8 to 13, or the place behind it
+-- a transfer parameter whose name stood so many times before, its header at the place p: 8 to 11, what is wrong with its values, or the place
+-- behind it
 unfoldable pub itemWriting : ℕ → ℕ → Item → Answer
 itemWriting times p i =
     refuse (not (nameUsed (i .header))) unused-name p
     (refuse (not (pliRight (i .header))) other-pli p
     (refuse (leb (oftenOf (nameOf (i .header))) times) repeated-name p
     (refuse (not (lengthRight i)) cut-contents p
-    (refuse (not (formRight i)) bad-form p
-    (refuse (not (digitsRight i)) bad-digit p
-    (Accepted (p + length (layoutItem i))))))))
+    (soundThen (headerAt p) (faultIn i)
+    (Accepted (p + length (layoutItem i)))))))
 
 -- transfer parameters from the place p on, or the place behind them
 unfoldable pub itemsWriting : Seen → ℕ → List Item → Answer

@@ -28,6 +28,8 @@ use Rattle.annex.specs.Answers.{
   placeOf,
   givenOf,
   refuse,
+  soundThen,
+  headerAt,
   andThen,
   shifted,
   classValueOf,
@@ -42,7 +44,6 @@ use Rattle.annex.specs.Layout.{layoutItems, layout}
 use Rattle.annex.specs.Allowed.{every, isOctet, headersOf, itemsIn, namesOf, timesIn}
 use Rattle.annex.specs.Walk.{Seen, unseen, timesSeen, counted, Step, byStep, walk, judging}
 use Rattle.annex.specs.Reading.{
-  soundThen,
   transferOf,
   transferStep,
   transfersVerdict,
@@ -123,9 +124,9 @@ place-then : (a : Answer) (f : ℕ → Answer) (n : ℕ) → placeOf a ≤ n →
 place-then (Accepted q) f n u g = g q
 place-then (Refused j p) f n u g = u
 
-place-sound : (f : Fault) (n k : ℕ) → placeOf (soundThen f (Accepted n)) ≤ k
-place-sound Sound n k = omega arith
-place-sound (Bad j i) n k = omega arith
+place-sound : (place : ℕ → ℕ → ℕ) (f : Fault) (n k : ℕ) → ((j i : ℕ) → f ≡ Bad j i → place j i ≤ k) → placeOf (soundThen place f (Accepted n)) ≤ k
+place-sound place Sound n k h = omega arith
+place-sound place (Bad j i) n k h = h j i refl
 
 place-cond : (b : Bool) (a c : Answer) (n : ℕ) → placeOf a ≤ n → placeOf c ≤ n → placeOf (cond b a c) ≤ n
 place-cond true a c n h l = h
@@ -158,7 +159,7 @@ unfolding transferOf
 transfer-place seen h xs =
     let n = afterOf (extentOf h) (getD xs 0 0) in
     let f = faultOf h (contentsIn (extentOf h) (take n xs)) in
-    place-four (not (nameUsed h)) (not (pliRight h)) (leb (oftenOf (nameOf h)) (timesSeen seen h)) (ltb (length xs) n) unused-name other-pli repeated-name cut-contents (0 + length xs) (soundThen f (Accepted n)) (place-sound f n (0 + length xs))
+    place-four (not (nameUsed h)) (not (pliRight h)) (leb (oftenOf (nameOf h)) (timesSeen seen h)) (ltb (length xs) n) unused-name other-pli repeated-name cut-contents (0 + length xs) (soundThen (headerAt 0) f (Accepted n)) (place-sound (headerAt 0) f n (0 + length xs) (λ j i e. omega arith))
 
 transfers-upto : (t : List ℕ) → Upto (length t) (transfersVerdict t)
 unfolding transfersVerdict
@@ -240,7 +241,7 @@ new-place new =
     let h = newHeader new in
     let xs = newAfter new in
     let f = faultOf h (contentsIn (extentOf h) xs) in
-    place-refuse (not (eqb (length xs) (afterOf (extentOf h) (getD xs 0 0)))) cut-contents 0 274 (soundThen f (Accepted 0)) (omega arith) (place-sound f 0 274)
+    place-refuse (not (eqb (length xs) (afterOf (extentOf h) (getD xs 0 0)))) cut-contents 0 274 (soundThen (headerAt 0) f (Accepted 0)) (omega arith) (place-sound (headerAt 0) f 0 274 (λ j i e. omega arith))
 
 edit-place : (e : Edit) (is : List Item) → placeOf (editRefusal e is) ≤ 274
 unfolding editRefusal

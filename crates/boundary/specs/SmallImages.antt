@@ -18,10 +18,11 @@ use Rattle.annex.specs.Answers.{
   repeated-name,
   cut-contents,
   bad-form,
-  bad-digit,
   transfer-over,
   no-room,
   refuse,
+  soundThen,
+  headerAt,
   andThen,
 }
 use Rattle.annex.specs.Units.{nameOf, extentOf}
@@ -39,7 +40,7 @@ use Rattle.annex.specs.Heads.{
 }
 use Rattle.annex.specs.Items.{Item, Part}
 use Rattle.annex.specs.Layout.{callOctets, dataOctets, layoutItem, layoutItems, layoutPart, layout}
-use Rattle.annex.specs.Allowed.{every, isOctet, lengthRight, formRight, digitsRight, valueRight, valueFits, itemsIn, contentsSum}
+use Rattle.annex.specs.Allowed.{every, isOctet, lengthRight, faultIn, valueRight, valueFits, itemsIn, contentsSum}
 use Rattle.annex.specs.Walk.{Seen, unseen, timesSeen, counted}
 use Rattle.annex.specs.Reading.{wholeIn, verdictOf, recordOf}
 use Rattle.annex.specs.Records.{pack, isWhole, view}
@@ -59,6 +60,8 @@ use Rattle.annex.specs.Image.Front.{Taken, Short}
 use Rattle.annex.specs.Packed.{imageReading, imageWriting}
 use Rattle.annex.specs.declared.Answer.{Answer}
 use Rattle.annex.specs.declared.Answer.the-variants.{Accepted, Refused}
+use Rattle.annex.specs.declared.Fault.{Fault}
+use Rattle.annex.specs.declared.Fault.the-variants.{Sound, Bad}
 use Rattle.annex.specs.declared.Record.{Record}
 use Rattle.laws.specs.Laid.{length-layout, lead-small}
 use Rattle.theorems.specs.Messages.{read-then-laid}
@@ -88,14 +91,19 @@ upto-three : (a b c : Bool) (i j k p n : ℕ) (rest : Answer) → p ≤ n → Up
 upto-three a b c i j k p n rest h u =
     upto-refuse a i p n (refuse b j p (refuse c k p rest)) h (upto-refuse b j p n (refuse c k p rest) h (upto-refuse c k p n rest h u))
 
+upto-sound : (place : ℕ → ℕ → ℕ) (f : Fault) (n : ℕ) → ((j i : ℕ) → f ≡ Bad j i → place j i ≤ n) → Upto n (soundThen place f (Accepted n))
+upto-sound place Sound n h = (omega arith, omega arith)
+upto-sound place (Bad k i) n h = (h k i refl, omega arith)
+
 -- no place is behind the octets that are written
 item-upto : (times p : ℕ) (i : Item) → Upto (p + length (layoutItem i)) (itemWriting times p i)
 unfolding itemWriting
 item-upto times p i =
     let n = p + length (layoutItem i) in
-    let late = refuse (not (lengthRight i)) cut-contents p (refuse (not (formRight i)) bad-form p (refuse (not (digitsRight i)) bad-digit p (Accepted n))) in
+    let sound = soundThen (headerAt p) (faultIn i) (Accepted n) in
+    let late = refuse (not (lengthRight i)) cut-contents p sound in
     upto-three (not (nameUsed (i .header))) (not (pliRight (i .header))) (leb (oftenOf (nameOf (i .header))) times) unused-name other-pli repeated-name p n late (omega arith)
-    (upto-three (not (lengthRight i)) (not (formRight i)) (not (digitsRight i)) cut-contents bad-form bad-digit p n (Accepted n) (omega arith) (omega arith, omega arith))
+    (upto-refuse (not (lengthRight i)) cut-contents p n sound (omega arith) (upto-sound (headerAt p) (faultIn i) n (λ j k e. omega arith)))
 
 items-upto : (is : List Item) (seen : Seen) (p : ℕ) → Upto (p + length (layoutItems is)) (itemsWriting seen p is)
 unfolding itemsWriting layoutItems

@@ -7,13 +7,13 @@ use lib.Bits.{and-zero-r}
 use lib.Dec.{eqb}
 use borrow.Author.Tests.{eqb-true, eq-eqb}
 use Rattle.annex.specs.Units.{extentOf}
-use Rattle.annex.specs.Heads.{Form, Marks, pliRight, zeroesOf, formOf}
+use Rattle.annex.specs.Heads.{Form, Marks, calling-number, pliRight, zeroesOf, formOf}
 use Rattle.annex.specs.Heads.Marks.{Unmarked, Notified, Verified, Typed}
-use Rattle.annex.specs.Heads.Form.{Carried, Digits, Number, Calling, Generic, Long, Two}
+use Rattle.annex.specs.Heads.Form.{Checked, Digits, Number, Calling, Generic}
 use Rattle.annex.specs.Contents.{clear}
 use Rattle.annex.specs.declared.Extent.{Extent}
 use Rattle.annex.specs.declared.Extent.the-variants.{Fixed, CountOctet, LengthOctet}
-use Rattle.laws.specs.Bools.{T-true, and-left, and-right}
+use Rattle.laws.specs.Bools.{T-true, same, same→eq, and-left, and-right}
 use Rattle.laws.specs.Octet.{range}
 
 -- the bits of a count octet that its marks leave 0
@@ -28,15 +28,13 @@ isCounted (Fixed n) = false
 isCounted CountOctet = true
 isCounted LengthOctet = false
 
--- digits have a count octet, and its zero bits are those that the marks leave; only carried contents have other zero bits
+-- digits have a count octet, and its zero bits are those that the marks leave; a number has none; contents held as they are have any
 abbrev pub rowFits : Form → ℕ → Extent → Bool
-rowFits Carried zeroes e = true
+rowFits (Checked c) zeroes e = true
 rowFits (Digits m) zeroes e = isCounted e && eqb zeroes (zeroesFor m)
 rowFits Number zeroes e = eqb zeroes 0
 rowFits Calling zeroes e = eqb zeroes 0
 rowFits Generic zeroes e = eqb zeroes 0
-rowFits (Long n) zeroes e = eqb zeroes 0
-rowFits (Two mask) zeroes e = eqb zeroes 0
 
 rowTest : ℕ → Bool
 rowTest h = not (pliRight h) || rowFits (formOf h) (zeroesOf h) (extentOf h)
@@ -64,3 +62,16 @@ digits-row m zeroes e t =
 -- no bits asked, none set
 pub none-asked : (zeroes x : ℕ) → eqb zeroes 0 ≡ true → clear zeroes x ≡ true
 none-asked zeroes x t = rw (eqb-true zeroes 0 t) (eq-eqb _ _ (and-zero-r x))
+
+-- a calling number
+abbrev pub isCalling : Form → Bool
+isCalling (Checked c) = false
+isCalling (Digits m) = false
+isCalling Number = false
+isCalling Calling = true
+isCalling Generic = false
+
+-- only DC is one
+pub one-calling : (h : ℕ) → h < 256 → eqb h calling-number ≡ isCalling (formOf h)
+unfolding formOf
+one-calling h l = same→eq _ _ (range (λ k. same (eqb k calling-number) (isCalling (formOf k))) 0 256 tt h (omega arith) l)

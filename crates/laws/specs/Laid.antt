@@ -2,20 +2,18 @@
 use Prim.Native.Nat.{ℕ, zero, suc, _+_, _*_, _≤_, _<_}
 use native.Mathlib.Omega.{arith}
 use mathlib.Core.Path.{_≡_, refl, ap}
-use mathlib.Core.Bool.{Bool, true, false, cond}
+use mathlib.Core.Bool.{true}
 use mathlib.Core.List.{List, [], _∷_, map}
-use lib.Dec.{eqb}
 use lib.ListN.{length, getD, length-map, List·getD-eq-default}
 use borrow.Author.Tests.{eqb-true, leb-true}
 use Rattle.annex.specs.Units.{pliOf, afterOf, leadOf, transferByPli, extentOf}
-use Rattle.annex.specs.Heads.{Form, formOf, most-transfer-octets}
+use Rattle.annex.specs.Heads.{most-transfer-octets}
 use Rattle.annex.specs.Heads.Marks.{Unmarked, Notified, Verified, Typed}
-use Rattle.annex.specs.Heads.Form.{Carried, Digits, Number, Calling, Generic, Long, Two}
 use Rattle.annex.specs.Digits.{joined, codeOf, packed}
-use Rattle.annex.specs.Items.{Item, Holding, holdingBy, holdingOf, contentsBy, heldAs, contentsOf, digitsBy, ownBy, ownOf}
+use Rattle.annex.specs.Items.{Item, Holding, contentsBy, heldAs, contentsOf, ownBy, ownOf}
 use Rattle.annex.specs.Items.Holding.{AsContents, AsDigits, AsNumber, AsGeneric}
 use Rattle.annex.specs.Layout.{ledBy, layoutItem}
-use Rattle.annex.specs.Allowed.{every, isOctet, HeldItem, lengthFits, lengthBy, lengthRight, formBy, formRight, digitsRight}
+use Rattle.annex.specs.Allowed.{every, isOctet, HeldItem, lengthFits, lengthBy, lengthRight, faultAs, faultIn}
 use Rattle.annex.specs.Writing.{itemWriting}
 use Rattle.annex.specs.declared.Alphabet.{Alphabet}
 use Rattle.annex.specs.declared.Alphabet.the-variants.{Dialled}
@@ -52,12 +50,6 @@ contents-by (AsDigits Typed) i = refl
 contents-by AsNumber i = refl
 contents-by AsGeneric i = refl
 
-digits-by : (k : Holding) (i : Item) → digitsBy k (ownBy k i) ≡ digitsBy k i
-digits-by AsContents i = refl
-digits-by (AsDigits m) i = values-by (AsDigits m) i
-digits-by AsNumber i = refl
-digits-by AsGeneric i = refl
-
 again-by : (k : Holding) (i : Item) → ownBy k (ownBy k i) ≡ ownBy k i
 again-by AsContents i = refl
 again-by (AsDigits Unmarked) i = refl
@@ -67,21 +59,14 @@ again-by (AsDigits Typed) i = refl
 again-by AsNumber i = refl
 again-by AsGeneric i = refl
 
-form-by : (f : Form) (i : Item) → formBy f (ownBy (holdingBy f (getD (i .values) 0 0)) i) ≡ formBy f i
-form-by Carried i = refl
-form-by (Digits Unmarked) i = refl
-form-by (Digits Notified) i = refl
-form-by (Digits Verified) i = refl
-form-by (Digits Typed) i = refl
-form-by Number i = refl
-form-by Calling i = refl
-form-by Generic i = go (eqb (getD (i .values) 0 0) 6) refl
-  where
-    go : (b : Bool) → eqb (getD (i .values) 0 0) 6 ≡ b → formBy Generic (ownBy (cond b AsGeneric AsContents) i) ≡ formBy Generic i
-    go true e = refl
-    go false e = rw e
-form-by (Long n) i = refl
-form-by (Two mask) i = refl
+fault-by : (k : Holding) (i : Item) → faultAs k (ownBy k i) ≡ faultAs k i
+fault-by AsContents i = refl
+fault-by (AsDigits Unmarked) i = refl
+fault-by (AsDigits Notified) i = refl
+fault-by (AsDigits Verified) i = refl
+fault-by (AsDigits Typed) i = refl
+fault-by AsNumber i = refl
+fault-by AsGeneric i = refl
 
 module _ (i : Item) where
   pub own-header : ownOf i .header ≡ i .header
@@ -113,17 +98,13 @@ module _ (i : Item) where
       go AsNumber = rw (own-contents, own-header)
       go AsGeneric = rw (own-contents, own-header)
 
-  own-form : formRight (ownOf i) ≡ formRight i
-  unfolding formRight holdingOf ownOf
-  own-form = rw own-header (form-by (formOf (i .header)) i)
-
-  own-digits : digitsRight (ownOf i) ≡ digitsRight i
-  unfolding digitsRight ownOf
-  own-digits = rw (own-held, digits-by (heldAs i) i)
+  own-fault : faultIn (ownOf i) ≡ faultIn i
+  unfolding faultIn ownOf
+  own-fault = rw own-held (fault-by (heldAs i) i)
 
   pub own-writing : (times p : ℕ) → itemWriting times p (ownOf i) ≡ itemWriting times p i
   unfolding itemWriting
-  own-writing times p = rw (own-length, own-form, own-digits, own-layout, own-header)
+  own-writing times p = rw (own-length, own-fault, own-layout, own-header)
 
 -- what is its own is held as a record holds it
 pub own-held-item : (i : Item) → i .header < 256 → every isOctet (i .values) ≡ true → HeldItem (ownOf i)

@@ -5,26 +5,42 @@ use native.Mathlib.Omega.{arith}
 use mathlib.Core.Path.{_≡_, refl, sym, ap, _∙_}
 use mathlib.Core.List.{List, [], _∷_}
 use mathlib.Core.Bool.{Bool, true, false, cond, not, _&&_}
-use lib.Dec.{eqb, leb}
+use lib.Dec.{eqb}
 use lib.ListN.{length, getD, drop}
-use borrow.Author.Tests.{eqb-true, eqb-false, leb-true, le-leb, ne-eqb, not-true}
+use borrow.Author.Tests.{eqb-true, ne-eqb}
 use Rattle.annex.specs.Units.{extentOf}
-use Rattle.annex.specs.Heads.{Form, pliRight, zeroesOf, formOf}
+use Rattle.annex.specs.Heads.{Check, Form, calling-number, pliRight, zeroesOf, formOf}
 use Rattle.annex.specs.Heads.Marks.{Unmarked, Notified, Verified, Typed}
-use Rattle.annex.specs.Heads.Form.{Carried, Digits, Number, Calling, Generic, Long, Two}
-use Rattle.annex.specs.Digits.{isDigit, packed}
-use Rattle.annex.specs.Contents.{clear, numberFault, genericFault, twoFault, faultBy, faultOf}
-use Rattle.annex.specs.Items.{Item, Holding, holdingBy, holdingOf, openBy, itemOf, numberContents, contentsBy, heldAs, contentsOf, digitsBy, ownBy, ownOf}
+use Rattle.annex.specs.Heads.Form.{Checked, Digits, Number, Calling, Generic}
+use Rattle.annex.specs.Digits.{packed}
+use Rattle.annex.specs.Contents.{clear, numberFault, genericFault, faultBy, faultOf}
+use Rattle.annex.specs.Items.{Item, Holding, holdingBy, holdingOf, plainItem, openBy, itemOf, numberContents, contentsBy, heldAs, contentsOf, ownBy, ownOf}
 use Rattle.annex.specs.Items.Holding.{AsContents, AsDigits, AsNumber, AsGeneric}
-use Rattle.annex.specs.Allowed.{every, isOctet, lengthFits, lengthBy, fieldsRight, withheldRight, lengthRight, formBy, formRight, digitsRight, HeldItem}
+use Rattle.annex.specs.Allowed.{every, isOctet, lengthFits, lengthBy, marksRight, fieldsRight, withheldRight, numberRight, lengthRight, faultAs, faultIn, HeldItem}
 use Rattle.annex.specs.declared.Alphabet.the-variants.{Numbered}
 use Rattle.annex.specs.declared.Fault.the-variants.{Sound}
 use Rattle.laws.specs.Bools.{and-left, and-right, and-both}
-use Rattle.laws.specs.Faults.{formed-sound, then-sound}
-use Rattle.laws.specs.Headers.{rowFits, row-fits, digits-row, none-asked}
+use Rattle.laws.specs.Faults.{then-sound, values-sound, sound-values}
+use Rattle.laws.specs.Headers.{rowFits, row-fits, digits-row, none-asked, isCalling, one-calling}
 use Rattle.laws.specs.Joined.{digits-octets}
 use Rattle.laws.specs.Counted.{counted-open, counted-closed}
 use Rattle.laws.specs.Numbers.{NumberOpen, number-open, NumberClosed, number-closed, calling-open, calling-closed}
+
+-- ---- contents held as they are
+
+-- whatever is checked of them: the parameter's values are its contents, its fault is theirs, and they open to their values
+pub record AsTheyAre (i : Item) : Type 0 where
+  pub contents : contentsOf i ≡ i .values
+  pub fault : faultIn i ≡ faultOf (i .header) (i .values)
+  pub opens : itemOf (i .header) (i .values) ≡ plainItem (i .header) (i .values)
+
+pub as-they-are : (i : Item) → heldAs i ≡ AsContents → AsTheyAre i
+unfolding contentsOf faultIn itemOf
+as-they-are i e = record { contents = rw e; fault = rw e; opens = rw e }
+
+pub checked-held : (c : Check) (i : Item) → formOf (i .header) ≡ Checked c → heldAs i ≡ AsContents
+unfolding holdingOf
+checked-held c i e = rw e
 
 -- ---- from contents to a parameter
 
@@ -33,8 +49,7 @@ pub record Opened (h : ℕ) (s : List ℕ) : Type 0 where
   pub contents : contentsOf (itemOf h s) ≡ s
   pub held : HeldItem (itemOf h s)
   pub length-right : lengthRight (itemOf h s) ≡ true
-  pub form-right : formRight (itemOf h s) ≡ true
-  pub digits-right : digitsRight (itemOf h s) ≡ true
+  pub faultless : faultIn (itemOf h s) ≡ Sound
 
 -- the same by the form f of the header and the holding k
 record OpenAs (f : Form) (k : Holding) (h : ℕ) (s : List ℕ) : Type 0 where
@@ -42,14 +57,13 @@ record OpenAs (f : Form) (k : Holding) (h : ℕ) (s : List ℕ) : Type 0 where
   contents : contentsBy k (openBy k h s) ≡ s
   octets : every isOctet (openBy k h s .values) ≡ true
   fits : contentsOf (openBy k h s) ≡ s → lengthBy k (openBy k h s) ≡ true
-  right : formBy f (openBy k h s) ≡ true
-  digits : every isDigit (digitsBy k (openBy k h s)) ≡ true
+  faultless : faultAs k (openBy k h s) ≡ Sound
 
--- held as its contents, and as a number
-open-plain : (f : Form) (h : ℕ) (s : List ℕ) → holdingBy f (getD s 0 0) ≡ AsContents → every isOctet s ≡ true → lengthFits (extentOf h) s ≡ true → formBy f (openBy AsContents h s) ≡ true → OpenAs f AsContents h s
-open-plain f h s k o l r = record { kept = k; contents = refl; octets = o; fits = λ c. rw c l; right = r; digits = refl }
+-- held as its contents, whatever is checked of them; and as a number
+open-plain : (f : Form) (h : ℕ) (s : List ℕ) → holdingBy f (getD s 0 0) ≡ AsContents → every isOctet s ≡ true → lengthFits (extentOf h) s ≡ true → faultOf h s ≡ Sound → OpenAs f AsContents h s
+open-plain f h s k o l g = record { kept = k; contents = refl; octets = o; fits = λ c. rw c l; faultless = g }
 
-open-number : (f : Form) (h : ℕ) (s : List ℕ) → ((x : ℕ) → holdingBy f x ≡ AsNumber) → lengthFits (extentOf h) s ≡ true → NumberOpen s → formBy f (openBy AsNumber h s) ≡ true → OpenAs f AsNumber h s
+open-number : (f : Form) (h : ℕ) (s : List ℕ) → ((x : ℕ) → holdingBy f x ≡ AsNumber) → lengthFits (extentOf h) s ≡ true → NumberOpen s → numberRight (openBy AsNumber h s) ≡ true → OpenAs f AsNumber h s
 open-number f h s k l n r =
     let vs = openBy AsNumber h s .values in
     record {
@@ -57,56 +71,51 @@ open-number f h s k l n r =
       contents = n .contents h vs;
       octets = digits-octets vs (n .digits);
       fits = λ c. rw c l;
-      right = r;
-      digits = n .digits;
+      faultless = values-sound (numberRight (openBy AsNumber h s)) vs r (n .digits);
     }
 
 -- DA, by its first octet
-open-generic : (v : Bool) (h : ℕ) (s : List ℕ) → eqb (getD s 0 0) 6 ≡ v → not (eqb (length s) 0) ≡ true → every isOctet s ≡ true → lengthFits (extentOf h) s ≡ true → cond v (numberFault 1 (drop 1 s)) Sound ≡ Sound → OpenAs Generic (cond v AsGeneric AsContents) h s
-open-generic true h [] e t o l g = absurd (let z : _≡_ {A = ℕ} 0 1 = cc in omega arith)
-open-generic true h (x ∷ s) e t o l g =
+open-generic : (v : Bool) (h : ℕ) (s : List ℕ) → eqb (getD s 0 0) 6 ≡ v → not (eqb (length s) 0) ≡ true → every isOctet s ≡ true → lengthFits (extentOf h) s ≡ true → cond v (numberFault 1 (drop 1 s)) Sound ≡ Sound → faultOf h s ≡ Sound → OpenAs Generic (cond v AsGeneric AsContents) h s
+open-generic true h [] e t o l g w = absurd (let z : _≡_ {A = ℕ} 0 1 = cc in omega arith)
+open-generic true h (x ∷ s) e t o l g w =
     let n = number-open 1 s (and-right (isOctet x) (every isOctet s) o) g in
-    let vs = openBy AsGeneric h (x ∷ s) .values in
+    let i = openBy AsGeneric h (x ∷ s) in
     let ds = openBy AsNumber h s .values in
     record {
       kept = refl;
-      contents = rw (n .contents h vs) (ap (λ y. y ∷ s) (sym (eqb-true x 6 e)));
+      contents = rw (n .contents h (i .values)) (ap (λ y. y ∷ s) (sym (eqb-true x 6 e)));
       octets = digits-octets ds (n .digits);
       fits = λ c. rw c l;
-      right = rw (le-leb 1 (suc (length ds)) (omega arith)) (n .right h vs);
-      digits = n .digits;
+      faultless = values-sound (fieldsRight i) ds (n .right h (i .values)) (n .digits);
     }
-open-generic false h s e t o l g =
-    open-plain Generic h s (rw e) o l (rw (e, le-leb 1 (length s) (omega (arith, eqb-false (length s) 0 (not-true (eqb (length s) 0) t)))))
+open-generic false h s e t o l g w = open-plain Generic h s (rw e) o l w
 
--- each form
-opens-by : (f : Form) (h : ℕ) (s : List ℕ) → every isOctet s ≡ true → rowFits f (zeroesOf h) (extentOf h) ≡ true → lengthFits (extentOf h) s ≡ true → clear (zeroesOf h) (getD s 0 0) ≡ true → faultBy f s ≡ Sound → OpenAs f (holdingBy f (getD s 0 0)) h s
-unfolding twoFault genericFault
-opens-by Carried h s o t l c g = open-plain Carried h s refl o l c
-opens-by (Digits m) h s o t l c g =
-    let q = digits-row m (zeroesOf h) (extentOf h) t in
-    let w = counted-open m h s o (rw (q .0) at l) (rw (q .1) at c) g in
+-- each form; what is held as its contents needs to know nothing of its check
+opens-by : (f : Form) (h : ℕ) (s : List ℕ) → every isOctet s ≡ true → rowFits f (zeroesOf h) (extentOf h) ≡ true → eqb h calling-number ≡ isCalling f → lengthFits (extentOf h) s ≡ true → clear (zeroesOf h) (getD s 0 0) ≡ true → faultBy f s ≡ Sound → faultOf h s ≡ Sound → OpenAs f (holdingBy f (getD s 0 0)) h s
+unfolding genericFault
+opens-by (Checked x) h s o t q l c g w = open-plain (Checked x) h s refl o l w
+opens-by (Digits m) h s o t q l c g w =
+    let r = digits-row m (zeroesOf h) (extentOf h) t in
+    let n = counted-open m h s o (rw (r .0) at l) (rw (r .1) at c) g in
+    let i = openBy (AsDigits m) h s in
     record {
       kept = refl;
-      contents = w .contents;
-      octets = digits-octets (openBy (AsDigits m) h s .values) (w .digits);
-      fits = λ k. w .few;
-      right = w .right;
-      digits = w .digits;
+      contents = n .contents;
+      octets = digits-octets (i .values) (n .digits);
+      fits = λ k. n .few;
+      faultless = values-sound (marksRight m i) (i .values) (n .right) (n .digits);
     }
-opens-by Number h s o t l c g =
+opens-by Number h s o t q l c g w =
     let n = number-open 0 s o g in
-    open-number Number h s (λ x. refl) l n (n .right h (openBy AsNumber h s .values))
-opens-by Calling h s o t l c g =
+    open-number Number h s (λ x. refl) l n (rw q (and-both _ _ (n .right h (openBy AsNumber h s .values)) refl))
+opens-by Calling h s o t q l c g w =
     let k = calling-open h s g in
     let n = number-open 0 s o (k .number) in
-    open-number Calling h s (λ x. refl) l n (and-both _ _ (n .right h (openBy AsNumber h s .values)) (k .withheld))
-opens-by Generic h s o t l c g =
-    let w = cond (eqb (getD s 0 0) 6) (numberFault 1 (drop 1 s)) Sound in
-    let p = then-sound (not (eqb (length s) 0)) w g in
-    open-generic (eqb (getD s 0 0) 6) h s refl (p .0) o l (p .1)
-opens-by (Long n) h s o t l c g = open-plain (Long n) h s refl o l (formed-sound _ g)
-opens-by (Two mask) h s o t l c g = open-plain (Two mask) h s refl o l (formed-sound _ g)
+    open-number Calling h s (λ x. refl) l n (rw q (and-both _ _ (n .right h (openBy AsNumber h s .values)) (k .withheld)))
+opens-by Generic h s o t q l c g w =
+    let n = cond (eqb (getD s 0 0) 6) (numberFault 1 (drop 1 s)) Sound in
+    let p = then-sound (not (eqb (length s) 0)) n g in
+    open-generic (eqb (getD s 0 0) 6) h s refl (p .0) o l (p .1) w
 
 -- a parameter opened keeps its header, and has nothing that is not its own
 open-header : (k : Holding) (h : ℕ) (s : List ℕ) → openBy k h s .header ≡ h
@@ -137,7 +146,7 @@ unfolding holdingOf
 holding-of f i e = rw e
 
 opened-by : (f : Form) (h : ℕ) (s : List ℕ) → formOf h ≡ f → h < 256 → OpenAs f (holdingBy f (getD s 0 0)) h s → Opened h s
-unfolding contentsOf lengthRight formRight digitsRight ownOf
+unfolding contentsOf lengthRight faultIn ownOf
 opened-by f h s e l w =
     let k = holdingBy f (getD s 0 0) in
     let i = openBy k h s in
@@ -151,8 +160,7 @@ opened-by f h s e l w =
       contents = rw q d;
       held = rw q (record { octet = rw a l; octets = w .octets; own = rw c (open-own k h s) });
       length-right = rw (q, c) (w .fits d);
-      form-right = rw (q, b) (w .right);
-      digits-right = rw (q, c) (w .digits);
+      faultless = rw (q, c) (w .faultless);
     }
 
 -- what is sound opens to an allowed parameter with the same contents
@@ -160,7 +168,7 @@ pub opened : (h : ℕ) (s : List ℕ) → h < 256 → every isOctet s ≡ true �
 unfolding faultOf
 opened h s b o p l g =
     let t = then-sound (clear (zeroesOf h) (getD s 0 0)) (faultBy (formOf h) s) g in
-    opened-by (formOf h) h s refl b (opens-by (formOf h) h s o (row-fits h b p) l (t .0) (t .1))
+    opened-by (formOf h) h s refl b (opens-by (formOf h) h s o (row-fits h b p) (one-calling h b) l (t .0) (t .1) g)
 
 -- ---- from a parameter to its contents
 
@@ -174,23 +182,26 @@ pub record Closed (i : Item) : Type 0 where
 record CloseAs (f : Form) (k : Holding) (i : Item) : Type 0 where
   kept : holdingBy f (getD (contentsBy k i) 0 0) ≡ k
   fits : lengthFits (extentOf (i .header)) (contentsBy k i) ≡ true
-  clears : clear (zeroesOf (i .header)) (getD (contentsBy k i) 0 0) ≡ true
-  sound : faultBy f (contentsBy k i) ≡ Sound
+  sound : faultOf (i .header) (contentsBy k i) ≡ Sound
   opens : openBy k (i .header) (contentsBy k i) ≡ ownBy k i
   octets : every isOctet (contentsBy k i) ≡ true
 
--- held as its contents, and as a number
-close-plain : (f : Form) (i : Item) → holdingBy f (getD (i .values) 0 0) ≡ AsContents → every isOctet (i .values) ≡ true → lengthFits (extentOf (i .header)) (i .values) ≡ true → clear (zeroesOf (i .header)) (getD (i .values) 0 0) ≡ true → faultBy f (i .values) ≡ Sound → CloseAs f AsContents i
-close-plain f i k o l c g = record { kept = k; fits = l; clears = c; sound = g; opens = refl; octets = o }
+-- no fault by the header's row
+sound-by : (f : Form) (h : ℕ) (s : List ℕ) → formOf h ≡ f → clear (zeroesOf h) (getD s 0 0) ≡ true → faultBy f s ≡ Sound → faultOf h s ≡ Sound
+unfolding faultOf
+sound-by f h s e c g = rw (c, e) g
 
-close-number : (f : Form) (i : Item) → ((x : ℕ) → holdingBy f x ≡ AsNumber) → eqb (zeroesOf (i .header)) 0 ≡ true → lengthFits (extentOf (i .header)) (numberContents i (i .values)) ≡ true → NumberClosed i (i .values) → faultBy f (numberContents i (i .values)) ≡ Sound → CloseAs f AsNumber i
-close-number f i k z l n g =
-    let x = getD (numberContents i (i .values)) 0 0 in
+-- held as its contents, whatever is checked of them; and as a number
+close-plain : (f : Form) (i : Item) → holdingBy f (getD (i .values) 0 0) ≡ AsContents → every isOctet (i .values) ≡ true → lengthFits (extentOf (i .header)) (i .values) ≡ true → faultOf (i .header) (i .values) ≡ Sound → CloseAs f AsContents i
+close-plain f i k o l g = record { kept = k; fits = l; sound = g; opens = refl; octets = o }
+
+close-number : (f : Form) (i : Item) → formOf (i .header) ≡ f → ((x : ℕ) → holdingBy f x ≡ AsNumber) → eqb (zeroesOf (i .header)) 0 ≡ true → lengthFits (extentOf (i .header)) (numberContents i (i .values)) ≡ true → NumberClosed i (i .values) → faultBy f (numberContents i (i .values)) ≡ Sound → CloseAs f AsNumber i
+close-number f i e k z l n g =
+    let s = numberContents i (i .values) in
     record {
-      kept = k x;
+      kept = k (getD s 0 0);
       fits = l;
-      clears = none-asked (zeroesOf (i .header)) x z;
-      sound = g;
+      sound = sound-by f (i .header) s e (none-asked (zeroesOf (i .header)) (getD s 0 0) z) g;
       opens = rw (n .digits) (n .opens);
       octets = n .octets;
     }
@@ -201,61 +212,57 @@ first-put x [] e = absurd (omega arith)
 first-put x (v ∷ vs) e = ap (λ y. y ∷ vs) (sym e)
 
 -- DA, by its first value
-close-generic : (v : Bool) (i : Item) → eqb (getD (i .values) 0 0) 6 ≡ v → eqb (zeroesOf (i .header)) 0 ≡ true → every isOctet (i .values) ≡ true → lengthFits (extentOf (i .header)) (contentsBy (cond v AsGeneric AsContents) i) ≡ true → leb 1 (length (i .values)) && cond v (fieldsRight i) true ≡ true → every isDigit (digitsBy (cond v AsGeneric AsContents) i) ≡ true → CloseAs Generic (cond v AsGeneric AsContents) i
+close-generic : (v : Bool) (i : Item) → eqb (getD (i .values) 0 0) 6 ≡ v → formOf (i .header) ≡ Generic → eqb (zeroesOf (i .header)) 0 ≡ true → every isOctet (i .values) ≡ true → lengthFits (extentOf (i .header)) (contentsBy (cond v AsGeneric AsContents) i) ≡ true → faultAs (cond v AsGeneric AsContents) i ≡ Sound → CloseAs Generic (cond v AsGeneric AsContents) i
 unfolding genericFault
-close-generic true i e z o l r d =
+close-generic true i e f z o l g =
     let ds = drop 1 (i .values) in
-    let n = number-closed i ds (and-right (leb 1 (length (i .values))) (fieldsRight i) r) d in
+    let s = contentsBy AsGeneric i in
+    let w = sound-values (fieldsRight i) ds g in
+    let n = number-closed i ds (w .0) (w .1) in
     record {
       kept = refl;
       fits = l;
-      clears = none-asked (zeroesOf (i .header)) 6 z;
-      sound = rw (ne-eqb (suc (suc (suc (length (packed Numbered ds))))) 0 (λ q. omega arith)) (n .sound 1);
+      sound =
+          sound-by Generic (i .header) s f (none-asked (zeroesOf (i .header)) 6 z)
+          (rw (ne-eqb (suc (suc (suc (length (packed Numbered ds))))) 0 (λ q. omega arith)) (n .sound 1));
       opens = rw (n .digits, first-put 5 (i .values) (eqb-true (getD (i .values) 0 0) 6 e)) (n .opens);
       octets = n .octets;
     }
-close-generic false i e z o l r d =
-    let some = leb-true 1 (length (i .values)) (and-left (leb 1 (length (i .values))) true r) in
-    close-plain Generic i (rw e) o l (none-asked (zeroesOf (i .header)) (getD (i .values) 0 0) z)
-    (rw (ne-eqb (length (i .values)) 0 (λ q. omega arith), e))
+close-generic false i e f z o l g = close-plain Generic i (rw e) o l g
 
 length-generic : (v : Bool) (i : Item) → lengthBy (cond v AsGeneric AsContents) i ≡ lengthFits (extentOf (i .header)) (contentsOf i)
 length-generic true i = refl
 length-generic false i = refl
 
--- each form
-closes-by : (f : Form) (i : Item) → rowFits f (zeroesOf (i .header)) (extentOf (i .header)) ≡ true → every isOctet (i .values) ≡ true → contentsOf i ≡ contentsBy (holdingBy f (getD (i .values) 0 0)) i → lengthBy (holdingBy f (getD (i .values) 0 0)) i ≡ true → formBy f i ≡ true → every isDigit (digitsBy (holdingBy f (getD (i .values) 0 0)) i) ≡ true → CloseAs f (holdingBy f (getD (i .values) 0 0)) i
-unfolding twoFault
-closes-by Carried i t o c l r d = close-plain Carried i refl o (rw c at l) r refl
-closes-by (Digits m) i t o c l r d =
-    let q = digits-row m (zeroesOf (i .header)) (extentOf (i .header)) t in
-    let w = counted-closed m i l r d in
+-- each form; what is held as its contents needs to know nothing of its check
+closes-by : (f : Form) (i : Item) → formOf (i .header) ≡ f → rowFits f (zeroesOf (i .header)) (extentOf (i .header)) ≡ true → eqb (i .header) calling-number ≡ isCalling f → every isOctet (i .values) ≡ true → contentsOf i ≡ contentsBy (holdingBy f (getD (i .values) 0 0)) i → lengthBy (holdingBy f (getD (i .values) 0 0)) i ≡ true → faultAs (holdingBy f (getD (i .values) 0 0)) i ≡ Sound → CloseAs f (holdingBy f (getD (i .values) 0 0)) i
+closes-by (Checked x) i e t q o c l g = close-plain (Checked x) i refl o (rw c at l) g
+closes-by (Digits m) i e t q o c l g =
+    let r = digits-row m (zeroesOf (i .header)) (extentOf (i .header)) t in
+    let v = sound-values (marksRight m i) (i .values) g in
+    let w = counted-closed m i l (v .0) (v .1) in
     record {
       kept = refl;
-      fits = rw (q .0) (w .fits);
-      clears = rw (q .1) (w .clears);
-      sound = w .sound;
+      fits = rw (r .0) (w .fits);
+      sound = sound-by (Digits m) (i .header) (contentsBy (AsDigits m) i) e (rw (r .1) (w .clears)) (w .sound);
       opens = w .opens;
       octets = w .octets;
     }
-closes-by Number i t o c l r d =
-    let n = number-closed i (i .values) r d in
-    close-number Number i (λ x. refl) t (rw c at l) n (n .sound 0)
-closes-by Calling i t o c l r d =
-    let w = cond (eqb (i .presentation) 2) (withheldRight i) true in
-    let r₁ = and-left (fieldsRight i) w r in
-    close-number Calling i (λ x. refl) t (rw c at l) (number-closed i (i .values) r₁ d)
-    (calling-closed i r₁ (and-right (fieldsRight i) w r) d)
-closes-by Generic i t o c l r d =
+closes-by Number i e t q o c l g =
+    let v = sound-values (numberRight i) (i .values) g in
+    let n = number-closed i (i .values) (and-left (fieldsRight i) _ (v .0)) (v .1) in
+    close-number Number i e (λ x. refl) t (rw c at l) n (n .sound 0)
+closes-by Calling i e t q o c l g =
+    let v = sound-values (numberRight i) (i .values) g in
+    let r₁ = and-left (fieldsRight i) _ (v .0) in
+    let r₂ : cond (eqb (i .presentation) 2) (withheldRight i) true ≡ true = rw q at (and-right (fieldsRight i) (cond (eqb (i .header) calling-number && eqb (i .presentation) 2) (withheldRight i) true) (v .0)) in
+    close-number Calling i e (λ x. refl) t (rw c at l) (number-closed i (i .values) r₁ (v .1)) (calling-closed i r₁ r₂ (v .1))
+closes-by Generic i e t q o c l g =
     let v = eqb (getD (i .values) 0 0) 6 in
-    close-generic v i refl t o (rw (length-generic v i, c) at l) r d
-closes-by (Long n) i t o c l r d =
-    close-plain (Long n) i refl o (rw c at l) (none-asked (zeroesOf (i .header)) (getD (i .values) 0 0) t) (rw r)
-closes-by (Two mask) i t o c l r d =
-    close-plain (Two mask) i refl o (rw c at l) (none-asked (zeroesOf (i .header)) (getD (i .values) 0 0) t) (rw r)
+    close-generic v i refl e t o (rw (length-generic v i, c) at l) g
 
 closed-by : (f : Form) (i : Item) → formOf (i .header) ≡ f → ownOf i ≡ i → CloseAs f (holdingBy f (getD (i .values) 0 0)) i → Closed i
-unfolding ownOf contentsOf faultOf
+unfolding ownOf contentsOf
 closed-by f i e w a =
     let h = i .header in
     let k = holdingBy f (getD (i .values) 0 0) in
@@ -266,14 +273,15 @@ closed-by f i e w a =
     let opens : itemOf h s ≡ i = item-as f h s e ∙ rw (a .kept) (a .opens) ∙ own in
     record {
       fits = rw c (a .fits);
-      sound = rw (c, a .clears, e) (a .sound);
+      sound = rw c (a .sound);
       opens = rw c opens;
       octets = rw c (a .octets);
     }
 
 -- what is allowed is sound and reads back
-pub closed : (i : Item) → HeldItem i → pliRight (i .header) ≡ true → lengthRight i ≡ true → formRight i ≡ true → digitsRight i ≡ true → Closed i
-unfolding lengthRight formRight digitsRight contentsOf holdingOf
-closed i w p l r d =
+pub closed : (i : Item) → HeldItem i → pliRight (i .header) ≡ true → lengthRight i ≡ true → faultIn i ≡ Sound → Closed i
+unfolding lengthRight faultIn contentsOf holdingOf
+closed i w p l g =
     let h = i .header in
-    closed-by (formOf h) i refl (w .own) (closes-by (formOf h) i (row-fits h (w .octet) p) (w .octets) refl l r d)
+    closed-by (formOf h) i refl (w .own)
+    (closes-by (formOf h) i refl (row-fits h (w .octet) p) (one-calling h (w .octet)) (w .octets) refl l g)

@@ -16,6 +16,7 @@ pub mod Headers
 pub mod Counted
 pub mod Numbers
 pub mod Leaves
+pub mod Offsets
 pub mod Laid
 -- of the walk over a message, and what is made of it:
 pub mod Walks

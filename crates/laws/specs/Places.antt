@@ -6,15 +6,17 @@ use mathlib.Core.Path.{_≡_, refl, sym, ap, _∙_}
 use mathlib.Core.Bool.{Bool, true, false, not}
 use lib.Dec.{leb}
 use lib.ListN.{length}
-use Rattle.annex.specs.Answers.{refuse}
+use Rattle.annex.specs.Answers.{refuse, soundThen, headerAt}
 use Rattle.annex.specs.Units.{nameOf}
 use Rattle.annex.specs.Heads.{nameUsed, pliRight, oftenOf}
 use Rattle.annex.specs.Items.{Item}
 use Rattle.annex.specs.Layout.{layoutItem}
-use Rattle.annex.specs.Allowed.{lengthRight, formRight, digitsRight}
+use Rattle.annex.specs.Allowed.{lengthRight, faultIn}
 use Rattle.annex.specs.Writing.{itemWriting}
 use Rattle.annex.specs.declared.Answer.{Answer}
 use Rattle.annex.specs.declared.Answer.the-variants.{Accepted, Refused}
+use Rattle.annex.specs.declared.Fault.{Fault}
+use Rattle.annex.specs.declared.Fault.the-variants.{Sound, Bad}
 
 -- the answer s places farther on: the place behind what was written, or the place of the refusal
 abbrev pub farther : ℕ → Answer → Answer
@@ -25,6 +27,11 @@ refuse-farther : (s : ℕ) (b : Bool) (k p : ℕ) (a c : Answer) → a ≡ farth
 refuse-farther s true k p a c e = refl
 refuse-farther s false k p a c e = e
 
+-- a placing, and the same farther on
+sound-farther : (s : ℕ) (there here : ℕ → ℕ → ℕ) (f : Fault) (a c : Answer) → ((k i : ℕ) → there k i ≡ s + here k i) → a ≡ farther s c → soundThen there f a ≡ farther s (soundThen here f c)
+sound-farther s there here Sound a c h e = e
+sound-farther s there here (Bad k i) a c h e = ap (λ (p : ℕ). Refused k p) (h k i)
+
 module _ (s : ℕ) where
   pub item-farther : (times p : ℕ) (i : Item) → itemWriting times (s + p) i ≡ farther s (itemWriting times p i)
   unfolding itemWriting
@@ -34,8 +41,7 @@ module _ (s : ℕ) where
       (refuse-farther s (not (pliRight (i .header))) _ p _ _
       (refuse-farther s (leb (oftenOf (nameOf (i .header))) times) _ p _ _
       (refuse-farther s (not (lengthRight i)) _ p _ _
-      (refuse-farther s (not (formRight i)) _ p _ _
-      (refuse-farther s (not (digitsRight i)) _ p _ (Accepted (p + length (layoutItem i))) (ap Accepted e))))))
+      (sound-farther s (headerAt (s + p)) (headerAt p) (faultIn i) _ (Accepted (p + length (layoutItem i))) (λ k j. refl) (ap Accepted e)))))
 
 -- ---- so what is written from a place on is told by what would be written from the start
 

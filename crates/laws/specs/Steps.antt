@@ -20,6 +20,8 @@ use Rattle.annex.specs.Answers.{
   repeated-name,
   cut-contents,
   refuse,
+  soundThen,
+  headerAt,
   andThen,
   shifted,
 }
@@ -28,7 +30,6 @@ use Rattle.annex.specs.Heads.{among, listedHeaders, end-mark, transfer-data, na
 use Rattle.annex.specs.Contents.{faultOf}
 use Rattle.annex.specs.Walk.{Seen, unseen, counted, Step, walk, judging, byStep}
 use Rattle.annex.specs.Reading.{
-  soundThen,
   transferOf,
   transferStep,
   transfersVerdict,
@@ -59,9 +60,9 @@ pub then-passed : (a : Answer) (f : ℕ → Answer) (n : ℕ) → andThen a f �
 then-passed (Accepted q) f n e = (q, refl, e)
 then-passed (Refused k p) f n e = absurd (let z : _≡_ {A = ℕ} 0 1 = cc in omega arith)
 
-pub sounded : (f : Fault) (n : ℕ) (a : Answer) → soundThen f a ≡ Accepted n → (f ≡ Sound) × (a ≡ Accepted n)
-sounded Sound n a e = (refl, e)
-sounded (Bad k i) n a e = absurd (let z : _≡_ {A = ℕ} 0 1 = cc in omega arith)
+pub sounded : (place : ℕ → ℕ → ℕ) (f : Fault) (n : ℕ) (a : Answer) → soundThen place f a ≡ Accepted n → (f ≡ Sound) × (a ≡ Accepted n)
+sounded place Sound n a e = (refl, e)
+sounded place (Bad k i) n a e = absurd (let z : _≡_ {A = ℕ} 0 1 = cc in omega arith)
 
 -- where an answer is a refusal, its place is at most l
 pub record PlaceTo (l : ℕ) (a : Answer) : Type 0 where
@@ -77,9 +78,10 @@ pub refuse-place : (l : ℕ) (b : Bool) (k p : ℕ) (a : Answer) → p ≤ l →
 refuse-place l true k p a h g = refused-place l k p h
 refuse-place l false k p a h g = g
 
-sound-place : (l : ℕ) (f : Fault) (a : Answer) → PlaceTo l a → PlaceTo l (soundThen f a)
-sound-place l Sound a g = g
-sound-place l (Bad k i) a g = refused-place l k 0 (omega arith)
+-- a fault is placed at most at l where its placing says so
+pub sound-place : (l : ℕ) (place : ℕ → ℕ → ℕ) (f : Fault) (a : Answer) → ((k i : ℕ) → f ≡ Bad k i → place k i ≤ l) → PlaceTo l a → PlaceTo l (soundThen place f a)
+sound-place l place Sound a h g = g
+sound-place l place (Bad k i) a h g = refused-place l k (place k i) (h k i refl)
 
 pub place-up : (l m : ℕ) (a : Answer) → l ≤ m → PlaceTo l a → PlaceTo m a
 place-up l m a h g = record { at = λ k p e. omega (arith, g .at k p e) }
@@ -102,7 +104,7 @@ transfer-taken times h xs n e =
     let e₂ = passed (not (pliRight h)) _ 0 n _ (e₁ .1) in
     let e₃ = passed (leb (oftenOf (nameOf h)) times) _ 0 n _ (e₂ .1) in
     let e₄ = passed (ltb (length xs) l) _ 0 n _ (e₃ .1) in
-    let e₅ = sounded (faultOf h (contentsIn (extentOf h) (take l xs))) n (Accepted l) (e₄ .1) in
+    let e₅ = sounded (headerAt 0) (faultOf h (contentsIn (extentOf h) (take l xs))) n (Accepted l) (e₄ .1) in
     let same : l ≡ n = cc in
     record {
       used = not-false (nameUsed h) (e₁ .0);
@@ -113,15 +115,17 @@ transfer-taken times h xs n e =
       sound = rw same at (e₅ .0);
     }
 
-pub transfer-place : (times h : ℕ) (xs : List ℕ) → PlaceTo 0 (transferOf times h xs)
+-- its refusals lie within it
+pub transfer-place : (times h : ℕ) (xs : List ℕ) → PlaceTo (length xs) (transferOf times h xs)
 unfolding transferOf
 transfer-place times h xs =
+    let l = length xs in
     let n = afterOf (extentOf h) (getD xs 0 0) in
-    let sound = sound-place 0 (faultOf h (contentsIn (extentOf h) (take n xs))) (Accepted n) (accepted-place 0 n) in
-    let whole = refuse-place 0 (ltb (length xs) n) cut-contents 0 _ (omega arith) sound in
-    let once = refuse-place 0 (leb (oftenOf (nameOf h)) times) repeated-name 0 _ (omega arith) whole in
-    let right = refuse-place 0 (not (pliRight h)) other-pli 0 _ (omega arith) once in
-    refuse-place 0 (not (nameUsed h)) unused-name 0 _ (omega arith) right
+    let sound = sound-place l (headerAt 0) (faultOf h (contentsIn (extentOf h) (take n xs))) (Accepted n) (λ k i e. omega arith) (accepted-place l n) in
+    let whole = refuse-place l (ltb (length xs) n) cut-contents 0 _ (omega arith) sound in
+    let once = refuse-place l (leb (oftenOf (nameOf h)) times) repeated-name 0 _ (omega arith) whole in
+    let right = refuse-place l (not (pliRight h)) other-pli 0 _ (omega arith) once in
+    refuse-place l (not (nameUsed h)) unused-name 0 _ (omega arith) right
 
 -- ---- places in a walk
 
@@ -143,7 +147,7 @@ transfers-place t =
     let f : 0 + length t + 0 ≡ length t = omega arith in
     rw f at
     (walk-place transferStep (λ seen p. Accepted p) 0
-    (λ seen h xs. place-up 0 (length xs + 0) (transferStep seen h xs) (omega arith) (transfer-place _ h xs))
+    (λ seen h xs. place-up (length xs) (length xs + 0) (transferStep seen h xs) (omega arith) (transfer-place _ h xs))
     (λ seen p. accepted-place (p + 0) p) t unseen 0 0)
 
 -- ---- a common parameter

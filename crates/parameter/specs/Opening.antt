@@ -12,7 +12,7 @@ use lib.Dec.{T, eqb, leb}
 use lib.ListN.{length, drop, length-drop}
 use lib.Seq.{sets}
 use Rattle.annex.specs.Heads.{Form, Marks, formOf}
-use Rattle.annex.specs.Heads.Form.{Carried, Digits, Number, Calling, Generic, Long, Two}
+use Rattle.annex.specs.Heads.Form.{Checked, Digits, Number, Calling, Generic}
 use Rattle.annex.specs.Heads.Marks.{Unmarked, Notified, Verified, Typed}
 use Rattle.annex.specs.Digits.{digitsOf}
 use Rattle.annex.specs.Contents.{countOf}
@@ -53,13 +53,11 @@ heldBy AsGeneric = held.Generic
 
 -- the marks of a form, none where it is not digits
 abbrev pub marksIn : Form → Marks
-marksIn Carried = Unmarked
+marksIn (Checked c) = Unmarked
 marksIn (Digits m) = m
 marksIn Number = Unmarked
 marksIn Calling = Unmarked
 marksIn Generic = Unmarked
-marksIn (Long n) = Unmarked
-marksIn (Two mask) = Unmarked
 
 unfoldable pub marksOf : ℕ → Marks
 marksOf h = marksIn (formOf h)
@@ -109,13 +107,11 @@ generic-again true = refl
 generic-again false = refl
 
 form-again : (f : Form) (x : ℕ) → asHeld (heldBy (holdingBy f x)) (marksIn f) ≡ holdingBy f x
-form-again Carried x = refl
+form-again (Checked c) x = refl
 form-again (Digits m) x = refl
 form-again Number x = refl
 form-again Calling x = refl
 form-again Generic x = generic-again (eqb x 6)
-form-again (Long n) x = refl
-form-again (Two mask) x = refl
 
 -- the holding that the code's answer v tells
 pub held-again : (h x : ℕ) (r v : Held) → r ≡ heldBy (holdingOf h x) → r ≡ v → holdingOf h x ≡ asHeld v (marksOf h)

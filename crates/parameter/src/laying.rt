@@ -27,15 +27,15 @@ ghost use lib.ListN.{length, getD};
 ghost use Rattle.annex.specs.Promises.{Gives, Stores};
 ghost use Rattle.annex.specs.Units.{extentOf};
 ghost use Rattle.annex.specs.Digits.{isDigit, codeOf, packed};
-ghost use Rattle.annex.specs.Contents.{faultOf};
+ghost use Rattle.annex.specs.Contents.{formedThen};
 ghost use Rattle.annex.specs.Items.{holdingOf, upperMarks, numberContents, contentsBy, contentsOf, Holding.AsDigits, Holding.AsGeneric};
 ghost use Rattle.annex.specs.Layout.{layoutItem};
-ghost use Rattle.annex.specs.Allowed.{every, lengthFits, lengthRight, marksRight, fieldsRight, withheldRight, formRight, digitsRight};
+ghost use Rattle.annex.specs.Allowed.{every, lengthFits, lengthRight, marksRight, fieldsRight, withheldRight, numberRight, valuesFault, faultIn};
 ghost use Rattle.annex.specs.Records.{rawItem};
 ghost use Rattle.annex.specs.Writing.{itemWriting};
 ghost use Rattle.laws.specs.Written.{atFront};
 ghost use Rattle.parameter.specs.Opening.{marksOf, asHeld};
-ghost use Rattle.parameter.specs.Laying.{itemFrom, isSound, numberRight};
+ghost use Rattle.parameter.specs.Laying.{itemFrom};
 
 // How the values under this header are held.
 fn held_as(header: u8, values: &[u8]) -> Held
@@ -91,17 +91,6 @@ fn length_right(t: Transfer, values: &[u8]) -> bool
         Held::Digits => values.len() <= Transfer::MOST_DIGITS,
         Held::Number => contents_len(t, values) <= Transfer::MOST_OCTETS,
         Held::Generic => contents_len(t, values) <= Transfer::MOST_OCTETS,
-    }
-}
-
-// Whether reading would find nothing wrong with these contents.
-fn is_sound(header: u8, s: &[u8]) -> bool
-    ensures { λ r. ⌜ r ≡ isSound (faultOf header (now (s .entry))) ⌝ }
-{
-    let f = contents_fault(header, s);
-    match f {
-        Fault::Sound => true,
-        Fault::Bad(_, _) => false,
     }
 }
 
@@ -175,19 +164,6 @@ fn number_right(t: Transfer, digits: &[u8]) -> bool
     withheld_right(t, digits)
 }
 
-// Whether the parameter has the form that its header asks.
-fn form_right(t: Transfer, values: &[u8]) -> bool
-    ensures { λ r. ⌜ r ≡ formRight (rawItem t (now (values .entry))) ⌝ }
-{
-    let held = held_as(t.header, values);
-    match held {
-        Held::Contents => is_sound(t.header, values),
-        Held::Digits => marks_right(t),
-        Held::Number => number_right(t, values),
-        Held::Generic => fields_right(t),
-    }
-}
-
 // Whether each value is a digit.
 fn are_digits(values: &[u8]) -> bool
     ensures { λ r. ⌜ r ≡ every isDigit (now (values .entry)) ⌝ }
@@ -202,20 +178,35 @@ fn are_digits(values: &[u8]) -> bool
     true
 }
 
-// Whether the digits that the parameter holds are digits.
-fn digits_right(t: Transfer, values: &[u8]) -> bool
-    ensures { λ r. ⌜ r ≡ digitsRight (rawItem t (now (values .entry))) ⌝ }
+// Digits and numbers: a mark or field too large for its bits, then a value that is no digit.
+fn fields_fault(good: bool, digits: &[u8]) -> Fault
+    ensures { λ r. ⌜ r ≡ formedThen good (valuesFault (now (digits .entry))) ⌝ }
 {
-    let held = held_as(t.header, values);
-    match held {
-        Held::Contents => true,
-        Held::Digits => are_digits(values),
-        Held::Number => are_digits(values),
-        Held::Generic => are_digits(octets_from(values, 1)),
+    if !good {
+        return Fault::Bad(Answer::BAD_FORM, 0);
+    }
+    if are_digits(digits) {
+        Fault::Sound
+    } else {
+        Fault::Bad(Answer::BAD_DIGIT, 0)
     }
 }
 
-// The parameter's name stood `times` before: 8 to 13 in their order, at place 0, or accepted with how many octets it takes.
+// What is wrong with the values: those that are held as contents have the faults that reading finds.
+fn values_fault(t: Transfer, values: &[u8]) -> Fault
+    ensures { λ r. ⌜ r ≡ faultIn (rawItem t (now (values .entry))) ⌝ }
+{
+    let held = held_as(t.header, values);
+    match held {
+        Held::Contents => contents_fault(t.header, values),
+        Held::Digits => fields_fault(marks_right(t), values),
+        Held::Number => fields_fault(number_right(t, values), values),
+        Held::Generic => fields_fault(fields_right(t), octets_from(values, 1)),
+    }
+}
+
+// The parameter's name stood `times` before: 8 to 11 in their order and then its fault, at place 0, or accepted with how many octets it
+// takes.
 pub fn refusal(times: u8, t: Transfer, values: &[u8]) -> Answer
     ensures { λ r. ⌜ Gives (itemWriting times 0 (itemFrom t (now (values .entry)))) r ⌝ }
 {
@@ -233,15 +224,13 @@ pub fn refusal(times: u8, t: Transfer, values: &[u8]) -> Answer
     if !length_right(t, values) {
         return Answer::Refused(Answer::CUT_CONTENTS, 0);
     }
-    if !form_right(t, values) {
-        return Answer::Refused(Answer::BAD_FORM, 0);
-    }
-    if !digits_right(t, values) {
-        return Answer::Refused(Answer::BAD_DIGIT, 0);
-    }
     let before = 1 + lead(extent_of(header));
     let len = before + contents_len(t, values);
-    Answer::Accepted(len)
+    let f = values_fault(t, values);
+    match f {
+        Fault::Sound => Answer::Accepted(len),
+        Fault::Bad(k, _) => Answer::Refused(k, 0),
+    }
 }
 
 // Writes octets at the front of the room.

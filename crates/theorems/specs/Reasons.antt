@@ -10,7 +10,7 @@ use borrow.Author.Tests.{eqb-true, eqb-false, eq-eqb, ne-eqb, leb-false, lt-leb,
 use lib.Dec.{eqb, leb, ltb}
 use lib.ListN.{length, getD, take}
 use lib.Seq.{length-take-le}
-use Rattle.annex.specs.Answers.{repeated-name, transfer-over, no-room, absent, refuse}
+use Rattle.annex.specs.Answers.{repeated-name, transfer-over, no-room, absent, refuse, headerAt}
 use Rattle.annex.specs.Units.{nameOf, afterOf, extentOf, contentsIn}
 use Rattle.annex.specs.Heads.{among, transfer-data, most-transfer-octets, nameUsed, pliRight, oftenOf}
 use Rattle.annex.specs.Contents.{faultOf}
@@ -74,7 +74,7 @@ new-passed new b k j a =
     let a₃ = passed (not (pliRight h)) _ 0 j _ (a₂ .1) in
     let a₄ = passed b k 0 j (newContents new) (a₃ .1) in
     let a₅ = passed (not (eqb (length xs) l)) _ 0 j _ (a₄ .1) in
-    let a₆ = sounded (faultOf h (contentsIn (extentOf h) xs)) j (Accepted 0) (a₅ .1) in
+    let a₆ = sounded (headerAt 0) (faultOf h (contentsIn (extentOf h) xs)) j (Accepted 0) (a₅ .1) in
     let some : 0 < length new = omega (arith, eqb-false (length new) 0 (a₁ .0)) in (
       record {
         some = some;

@@ -10,13 +10,15 @@ use lib.ListN.{length, getD, drop, length-append, length-map, length-drop}
 use Rattle.annex.specs.Units.{nameOf, extentOf}
 use Rattle.annex.specs.Heads.{among, heads, freeNames, end-mark, user-class, partners-call, own-call, sequence, signal-kind, transfer-data, commonHeaders, most-commons, most-transfers, most-transfer-octets, nameUsed, pliRight, oftenOf}
 use Rattle.annex.specs.Items.{Item, Part, Holding, contentsOf, contentsBy, heldAs}
+use Rattle.annex.specs.Contents.{isSound}
 use Rattle.annex.specs.Items.Holding.{AsContents, AsDigits, AsNumber, AsGeneric}
 use Rattle.annex.specs.Digits.{codeOf, joined, packed}
 use Rattle.annex.specs.Layout.{layoutItem, layoutItems}
-use Rattle.annex.specs.Allowed.{every, Each, timesIn, HeldItem, HeldPart, lengthRight, formRight, digitsRight, valueRight, valueFits, itemsIn, contentsSum, headersOf, namesOf, partNamesOf, Allowed}
+use Rattle.annex.specs.Allowed.{every, Each, timesIn, HeldItem, HeldPart, lengthRight, faultIn, valueRight, valueFits, itemsIn, contentsSum, headersOf, namesOf, partNamesOf, Allowed}
 use Rattle.annex.specs.Records.{valuesOf}
 use Rattle.annex.specs.declared.Alphabet.{Alphabet}
 use Rattle.annex.specs.declared.Alphabet.the-variants.{Dialled, Numbered}
+use Rattle.laws.specs.Faults.{is-sound}
 use Rattle.laws.specs.Bools.{and-left, and-right, and-both}
 use Rattle.laws.specs.Members.{among-every}
 use Rattle.theorems.specs.Lists.{
@@ -223,23 +225,21 @@ allowed r a o c k =
       plis-right = each-every AllowedItem (λ i. pliRight (i .header)) (λ i b. b .pli) is (i .each);
       names-often = most-at oftenOf (namesOf is) (i .often);
       lengths-right = each-every AllowedItem lengthRight (λ i b. b .length-right) is (i .each);
-      forms-right = each-every AllowedItem formRight (λ i b. b .form-right) is (i .each);
-      digits-right = each-every AllowedItem digitsRight (λ i b. b .digits-right) is (i .each);
+      faults-none = each-every AllowedItem (λ i. isSound (faultIn i)) (λ i b. ap isSound (b .faultless)) is (i .each);
     }
 
 -- the transfer parameters of a record, one by one
-items-each : (is : List Item) → Each HeldItem is → every (λ i. nameUsed (i .header)) is ≡ true → every (λ i. pliRight (i .header)) is ≡ true → every lengthRight is ≡ true → every formRight is ≡ true → every digitsRight is ≡ true → Each AllowedItem is
-items-each [] h u p l f d = tt
-items-each (i ∷ is) h u p l f d = (
+items-each : (is : List Item) → Each HeldItem is → every (λ i. nameUsed (i .header)) is ≡ true → every (λ i. pliRight (i .header)) is ≡ true → every lengthRight is ≡ true → every (λ i. isSound (faultIn i)) is ≡ true → Each AllowedItem is
+items-each [] h u p l f = tt
+items-each (i ∷ is) h u p l f = (
   record {
     held = h .0;
     used = and-left _ (every (λ i. nameUsed (i .header)) is) u;
     pli = and-left _ (every (λ i. pliRight (i .header)) is) p;
     length-right = and-left _ (every lengthRight is) l;
-    form-right = and-left _ (every formRight is) f;
-    digits-right = and-left _ (every digitsRight is) d;
+    faultless = is-sound (faultIn i) (and-left _ (every (λ i. isSound (faultIn i)) is) f);
   },
-  items-each is (h .1) (and-right (nameUsed (i .header)) _ u) (and-right (pliRight (i .header)) _ p) (and-right (lengthRight i) _ l) (and-right (formRight i) _ f) (and-right (digitsRight i) _ d),
+  items-each is (h .1) (and-right (nameUsed (i .header)) _ u) (and-right (pliRight (i .header)) _ p) (and-right (lengthRight i) _ l) (and-right (isSound (faultIn i)) _ f),
 )
 
 items-held : (r : List Part) → Each HeldPart r → Each HeldItem (itemsIn r)
@@ -249,7 +249,7 @@ items-held (p ∷ r) h = each-append HeldItem (p .items) (itemsIn r) (h .0 .each
 pub allowed-items : (r : List Part) → Allowed r → AllowedItems (itemsIn r)
 allowed-items r a =
     record {
-      each = items-each (itemsIn r) (items-held r (a .held)) (a .names-used) (a .plis-right) (a .lengths-right) (a .forms-right) (a .digits-right);
+      each = items-each (itemsIn r) (items-held r (a .held)) (a .names-used) (a .plis-right) (a .lengths-right) (a .faults-none);
       often = at-most oftenOf (namesOf (itemsIn r)) (a .names-often);
       few-octets = a .few-octets;
     }

@@ -11,10 +11,11 @@ use Rattle.annex.specs.Units.{nameOf, leadOf, extentOf, contentsIn}
 use Rattle.annex.specs.Heads.{nameUsed, pliRight, oftenOf, most-transfer-octets}
 use Rattle.annex.specs.Items.{Item, contentsOf}
 use Rattle.annex.specs.Layout.{ledBy, layoutItem, layoutItems}
-use Rattle.annex.specs.Allowed.{every, Each, timesIn, isOctet, lengthRight, formRight, digitsRight, HeldItem, namesOf}
+use Rattle.annex.specs.Allowed.{every, Each, timesIn, isOctet, lengthRight, faultIn, HeldItem, namesOf}
 use Rattle.annex.specs.Walk.{Seen, unseen, timesSeen, counted, Par, walk, judging, listing}
 use Rattle.annex.specs.Reading.{transferStep, transfersVerdict, transfersOf, openTransfer}
 use Rattle.annex.specs.declared.Answer.the-variants.{Accepted}
+use Rattle.annex.specs.declared.Fault.the-variants.{Sound}
 use Rattle.laws.specs.Bools.{and-left, and-right, and-both}
 use Rattle.laws.specs.Steps.{transfer-taken}
 use Rattle.laws.specs.Leaves.{opened, closed}
@@ -30,8 +31,7 @@ pub record AllowedItem (i : Item) : Type 0 where
   pub used : nameUsed (i .header) ≡ true
   pub pli : pliRight (i .header) ≡ true
   pub length-right : lengthRight i ≡ true
-  pub form-right : formRight i ≡ true
-  pub digits-right : digitsRight i ≡ true
+  pub faultless : faultIn i ≡ Sound
 
 -- the parameters of transfer data
 pub record AllowedItems (is : List Item) : Type 0 where
@@ -87,8 +87,7 @@ item-read q times small o t =
             used = rw (w .header) (t .used);
             pli = rw (w .header) (t .pli);
             length-right = w .length-right;
-            form-right = w .form-right;
-            digits-right = w .digits-right;
+            faultless = w .faultless;
           };
     }
 
@@ -173,7 +172,7 @@ item-built : (i : Item) → AllowedItem i → ItemBuilt i
 unfolding layoutItem
 item-built i a =
     let h = i .header in
-    let c = closed i (a .held) (a .pli) (a .length-right) (a .form-right) (a .digits-right) in
+    let c = closed i (a .held) (a .pli) (a .length-right) (a .faultless) in
     let l = lead (extentOf h) (contentsOf i) (c .fits) (c .octets) in
     record {
       own = λ times f. record { used = a .used; pli = a .pli; fewer = f; long = l .long; sound = rw (l .contents) (c .sound) };

@@ -10,12 +10,12 @@ use mathlib.Core.Logic.{_↔_}
 use borrow.Author.Tests.{not-false, leb-false, lt-leb, ltb-true, ltb-false, le-ltb}
 use lib.Dec.{eqb, leb, ltb}
 use lib.ListN.{length, drop, length-append}
-use Rattle.annex.specs.Answers.{missing, transfer-over, over-limits, refuse}
+use Rattle.annex.specs.Answers.{missing, transfer-over, over-limits, refuse, headerAt}
 use Rattle.annex.specs.Units.{nameOf}
 use Rattle.annex.specs.Heads.{among, commonHeaders, user-class, signal-kind, transfer-data, most-commons, most-transfers, most-transfer-octets, most-octets, nameUsed, pliRight, oftenOf}
 use Rattle.annex.specs.Items.{Item, Part}
 use Rattle.annex.specs.Layout.{layoutItem, layoutItems, layoutPart, layout}
-use Rattle.annex.specs.Allowed.{every, Each, isOctet, lengthRight, formRight, digitsRight, valueRight, valueFits, HeldItem, HeldPart, Held, itemsIn, contentsSum, namesOf, partNamesOf, Allowed}
+use Rattle.annex.specs.Allowed.{every, Each, isOctet, lengthRight, faultIn, valueRight, valueFits, HeldItem, HeldPart, Held, itemsIn, contentsSum, namesOf, partNamesOf, Allowed}
 use Rattle.annex.specs.Walk.{Seen, unseen, timesSeen, counted}
 use Rattle.annex.specs.Reading.{wholeIn, verdictOf, recordOf}
 use Rattle.annex.specs.Writing.{itemWriting, itemsWriting, dataWriting, partWriting, partsWriting, overLimits, recordWriting, structWriting, writingOf, writtenOf}
@@ -23,7 +23,7 @@ use Rattle.annex.specs.Records.{pack, isWhole, view, readingOf}
 use Rattle.annex.specs.declared.Record.{Record}
 use Rattle.annex.specs.declared.Answer.the-variants.{Accepted}
 use Rattle.laws.specs.Bools.{and-left, and-right}
-use Rattle.laws.specs.Steps.{passed, then-passed}
+use Rattle.laws.specs.Steps.{passed, then-passed, sounded}
 use Rattle.theorems.specs.Counts.{Full, full-unseen, full-counted, none-seen, moved, Sparing, sparing-first, sparing-rest, sparing-cons, sparing-more}
 use Rattle.theorems.specs.Transfers.{AllowedItem, AllowedItems, none-often}
 use Rattle.theorems.specs.Commons.{AllowedPart, no-items}
@@ -47,8 +47,7 @@ item-written times p i n h e =
     let e₂ = passed (not (pliRight (i .header))) _ p n _ (e₁ .1) in
     let e₃ = passed (leb (oftenOf (nameOf (i .header))) times) _ p n _ (e₂ .1) in
     let e₄ = passed (not (lengthRight i)) _ p n _ (e₃ .1) in
-    let e₅ = passed (not (formRight i)) _ p n _ (e₄ .1) in
-    let e₆ = passed (not (digitsRight i)) _ p n (Accepted (p + length (layoutItem i))) (e₅ .1) in
+    let e₅ = sounded (headerAt p) (faultIn i) n (Accepted (p + length (layoutItem i))) (e₄ .1) in
     let same : p + length (layoutItem i) ≡ n = cc in
     record {
       allowed =
@@ -57,8 +56,7 @@ item-written times p i n h e =
             used = not-false _ (e₁ .0);
             pli = not-false _ (e₂ .0);
             length-right = not-false _ (e₄ .0);
-            form-right = not-false _ (e₅ .0);
-            digits-right = not-false _ (e₆ .0);
+            faultless = e₅ .0;
           };
       fewer = leb-false _ _ (e₃ .0);
       behind = sym same;
@@ -68,7 +66,7 @@ item-written times p i n h e =
 pub item-writes : (times p : ℕ) (i : Item) → AllowedItem i → times < oftenOf (nameOf (i .header)) → itemWriting times p i ≡ Accepted (p + length (layoutItem i))
 unfolding itemWriting
 item-writes times p i a f =
-    rw (a .used, a .pli, lt-leb (oftenOf (nameOf (i .header))) times f, a .length-right, a .form-right, a .digits-right)
+    rw (a .used, a .pli, lt-leb (oftenOf (nameOf (i .header))) times f, a .length-right, a .faultless)
 
 -- ---- transfer parameters
 

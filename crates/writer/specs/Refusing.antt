@@ -8,12 +8,12 @@ use mathlib.Core.List.{List, [], _∷_}
 use borrow.Author.Tests.{ltb-true, ltb-false, eq-eqb, ne-eqb, eqb-true, eqb-false, leb-false, not-false}
 use lib.Dec.{eqb, leb, ltb}
 use lib.ListN.{length, length-append}
-use Rattle.annex.specs.Answers.{unlisted, repeated, not-allowed, missing, bad-form, transfer-over, refuse, andThen}
+use Rattle.annex.specs.Answers.{unlisted, repeated, not-allowed, missing, bad-form, transfer-over, refuse, headerAt, andThen}
 use Rattle.annex.specs.Units.{nameOf, extentOf}
 use Rattle.annex.specs.Heads.{among, commonHeaders, user-class, signal-kind, signalKinds, sequence, transfer-data, isCall, call-number-below, most-transfer-octets, nameUsed, pliRight, oftenOf}
 use Rattle.annex.specs.Items.{Item, Part}
 use Rattle.annex.specs.Layout.{layoutItem, layoutItems, layoutPart}
-use Rattle.annex.specs.Allowed.{every, isOctet, lengthRight, formRight, digitsRight, valueRight, valueFits}
+use Rattle.annex.specs.Allowed.{every, isOctet, lengthRight, faultIn, valueRight, valueFits}
 use Rattle.annex.specs.Walk.{Seen, unseen, timesSeen, counted}
 use Rattle.annex.specs.Reading.{octetAllowed}
 use Rattle.annex.specs.Writing.{itemWriting, itemsWriting, dataWriting, partWriting, partsWriting}
@@ -21,7 +21,7 @@ use Rattle.annex.specs.declared.Answer.{Answer}
 use Rattle.annex.specs.declared.Answer.the-variants.{Accepted, Refused}
 use Rattle.annex.specs.declared.Common.{Common}
 use Rattle.laws.specs.Bools.{and-left, and-right}
-use Rattle.laws.specs.Steps.{passed, then-passed, PlaceTo, accepted-place, refuse-place, refuse-then}
+use Rattle.laws.specs.Steps.{passed, then-passed, sounded, PlaceTo, accepted-place, refuse-place, sound-place, refuse-then}
 use Rattle.laws.specs.Places.{farther, item-from}
 use Rattle.laws.specs.Laid.{length-layout, lead-small, length-small}
 use Rattle.writer.specs.Along.{partFrom}
@@ -47,8 +47,7 @@ item-passed times p i n e =
     let e₂ = passed (not (pliRight (i .header))) _ p n _ (e₁ .1) in
     let e₃ = passed (leb (oftenOf (nameOf (i .header))) times) _ p n _ (e₂ .1) in
     let e₄ = passed (not (lengthRight i)) _ p n _ (e₃ .1) in
-    let e₅ = passed (not (formRight i)) _ p n _ (e₄ .1) in
-    let e₆ = passed (not (digitsRight i)) _ p n (Accepted (p + length (layoutItem i))) (e₅ .1) in
+    let e₅ = sounded (headerAt p) (faultIn i) n (Accepted (p + length (layoutItem i))) (e₄ .1) in
     let same : p + length (layoutItem i) ≡ n = cc in
     record {
       fewer = leb-false _ _ (e₃ .0);
@@ -64,8 +63,7 @@ item-place times i =
     (refuse-place 0 (not (pliRight (i .header))) _ 0 _ (omega arith)
     (refuse-place 0 (leb (oftenOf (nameOf (i .header))) times) _ 0 _ (omega arith)
     (refuse-place 0 (not (lengthRight i)) _ 0 _ (omega arith)
-    (refuse-place 0 (not (formRight i)) _ 0 _ (omega arith)
-    (refuse-place 0 (not (digitsRight i)) _ 0 (Accepted (0 + length (layoutItem i))) (omega arith) (accepted-place 0 (0 + length (layoutItem i))))))))
+    (sound-place 0 (headerAt 0) (faultIn i) (Accepted (0 + length (layoutItem i))) (λ k j e. omega arith) (accepted-place 0 (0 + length (layoutItem i)))))))
 
 -- a parameter with the header h, judged at place 0, first among those from the place p on
 module _ (seen : Seen) (p h : ℕ) (i : Item) (is : List Item) (a : Answer) (same : i .header ≡ h) (e : itemWriting (timesSeen seen h) 0 i ≡ a) where

@@ -6,7 +6,7 @@ use borrow.Author.Needs.{needs}
 use borrow.Author.Tests.{eq-eqb, ne-eqb}
 use lib.ListN.{length-drop}
 use lib.Seq.{getD-drop, drop-drop}
-use Rattle.annex.specs.Reading.{soundThen}
+use Rattle.annex.specs.Answers.{soundThen, headerAt}
 use Rattle.annex.specs.declared.Answer.the-variants.{Accepted}
 use Rattle.laws.specs.Extents.{lead-within}
 use Rattle.laws.specs.Parts.{to-end}
@@ -32,7 +32,7 @@ start-within c =
 -- past 11: the part handed on is the contents
 past-11 : (c : tie.After-contents-fault) →
     let a = c .before .before .before .before .before .before .before .before .before .before .args in
-    contentsAnswer (a .new .now) ≡ soundThen (c .contents-fault .result) (Accepted 0)
+    contentsAnswer (a .new .now) ≡ soundThen (headerAt 0) (c .contents-fault .result) (Accepted 0)
 past-11 c =
     let l = c .before .before in
     let n = l .before .before in

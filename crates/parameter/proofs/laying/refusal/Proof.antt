@@ -7,10 +7,10 @@ use mathlib.Core.List.{List}
 use borrow.Author.Needs.{needs}
 use borrow.Author.Tests.{le-leb, lt-leb, not-false}
 use lib.ListN.{length}
-use Rattle.annex.specs.Answers.{refuse, cut-contents, bad-form, bad-digit}
+use Rattle.annex.specs.Answers.{refuse, soundThen, headerAt, cut-contents}
 use Rattle.annex.specs.Units.{leadOf}
 use Rattle.annex.specs.Layout.{layoutItem}
-use Rattle.annex.specs.Allowed.{lengthRight, formRight, digitsRight}
+use Rattle.annex.specs.Allowed.{lengthRight, faultIn}
 use Rattle.annex.specs.Records.{rawItem}
 use Rattle.annex.specs.Writing.{itemWriting}
 use Rattle.annex.specs.declared.Answer.the-variants.{Accepted}
@@ -46,11 +46,11 @@ returns-3 c =
     let a = u .before .before .args in
     rw (own-writing (rawItem (a .t) (a .values .now)) (a .times) 0, ← u .name-used .ensures, e .if1 .left, ← p .pli-right .ensures, f .if2 .left, ← o .often-of .ensures, le-leb _ _ (c .if3 .taken))
 
--- past 10: length, form and digits decide
+-- past 10: length and fault decide
 past-10 : (c : tie.Else3) →
     let a = c .before .before .before .before .before .before .before .args in
     let i = rawItem (a .t) (a .values .now) in
-    itemWriting (a .times) 0 (itemFrom (a .t) (a .values .now)) ≡ refuse (not (lengthRight i)) cut-contents 0 (refuse (not (formRight i)) bad-form 0 (refuse (not (digitsRight i)) bad-digit 0 (Accepted (0 + length (layoutItem i)))))
+    itemWriting (a .times) 0 (itemFrom (a .t) (a .values .now)) ≡ refuse (not (lengthRight i)) cut-contents 0 (soundThen (headerAt 0) (faultIn i) (Accepted (0 + length (layoutItem i))))
 unfolding itemWriting
 past-10 c =
     let o = c .before in
@@ -66,29 +66,13 @@ returns-4 c =
     let l = c .before in
     rw (past-10 (l .before), ← l .length-right .ensures, c .if4 .taken)
 
-returns-5 : tie.Need-returns-5
-returns-5 c =
-    let r = c .before in
-    let g = r .before in
-    let l = g .before in
-    rw (past-10 (l .before), ← l .length-right .ensures, g .if4 .left, ← r .form-right .ensures, c .if5 .taken)
-
-returns-6 : tie.Need-returns-6
-returns-6 c =
-    let d = c .before in
-    let h = d .before in
-    let r = h .before in
-    let g = r .before in
-    let l = g .before in
-    rw (past-10 (l .before), ← l .length-right .ensures, g .if4 .left, ← r .form-right .ensures, h .if5 .left, ← d .digits-right .ensures, c .if6 .taken)
-
 add-before : tie.Need-add-before
 add-before c = omega (arith, c .lead .ensures, lead-small (c .before .extent-of .result))
 
 add-len : tie.Need-add-len
 add-len c =
     let n = c .before in
-    let g = n .before .before .before .before .before .before in
+    let g = n .before .before in
     let l = g .before in
     let a = l .before .before .before .before .before .before .before .before .args in
     let i = rawItem (a .t) (a .values .now) in
@@ -96,21 +80,29 @@ add-len c =
     let s = ap (λ (x : List ℕ). length x) (own-contents i) in
     omega (arith, c .contents-len .ensures, n .lead .ensures, lead-small (n .before .extent-of .result))
 
-returns-7 : tie.Need-returns-7
-returns-7 c =
-    let n = c .before in
+-- past 11: the fault decides
+past-11 : (c : tie.After-values-fault) →
+    let m = c .before in
+    let l = m .before .before .before .before in
+    let a = l .before .before .before .before .before .before .before .before .args in
+    itemWriting (a .times) 0 (itemFrom (a .t) (a .values .now)) ≡ soundThen (headerAt 0) (c .values-fault .result) (Accepted (1 + m .before .lead .result + m .contents-len .result))
+past-11 c =
+    let m = c .before in
+    let n = m .before in
     let x = n .before in
-    let k = x .before in
-    let d = k .before in
-    let h = d .before in
-    let r = h .before in
-    let g = r .before in
+    let g = x .before in
     let l = g .before in
     let a = l .before .before .before .before .before .before .before .before .args in
     let i = rawItem (a .t) (a .values .now) in
     let s = ap (λ (y : List ℕ). length y) (own-contents i) in
-    rw (past-10 (l .before), ← l .length-right .ensures, g .if4 .left, ← r .form-right .ensures, h .if5 .left, ← d .digits-right .ensures, k .if6 .left)
-    (ap Accepted (omega (arith, length-layout i, c .contents-len .ensures, n .lead .ensures, ap leadOf (x .extent-of .ensures))))
+    rw (past-10 (l .before), ← l .length-right .ensures, g .if4 .left, ← c .values-fault .ensures)
+    (ap (λ n. soundThen (headerAt 0) (c .values-fault .result) (Accepted n)) (omega (arith, length-layout i, m .contents-len .ensures, n .lead .ensures, ap leadOf (x .extent-of .ensures))))
+
+returns-5 : tie.Need-returns-5
+returns-5 c = rw (past-11 (c .before .before), c .enum-told .given .1)
+
+returns-6 : tie.Need-returns-6
+returns-6 c = rw (past-11 (c .before .before .before), c .before .f .given .1)
 
 pub refusal-spec : {M : Type 1} → statement M
 refusal-spec =
@@ -125,12 +117,12 @@ refusal-spec =
     (λ c κs. search needs)
     returns-4
     (λ c κs. search needs)
-    returns-5
-    (λ c κs. search needs)
-    returns-6
-    (λ c κs. search needs)
     (λ c κs. search needs)
     add-before
     (λ c κs. search needs)
     add-len
-    returns-7)
+    (λ c κs. search needs)
+    (λ c. search needs)
+    (λ c. search needs)
+    returns-5
+    returns-6)

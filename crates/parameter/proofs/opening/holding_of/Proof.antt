@@ -10,7 +10,7 @@ use lib.Dec.{T}
 use borrow.Author.Needs.{needs}
 use borrow.Author.Tests.{eq-eqb, ne-eqb}
 use Rattle.annex.specs.Heads.{Form, formOf}
-use Rattle.annex.specs.Heads.Form.{Carried, Digits, Number, Calling, Generic, Long, Two}
+use Rattle.annex.specs.Heads.Form.{Checked, Digits, Number, Calling, Generic}
 use Rattle.annex.specs.Items.{holdingBy, holdingOf}
 use Rattle.laws.specs.Bools.{true-T}
 use Rattle.laws.specs.Octet.{rest, None}
@@ -22,13 +22,11 @@ use Rattle.parameter.proofs.opening.holding_of.Statement.{statement}
 use Rattle.parameter.proofs.opening.holding_of.Tie as tie
 
 dialled : (f : Form) (x : ℕ) → T (isDialled f) → held.Digits ≡ heldBy (holdingBy f x)
-dialled Carried x t = absurd t
+dialled (Checked c) x t = absurd t
 dialled (Digits m) x t = refl
 dialled Number x t = absurd t
 dialled Calling x t = absurd t
 dialled Generic x t = absurd t
-dialled (Long n) x t = absurd t
-dialled (Two mask) x t = absurd t
 
 abbrev isContents : Held → Bool
 isContents held.Contents = true

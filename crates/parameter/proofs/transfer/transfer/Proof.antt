@@ -4,10 +4,10 @@ use borrow.Author.Needs.{needs}
 use borrow.Author.Tests.{lt-ltb, le-ltb, lt-leb, le-leb}
 use lib.Dec.{ltb}
 use lib.ListN.{length, take}
-use Rattle.annex.specs.Answers.{refuse, cut-contents}
+use Rattle.annex.specs.Answers.{refuse, soundThen, headerAt, cut-contents}
 use Rattle.annex.specs.Units.{extentOf, contentsIn}
 use Rattle.annex.specs.Contents.{faultOf}
-use Rattle.annex.specs.Reading.{soundThen, transferOf}
+use Rattle.annex.specs.Reading.{transferOf}
 use Rattle.annex.specs.declared.Answer.the-variants.{Accepted}
 use Rattle.laws.specs.Extents.{lead-within}
 use Rattle.laws.specs.Parts.{from-to}
@@ -38,7 +38,7 @@ past-10 : (c : tie.After-octets-after) →
     let a = c .before .before .before .before .before .before .before .before .before .before .args in
     let n = c .octets-after .result in
     let xs = a .xs .now in
-    transferOf (a .times) (a .header) xs ≡ refuse (ltb (length xs) n) cut-contents 0 (soundThen (faultOf (a .header) (contentsIn (extentOf (a .header)) (take n xs))) (Accepted n))
+    transferOf (a .times) (a .header) xs ≡ refuse (ltb (length xs) n) cut-contents 0 (soundThen (headerAt 0) (faultOf (a .header) (contentsIn (extentOf (a .header)) (take n xs))) (Accepted n))
 unfolding transferOf
 past-10 c =
     let x = c .before .before in
@@ -58,7 +58,7 @@ sub-contents-fault c =
 past-11 : (c : tie.After-contents-fault) →
     let n = c .before .before .before .before in
     let a = n .before .before .before .before .before .before .before .before .before .before .args in
-    transferOf (a .times) (a .header) (a .xs .now) ≡ soundThen (c .contents-fault .result) (Accepted (n .octets-after .result))
+    transferOf (a .times) (a .header) (a .xs .now) ≡ soundThen (headerAt 0) (c .contents-fault .result) (Accepted (n .octets-after .result))
 past-11 c =
     let l = c .before .before in
     let n = l .before .before in

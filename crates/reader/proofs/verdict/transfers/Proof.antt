@@ -40,7 +40,7 @@ shift-requires : tie.Need-shift-requires Inv-loop μ-loop
 shift-requires c κs =
     let t = c .before .before in
     let e = c .enum-told .given .1 in
-    rw e (omega (arith, transfer-place _ _ _ .at _ _ (step-is t ∙ e)))
+    rw e (omega (arith, simp length-drop at (transfer-place _ _ _ .at _ _ (step-is t ∙ e))))
 
 returns : tie.Need-returns Inv-loop μ-loop
 returns c =

@@ -1,0 +1,132 @@
+-- Where a fault lies: 12 may stand at the start of the contents though they are empty, and every other fault has its octet among them.
+use Prim.Native.Nat.{ℕ, zero, suc, _+_, _*_, _/_, _%_, _≤_, _<_}
+use native.Mathlib.Omega.{arith}
+use mathlib.Core.Path.{_≡_, refl}
+use mathlib.Core.Bool.{Bool, true, false, cond, not, _&&_}
+use mathlib.Core.List.{List, [], _∷_}
+use mathlib.Core.Logic.{_⊎_, inl, inr, ⊎-elim}
+use borrow.Author.Tests.{ltb-false, eqb-false, not-true}
+use lib.Dec.{eqb, ltb}
+use lib.ListN.{length, getD, drop, length-drop}
+use Rattle.annex.specs.Answers.{bad-form, bad-digit}
+use Rattle.annex.specs.Units.{leadOf, contentsIn}
+use Rattle.annex.specs.Heads.{added-calling-number, withheld, Check, Form, zeroesOf, formOf}
+use Rattle.annex.specs.Heads.Check.{Nothing, Long, Two}
+use Rattle.annex.specs.Heads.Form.{Checked, Digits, Number, Calling, Generic}
+use Rattle.annex.specs.Digits.{halves, isCode, isDigit, halvesFault, digitsFault}
+use Rattle.annex.specs.Contents.{clear, formedThen, formed, oddOf, presentationOf, countOf, numberFault, callingFault, genericFault, dialledFault, twoFault, checkFault, faultBy, faultOf}
+use Rattle.annex.specs.Items.{Item, Holding, contentsBy, heldAs, contentsOf}
+use Rattle.annex.specs.Items.Holding.{AsContents, AsDigits, AsNumber, AsGeneric}
+use Rattle.annex.specs.Allowed.{every, marksRight, fieldsRight, numberRight, valuesFault, faultAs, faultIn}
+use Rattle.annex.specs.declared.Alphabet.{Alphabet}
+use Rattle.annex.specs.declared.Alphabet.the-variants.{Dialled, Numbered}
+use Rattle.annex.specs.declared.Extent.{Extent}
+use Rattle.annex.specs.declared.Fault.{Fault}
+use Rattle.annex.specs.declared.Fault.the-variants.{Sound, Bad}
+use Rattle.laws.specs.Halves.{length-halves}
+
+-- a fault of contents of n octets: 12 at their start, or at an octet that is there
+pub record Within (n : ℕ) (f : Fault) : Type 0 where
+  pub at : (k j : ℕ) → f ≡ Bad k j → ((k ≡ bad-form) × (j ≡ 0)) ⊎ (j < n)
+
+pub sound-within : (n : ℕ) → Within n Sound
+sound-within n = record { at = λ k j e. absurd (let z : _≡_ {A = ℕ} 0 1 = cc in omega arith) }
+
+pub bad-within : (n k j : ℕ) → j < n → Within n (Bad k j)
+bad-within n k j l = record { at = λ m i e. inr (let same : j ≡ i = cc in omega arith) }
+
+form-within : (n : ℕ) → Within n (Bad bad-form 0)
+form-within n = record { at = λ m i e. inl ((cc), (cc)) }
+
+-- 12, and what follows where the form is kept
+pub formed-within : (n : ℕ) (b : Bool) (f : Fault) → (b ≡ true → Within n f) → Within n (formedThen b f)
+formed-within n true f w = w refl
+formed-within n false f w = form-within n
+
+pub formed-alone : (n : ℕ) (b : Bool) → Within n (formed b)
+formed-alone n b = formed-within n b Sound (λ t. sound-within n)
+
+pub cond-within : (n : ℕ) (b : Bool) (f g : Fault) → Within n f → Within n g → Within n (cond b f g)
+cond-within n true f g v w = v
+cond-within n false f g v w = w
+
+-- ---- contents
+
+halves-within : (z : Alphabet) (n i : ℕ) (hs : List ℕ) (m : ℕ) → i + length hs ≤ 2 * m → Within m (halvesFault z n i hs)
+unfolding halvesFault
+halves-within z n i [] m l = sound-within m
+halves-within z zero i (h ∷ hs) m l =
+    cond-within m (eqb h 0) (halvesFault z zero (i + 1) hs) (Bad bad-digit (i / 2)) (halves-within z zero (i + 1) hs m (omega arith)) (bad-within m bad-digit (i / 2) (omega arith))
+halves-within z (suc n) i (h ∷ hs) m l =
+    cond-within m (isCode z h) (halvesFault z n (i + 1) hs) (Bad bad-digit (i / 2)) (halves-within z n (i + 1) hs m (omega arith)) (bad-within m bad-digit (i / 2) (omega arith))
+
+digits-within : (z : Alphabet) (n at : ℕ) (s : List ℕ) (m : ℕ) → at + length s ≤ m → Within m (digitsFault z n at s)
+unfolding digitsFault
+digits-within z n at s m l = halves-within z n (2 * at) (halves s) m (omega (arith, length-halves s))
+
+number-within : (at : ℕ) (s : List ℕ) (m : ℕ) → at + length s ≤ m → Within m (numberFault at s)
+unfolding numberFault
+number-within at s m l =
+    formed-within m (not (ltb (length s) 2)) _
+    (λ t. formed-within m (not (eqb (oddOf s) 1 && eqb (length s) 2)) _
+    (λ u. digits-within Numbered (countOf s) (at + 2) (drop 2 s) m (omega (arith, length-drop 2 s, ltb-false (length s) 2 (not-true (ltb (length s) 2) t)))))
+
+calling-within : (s : List ℕ) → Within (length s) (callingFault s)
+unfolding callingFault
+calling-within s =
+    let nothing = eqb (length s) 2 && (eqb (getD s 0 0) 0 && ltb (getD s 1 0) 16) in
+    cond-within (length s) (eqb (presentationOf s) withheld) (formed nothing) (numberFault 0 s)
+    (formed-alone (length s) nothing) (number-within 0 s (length s) (omega arith))
+
+generic-within : (s : List ℕ) → Within (length s) (genericFault s)
+unfolding genericFault
+generic-within s =
+    formed-within (length s) (not (eqb (length s) 0)) _
+    (λ t. cond-within (length s) (eqb (getD s 0 0) added-calling-number) (numberFault 1 (drop 1 s)) Sound
+    (number-within 1 (drop 1 s) (length s) (omega (arith, length-drop 1 s, eqb-false (length s) 0 (not-true (eqb (length s) 0) t))))
+    (sound-within (length s)))
+
+dialled-within : (s : List ℕ) → Within (length s) (dialledFault s)
+unfolding dialledFault digitsFault halvesFault halves
+dialled-within [] = sound-within 0
+dialled-within (x ∷ s) = digits-within Dialled (x % 64) 1 s (length (x ∷ s)) (omega arith)
+
+-- the one law that each check owes
+check-within : (c : Check) (s : List ℕ) → Within (length s) (checkFault c s)
+unfolding twoFault
+check-within Nothing s = sound-within (length s)
+check-within (Long n) s = formed-alone (length s) (eqb (length s) n)
+check-within (Two mask) s = formed-alone (length s) (eqb (length s) 2 && clear mask (getD s 1 0))
+
+by-within : (f : Form) (s : List ℕ) → Within (length s) (faultBy f s)
+by-within (Checked c) s = check-within c s
+by-within (Digits m) s = dialled-within s
+by-within Number s = number-within 0 s (length s) (omega arith)
+by-within Calling s = calling-within s
+by-within Generic s = generic-within s
+
+pub fault-within : (h : ℕ) (s : List ℕ) → Within (length s) (faultOf h s)
+unfolding faultOf
+fault-within h s = formed-within (length s) (clear (zeroesOf h) (getD s 0 0)) (faultBy (formOf h) s) (λ t. by-within (formOf h) s)
+
+-- told of the octets after a header: counted from the header, the octet of a fault other than 12 is there
+pub octet-there : (e : Extent) (h : ℕ) (own : List ℕ) (k j : ℕ) → faultOf h (contentsIn e own) ≡ Bad k j → (k ≡ bad-form → ⊥) → 1 + leadOf e + j ≤ length own
+octet-there e h own k j f other =
+    ⊎-elim (λ w. absurd (other (w .0))) (λ w. omega (arith, length-drop (leadOf e) own)) (fault-within h (contentsIn e own) .at k j f)
+
+-- ---- a record's values
+
+values-within : (n : ℕ) (b : Bool) (ds : List ℕ) → 0 < n → Within n (formedThen b (valuesFault ds))
+values-within n b ds l =
+    formed-within n b (valuesFault ds)
+    (λ t. cond-within n (every isDigit ds) Sound (Bad bad-digit 0) (sound-within n) (bad-within n bad-digit 0 l))
+
+as-within : (k : Holding) (i : Item) → Within (length (contentsBy k i)) (faultAs k i)
+as-within AsContents i = fault-within (i .header) (i .values)
+as-within (AsDigits m) i = values-within (length (contentsBy (AsDigits m) i)) (marksRight m i) (i .values) (omega arith)
+as-within AsNumber i = values-within (length (contentsBy AsNumber i)) (numberRight i) (i .values) (omega arith)
+as-within AsGeneric i = values-within (length (contentsBy AsGeneric i)) (fieldsRight i) (drop 1 (i .values)) (omega arith)
+
+pub item-within : (i : Item) → Within (length (contentsOf i)) (faultIn i)
+unfolding contentsOf faultIn
+item-within i = as-within (heldAs i) i
