@@ -1,27 +1,27 @@
--- The caller's table of octets with the first rows of a message stored, from none of them to all that the listing gives.
-use Prim.Native.Nat.{ℕ, _+_, _-_, _*_, _/_, _<_, _≤_}
-use native.Mathlib.Numerals.{add-one}
+-- The caller's table of octets while the rows of a message are stored in one walk: what is left to store decides what it will hold.
+use Prim.Native.Nat.{ℕ, suc, _+_, _*_, _/_, _≤_}
+use native.Mathlib.Nat.{add-zero}
 use native.Mathlib.Omega.{arith}
 use mathlib.Core.Path.{_≡_, refl, sym, ap, _∙_}
 use mathlib.Core.Bool.{Bool, true, false}
-use mathlib.Core.List.{List, [], _∷_, _++_, append-assoc, append-nil}
+use mathlib.Core.List.{List, [], _∷_, _++_, append-assoc}
+use borrow.Author.Tests.{ltb-false}
 use lib.Dec.{ltb}
-use lib.ListN.{length, take, drop, length-append, length-drop}
-use lib.Seq.{sets, take-suc, take-all, length-take-le}
-use borrow.Rule.Slice.PartMut.{putMid}
-use Rattle.annex.specs.Answers.{givenOf}
+use lib.ListN.{length, getD, drop, set, length-append}
+use lib.Seq.{sets, length-sets, getD-drop}
 use Rattle.annex.specs.Reading.{verdictOf}
-use Rattle.annex.specs.Spans.{rowsOf, noRow, rowAt, spansOf}
+use Rattle.annex.specs.Spans.{rowsOf, spansOf}
 use Rattle.annex.specs.Packed.{row-octets, rowOctets, rowsOctets, octetSpans, octetsBy, octetTable}
 use Rattle.annex.specs.declared.Answer.{Answer}
 use Rattle.annex.specs.declared.Answer.the-variants.{Accepted, Refused}
 use Rattle.annex.specs.declared.Row.{Row}
-use Rattle.laws.specs.Listed.{listed, Within, spansBy}
-use Rattle.laws.specs.Fronts.{front-all, front-then}
+use Rattle.laws.specs.Fronts.{front-all}
+use Rattle.laws.specs.Listed.{spansBy}
+use Rattle.laws.specs.Rows.{Accepts}
 
 -- ---- the octets of rows
 
-length-rows : (rs : List Row) → length (rowsOctets rs) ≡ row-octets * length rs
+pub length-rows : (rs : List Row) → length (rowsOctets rs) ≡ row-octets * length rs
 unfolding rowsOctets
 length-rows [] = refl
 length-rows (r ∷ rs) = omega (arith, length-append (rowOctets r) (rowsOctets rs), length-rows rs)
@@ -31,61 +31,99 @@ unfolding rowsOctets
 rows-append [] ts = refl
 rows-append (r ∷ rs) ts = rw (rows-append rs ts, append-assoc (rowOctets r) (rowsOctets rs) (rowsOctets ts))
 
--- ---- turn by turn
+-- a run of stores in two
+sets-append : (l : List ℕ) (i : ℕ) (xs ys : List ℕ) → sets l i (xs ++ ys) ≡ sets (sets l i xs) (i + length xs) ys
+sets-append l i [] ys = rw (add-zero i)
+sets-append l i (x ∷ xs) ys =
+    let e : i + suc (length xs) ≡ suc i + length xs = omega arith in
+    rw e (sets-append (set l i x) (suc i) xs ys)
 
--- the table with the first k rows of m stored
-unfoldable pub stored : List ℕ → List ℕ → ℕ → List ℕ
-stored m table k = rowsOctets (take k (listed m)) ++ drop (row-octets * k) table
+-- the octet after a header
+pub first-of : (i : ℕ) (t : List ℕ) → getD (drop i t) 0 0 ≡ getD t i 0
+first-of i t = getD-drop i t 0 0 ∙ rw (add-zero i)
 
-pub stored-none : (m table : List ℕ) → stored m table 0 ≡ table
-unfolding stored rowsOctets
-stored-none m table = refl
+-- ---- stored
 
-module _ (m table : List ℕ) (k : ℕ) (w : Within m (length table / row-octets) k) where
-  first-long : length (rowsOctets (take k (listed m))) ≡ row-octets * k
-  first-long = length-rows (take k (listed m)) ∙ ap (λ (n : ℕ). row-octets * n) (length-take-le k (listed m) (w .there))
+-- rows stored from `at` on, up to r
+pub record Puts (rows : List Row) (at : ℕ) (before : List ℕ) (r : ℕ) (after : List ℕ) : Type 0 where
+  pub ends : r ≡ at + length (rowsOctets rows)
+  pub put : after ≡ sets before at (rowsOctets rows)
 
-  first-fits : row-octets * k ≤ length table
-  first-fits = omega (arith, w .roomy)
+-- of the rows `all`, to be stored in `before` from `first` on, `rows` are left, to be stored in `now` from `at` on
+pub record Left (all : List Row) (first : ℕ) (before : List ℕ) (rows : List Row) (at : ℕ) (now : List ℕ) : Type 0 where
+  pub ends : first + length (rowsOctets all) ≡ at + length (rowsOctets rows)
+  pub put : sets before first (rowsOctets all) ≡ sets now at (rowsOctets rows)
+  pub long : length now ≡ length before
 
-  pub stored-length : length (stored m table k) ≡ length table
-  unfolding stored
-  stored-length =
-      omega (arith, first-long, first-fits, length-append (rowsOctets (take k (listed m))) (drop (row-octets * k) table), length-drop (row-octets * k) table)
+pub left-all : (rows : List Row) (at : ℕ) (now : List ℕ) → Left rows at now rows at now
+left-all rows at now = record { ends = refl; put = refl; long = refl }
 
-  -- as a run of stores from the front on
-  stored-run : stored m table k ≡ sets table 0 (rowsOctets (take k (listed m)))
-  unfolding stored
-  stored-run =
-      let first = rowsOctets (take k (listed m)) in
-      sym (front-all table first (omega (arith, first-long, first-fits)) ∙ ap (λ (n : ℕ). first ++ drop n table) first-long)
+module _ {all : List Row} {first : ℕ} {before : List ℕ} where
+  -- some of them stored
+  pub left-some : (xs ys : List Row) (at r : ℕ) (now after : List ℕ) → Left all first before (xs ++ ys) at now → Puts xs at now r after → Left all first before ys r after
+  left-some xs ys at r now after l p =
+      let e = length-append (rowsOctets xs) (rowsOctets ys) in
+      let f = ap (λ (s : List ℕ). length s) (rows-append xs ys) in
+      record {
+        ends = omega (arith, l .ends, p .ends);
+        put = l .put ∙ rw (rows-append xs ys, p .put, p .ends) (sets-append now at (rowsOctets xs) (rowsOctets ys));
+        long = rw (p .put, length-sets now at (rowsOctets xs)) (l .long);
+      }
 
--- a turn: the table behind k rows is lent, and row k written at its front
-pub stored-more : (m table : List ℕ) (k : ℕ) → Within m (length table / row-octets) (k + 1) →
-    let at = row-octets * k in
-    let l = stored m table k in
-    (ys : List ℕ) → ys ≡ rowOctets (rowAt m k) ++ drop row-octets (take (length l - at) (drop at l)) → putMid at (length l - at) l ys ≡ stored m table (k + 1)
-unfolding stored rowAt rowsOctets
-stored-more m table k w ys e =
-    let before : Within m (length table / row-octets) k = record { there = omega (arith, w .there); roomy = omega (arith, w .roomy) } in
-    let first = rowsOctets (take k (listed m)) in
-    let x = rowOctets (rowAt m k) in
-    let t : k < length (listed m) = omega (arith, w .there) in
-    let long = sym (first-long m table k before) in
-    let run = stored-run m table k before in
-    let all : first ++ x ≡ rowsOctets (take (k + 1) (listed m)) =
-    ap (λ (s : List ℕ). first ++ s) (sym (append-nil x)) ∙ sym (rw (add-one k, take-suc (listed m) k noRow t) (rows-append (take k (listed m)) (rowAt m k ∷ []))) in
-    let fits : length first + length x ≤ length table = omega (arith, first-long m table k before, w .roomy) in
-    let turned : putMid (row-octets * k) (length (stored m table k) - row-octets * k) (stored m table k) ys ≡ (first ++ x) ++ drop (length (first ++ x)) table =
-    rw (run, long) (front-then table first x ys fits (rw (run, long) at e)) in
-    turned ∙ rw (all, first-long m table (k + 1) w)
+  -- one of them stored
+  pub left-one : (x : Row) (ys : List Row) (at : ℕ) (now after : List ℕ) → Left all first before (x ∷ ys) at now → after ≡ sets now at (rowOctets x) → Left all first before ys (at + row-octets) after
+  unfolding rowsOctets
+  left-one x ys at now after l e =
+      left-some (x ∷ []) ys at (at + row-octets) now after l
+      (record { ends = refl; put = e })
 
--- with all rows stored that the listing gives, the table is what it has to be
-pub stored-all : (m table : List ℕ) → stored m table (givenOf (octetSpans m (length table))) ≡ octetTable m table
-unfolding stored spansOf octetTable rowsOctets
-stored-all m table = go (verdictOf m) (ltb (length table / row-octets) (length (rowsOf m))) refl
+  -- none left
+  pub left-none : (at : ℕ) (now : List ℕ) → Left all first before [] at now → Puts all first before at now
+  unfolding rowsOctets
+  left-none at now l = record { ends = omega (arith, l .ends); put = sym (l .put) }
+
+  -- there is room for what is left
+  pub left-fits : (rows : List Row) (at : ℕ) (now : List ℕ) → Left all first before rows at now → first + length (rowsOctets all) ≤ length before → at + length (rowsOctets rows) ≤ length now
+  left-fits rows at now l h = omega (arith, l .ends, l .long)
+
+  pub left-fits-one : (x : Row) (rows : List Row) (at : ℕ) (now : List ℕ) → Left all first before (x ∷ rows) at now → first + length (rowsOctets all) ≤ length before → at + row-octets ≤ length now
+  left-fits-one x rows at now l h =
+      omega (arith, l .ends, l .long, length-rows (x ∷ rows))
+
+  pub left-fits-some : (xs ys : List Row) (at : ℕ) (now : List ℕ) → Left all first before (xs ++ ys) at now → first + length (rowsOctets all) ≤ length before → at + length (rowsOctets xs) ≤ length now
+  left-fits-some xs ys at now l h =
+      let e = length-append (rowsOctets xs) (rowsOctets ys) in
+      let f = ap (λ (s : List ℕ). length s) (rows-append xs ys) in
+      omega (arith, l .ends, l .long)
+
+-- ---- what the listing answers
+
+-- an accepted listing: the message is accepted, and there is room for its rows
+pub record Listing (m : List ℕ) (room n : ℕ) : Type 0 where
+  pub accepts : Accepts m
+  pub count : n ≡ length (rowsOf m)
+  pub roomy : length (rowsOf m) ≤ room
+
+pub listing : (m : List ℕ) (room n : ℕ) → spansOf m room ≡ Accepted n → Listing m room n
+unfolding spansOf
+listing m room n e = go (verdictOf m) (ltb room (length (rowsOf m))) refl (ltb-false room (length (rowsOf m))) e
   where
-    go : (a : Answer) (b : Bool) → verdictOf m ≡ a → rowsOctets (take (givenOf (spansBy a b m)) (listed m)) ++ drop (row-octets * givenOf (spansBy a b m)) table ≡ octetsBy (spansBy a b m) (rowsOctets (rowsOf m)) table
-    go (Accepted q) true e = refl
-    go (Accepted q) false e = rw (e, take-all (length (rowsOf m)) (rowsOf m) (omega arith))
-    go (Refused k p) b e = refl
+    go : (a : Answer) (b : Bool) → verdictOf m ≡ a → (b ≡ false → length (rowsOf m) ≤ room) → spansBy a b m ≡ Accepted n → Listing m room n
+    go (Accepted q) true f h g = absurd (let z : _≡_ {A = ℕ} 0 1 = cc in omega arith)
+    go (Accepted q) false f h g = let c : n ≡ length (rowsOf m) = cc in record { accepts = (q, f); count = c; roomy = h refl }
+    go (Refused k p) b f h g = absurd (let z : _≡_ {A = ℕ} 0 1 = cc in omega arith)
+
+pub listing-fits : (m table : List ℕ) (n : ℕ) → Listing m (length table / row-octets) n → length (rowsOctets (rowsOf m)) ≤ length table
+listing-fits m table n l = omega (arith, length-rows (rowsOf m), l .roomy)
+
+-- the table after an accepted listing, and after a refused one
+pub table-put : (m table now : List ℕ) (n r : ℕ) → octetSpans m (length table) ≡ Accepted n → Puts (rowsOf m) 0 table r now → now ≡ octetTable m table
+unfolding octetTable
+table-put m table now n r e p =
+    let l = listing m (length table / row-octets) n e in
+    let k : length (rowsOctets (rowsOf m)) ≡ row-octets * n = omega (arith, length-rows (rowsOf m), l .count) in
+    rw (e, p .put, front-all table (rowsOctets (rowsOf m)) (listing-fits m table n l), k)
+
+pub table-kept : (m table : List ℕ) (k p : ℕ) → octetSpans m (length table) ≡ Refused k p → table ≡ octetTable m table
+unfolding octetTable
+table-kept m table k p e = rw e

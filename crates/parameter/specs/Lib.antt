@@ -1,5 +1,5 @@
 -- What the contracts of this crate's functions cite beside the definitions of `annex`.
-pub mod Listed
-pub mod Forms
+pub mod Pairs
+pub mod Asked
 pub mod Opening
 pub mod Laying

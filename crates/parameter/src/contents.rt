@@ -1,21 +1,26 @@
 // What is wrong with the contents of one transfer parameter: the refusal's number, and the offset of the octet in the contents.
 use crate::digits::half_at;
 use crate::digits::is_code;
-use crate::heads::holds_digits;
-use crate::heads::zeroes_of;
+use crate::heads::Shape;
+use crate::heads::head_of;
 use annex::Alphabet;
 use annex::Answer;
 use annex::Fault;
 use annex::Transfer;
 ghost use mathlib.Core.Path.{_≡_};
-ghost use mathlib.Core.Bool.{cond};
-ghost use Prim.Native.Nat.{_≤_};
+ghost use mathlib.Core.Bool.{true, cond};
+ghost use Prim.Native.Nat.{ℕ, _≤_};
 ghost use lib.Dec.{eqb};
 ghost use lib.ListN.{getD};
 ghost use Rattle.annex.specs.Promises.{Gives};
-ghost use Rattle.annex.specs.Heads.{formOf};
 ghost use Rattle.annex.specs.Digits.{isCode, digitsFault};
+ghost use Rattle.annex.specs.Allowed.{every};
+ghost use Rattle.annex.specs.declared.Fault.the-variants.{Sound};
+ghost use Rattle.parameter.specs.Pairs.{isPair};
+ghost use Rattle.parameter.specs.Asked.{formBy};
 ghost use Rattle.annex.specs.Contents.{
+  clear,
+  formedThen,
   formed as formedOf,
   numberFault,
   callingFault,
@@ -54,8 +59,45 @@ fn half_right(z: Alphabet, digit: bool, h: u8) -> bool
     if digit { is_code(z, h) } else { h == 0 }
 }
 
-// The octets s, the first of them at the offset `at` of the contents, hold n digits and filler.
-fn digits_fault(z: Alphabet, n: usize, at: usize, s: &[u8]) -> Fault
+// Whether both halves of an octet are digits.
+fn pair_right(z: Alphabet, x: u8) -> bool
+    ensures { λ r. ⌜ r ≡ isPair z x ⌝ }
+{
+    is_code(z, x % 16) & is_code(z, x / 16)
+}
+
+// Whether both halves of every octet are digits. No turn leaves early, so that the compiler can take many octets at once.
+fn are_pairs(z: Alphabet, s: &[u8]) -> bool
+    ensures { λ r. ⌜ r ≡ every (isPair z) (now (s .entry)) ⌝ }
+{
+    let mut good = true;
+    let mut i: usize = 0;
+    while i < s.len() {
+        good = good & pair_right(z, s[i]);
+        i += 1;
+    }
+    good
+}
+
+// True only where the octets hold n digits and filler: they are as many as n digits take, and nothing in them is wrong.
+fn are_sound(z: Alphabet, n: usize, s: &[u8]) -> bool
+    ensures { λ r. ⌜ (r ≡ true → (at : ℕ) → digitsFault z n at (now (s .entry)) ≡ Sound) ⌝ }
+{
+    let k = n / 2;
+    if s.len() != k + n % 2 {
+        return false;
+    }
+    if !are_pairs(z, &s[..k]) {
+        return false;
+    }
+    if n % 2 == 0 {
+        return true;
+    }
+    is_code(z, s[k])
+}
+
+// The place of the first half-octet that is not as it must be.
+fn first_fault(z: Alphabet, n: usize, at: usize, s: &[u8]) -> Fault
     requires { ⌜ at ≤ 3 ⌝ }
     ensures { λ r. ⌜ r ≡ digitsFault z n at (now (s .entry)) ⌝ }
 {
@@ -69,6 +111,18 @@ fn digits_fault(z: Alphabet, n: usize, at: usize, s: &[u8]) -> Fault
         i += 1;
     }
     Fault::Sound
+}
+
+// The octets s, the first of them at the offset `at` of the contents, hold n digits and filler. The place is looked for only where
+// something is wrong.
+fn digits_fault(z: Alphabet, n: usize, at: usize, s: &[u8]) -> Fault
+    requires { ⌜ at ≤ 3 ⌝ }
+    ensures { λ r. ⌜ r ≡ digitsFault z n at (now (s .entry)) ⌝ }
+{
+    if are_sound(z, n, s) {
+        return Fault::Sound;
+    }
+    first_fault(z, n, at, s)
 }
 
 // PLI 10: the count octet, then its digits.
@@ -140,32 +194,41 @@ fn two_fault(mask: u8, s: &[u8]) -> Fault
     formed(second & mask == 0)
 }
 
-// The form that the header asks.
-fn form_fault(header: u8, s: &[u8]) -> Fault
-    ensures { λ r. ⌜ r ≡ faultBy (formOf header) (now (s .entry)) ⌝ }
+// What a form asks.
+fn shape_fault(shape: Shape, s: &[u8]) -> Fault
+    ensures { λ r. ⌜ r ≡ faultBy (formBy shape) (now (s .entry)) ⌝ }
 {
-    if holds_digits(header) {
-        return dialled_fault(s);
-    }
-    match header {
-        Transfer::CALLING_USER_NUMBER => number_fault(0, s),
-        Transfer::CALLING_NUMBER => calling_fault(s),
-        Transfer::GENERIC_NUMBER => generic_fault(s),
-        Transfer::CALL_DURATION => formed(s.len() == 4),
-        Transfer::SECOND_FUNCTION => two_fault(0xFC, s),
-        Transfer::FORWARD_CALL => two_fault(0x08, s),
-        _ => Fault::Sound,
+    match shape {
+        Shape::Carried => Fault::Sound,
+        Shape::Unmarked => dialled_fault(s),
+        Shape::Notified => dialled_fault(s),
+        Shape::Verified => dialled_fault(s),
+        Shape::Typed => dialled_fault(s),
+        Shape::Number => number_fault(0, s),
+        Shape::Calling => calling_fault(s),
+        Shape::Generic => generic_fault(s),
+        Shape::Duration => formed(s.len() == 4),
+        Shape::SecondFunction => two_fault(0xFC, s),
+        Shape::ForwardCall => two_fault(0x08, s),
     }
 }
 
-// The contents s under a header: first the bits that must be 0, then the form.
-pub fn contents_fault(header: u8, s: &[u8]) -> Fault
-    ensures { λ r. ⌜ Gives (faultOf header (now (s .entry))) r ⌝ }
+// The contents s: first the bits of their first octet that must be 0, then the form.
+pub fn fault_under(zeroes: u8, shape: Shape, s: &[u8]) -> Fault
+    ensures { λ r. ⌜ Gives (formedThen (clear zeroes (getD (now (s .entry)) 0 0)) (faultBy (formBy shape) (now (s .entry)))) r ⌝ }
 {
     let first = octet_at(s, 0);
-    let zeroes = zeroes_of(header);
     if first & zeroes != 0 {
         return Fault::Bad(Answer::BAD_FORM, 0);
     }
-    form_fault(header, s)
+    shape_fault(shape, s)
+}
+
+// The contents s under a header.
+pub fn contents_fault(header: u8, s: &[u8]) -> Fault
+    ensures { λ r. ⌜ Gives (faultOf header (now (s .entry))) r ⌝ }
+{
+    let asked = head_of(header);
+    let shape = asked.shape;
+    fault_under(asked.zeroes, shape, s)
 }

@@ -3,9 +3,8 @@
 use crate::contents::contents_fault;
 use crate::contents::octet_at;
 use crate::digits::code_of;
-use crate::heads::name_used;
+use crate::heads::head_of;
 use crate::heads::often_of;
-use crate::heads::pli_right;
 use crate::opening::Held;
 use crate::opening::holding_of;
 use crate::opening::octets_from;
@@ -20,13 +19,13 @@ use annex::HalfOctets;
 use annex::Transfer;
 use octets::copy_in;
 ghost use mathlib.Core.Path.{_≡_};
-ghost use mathlib.Core.List.{List, [], map};
+ghost use mathlib.Core.List.{List, []};
 ghost use Prim.Native.Nat.{ℕ, _+_, _/_, _≤_};
 ghost use lib.Dec.{leb};
 ghost use lib.ListN.{length, getD};
 ghost use Rattle.annex.specs.Promises.{Gives, Stores};
 ghost use Rattle.annex.specs.Units.{extentOf};
-ghost use Rattle.annex.specs.Digits.{isDigit, codeOf, packed};
+ghost use Rattle.annex.specs.Digits.{isDigit, packed};
 ghost use Rattle.annex.specs.Contents.{formedThen};
 ghost use Rattle.annex.specs.Items.{holdingOf, upperMarks, numberContents, contentsBy, contentsOf, Holding.AsDigits, Holding.AsGeneric};
 ghost use Rattle.annex.specs.Layout.{layoutItem};
@@ -53,11 +52,11 @@ fn packed_len(digits: usize) -> usize
     octets.0
 }
 
-// How many octets the contents have.
-pub fn contents_len(t: Transfer, values: &[u8]) -> usize
-    ensures { λ r. ⌜ Gives (length (contentsOf (itemFrom t (now (values .entry))))) r ⌝ }
+// How many octets the contents have whose values are held so.
+fn len_as(held: Held, t: Transfer, values: &[u8]) -> usize
+    requires { ⌜ holdingOf (t .header) (getD (now values) 0 0) ≡ asHeld held (marksOf (t .header)) ⌝ }
+    ensures { λ r. ⌜ r ≡ length (contentsOf (itemFrom t (now (values .entry)))) ⌝ }
 {
-    let held = held_as(t.header, values);
     match held {
         Held::Contents => values.len(),
         Held::Digits => 1 + packed_len(values.len()),
@@ -67,6 +66,14 @@ pub fn contents_len(t: Transfer, values: &[u8]) -> usize
             3 + packed_len(digits.len())
         }
     }
+}
+
+// How many octets the contents have.
+pub fn contents_len(t: Transfer, values: &[u8]) -> usize
+    ensures { λ r. ⌜ Gives (length (contentsOf (itemFrom t (now (values .entry))))) r ⌝ }
+{
+    let held = held_as(t.header, values);
+    len_as(held, t, values)
 }
 
 // Whether contents that are held as they are have the length that the PLI gives.
@@ -82,15 +89,15 @@ fn length_fits(header: u8, s: &[u8]) -> bool
 }
 
 // Whether the contents have the length that the PLI gives, and digits of PLI 10 are not too many.
-fn length_right(t: Transfer, values: &[u8]) -> bool
+fn length_right(held: Held, t: Transfer, values: &[u8]) -> bool
+    requires { ⌜ holdingOf (t .header) (getD (now values) 0 0) ≡ asHeld held (marksOf (t .header)) ⌝ }
     ensures { λ r. ⌜ r ≡ lengthRight (rawItem t (now (values .entry))) ⌝ }
 {
-    let held = held_as(t.header, values);
     match held {
         Held::Contents => length_fits(t.header, values),
         Held::Digits => values.len() <= Transfer::MOST_DIGITS,
-        Held::Number => contents_len(t, values) <= Transfer::MOST_OCTETS,
-        Held::Generic => contents_len(t, values) <= Transfer::MOST_OCTETS,
+        Held::Number => len_as(held, t, values) <= Transfer::MOST_OCTETS,
+        Held::Generic => len_as(held, t, values) <= Transfer::MOST_OCTETS,
     }
 }
 
@@ -164,18 +171,17 @@ fn number_right(t: Transfer, digits: &[u8]) -> bool
     withheld_right(t, digits)
 }
 
-// Whether each value is a digit.
+// Whether each value is a digit. No turn leaves early, so that the compiler can take many at once.
 fn are_digits(values: &[u8]) -> bool
     ensures { λ r. ⌜ r ≡ every isDigit (now (values .entry)) ⌝ }
 {
+    let mut good = true;
     let mut i: usize = 0;
     while i < values.len() {
-        if 11 < values[i] {
-            return false;
-        }
+        good = good & (values[i] <= 11);
         i += 1;
     }
-    true
+    good
 }
 
 // Digits and numbers: a mark or field too large for its bits, then a value that is no digit.
@@ -193,10 +199,10 @@ fn fields_fault(good: bool, digits: &[u8]) -> Fault
 }
 
 // What is wrong with the values: those that are held as contents have the faults that reading finds.
-fn values_fault(t: Transfer, values: &[u8]) -> Fault
+fn values_fault(held: Held, t: Transfer, values: &[u8]) -> Fault
+    requires { ⌜ holdingOf (t .header) (getD (now values) 0 0) ≡ asHeld held (marksOf (t .header)) ⌝ }
     ensures { λ r. ⌜ r ≡ faultIn (rawItem t (now (values .entry))) ⌝ }
 {
-    let held = held_as(t.header, values);
     match held {
         Held::Contents => contents_fault(t.header, values),
         Held::Digits => fields_fault(marks_right(t), values),
@@ -211,22 +217,24 @@ pub fn refusal(times: u8, t: Transfer, values: &[u8]) -> Answer
     ensures { λ r. ⌜ Gives (itemWriting times 0 (itemFrom t (now (values .entry)))) r ⌝ }
 {
     let header = t.header;
-    if !name_used(header) {
+    let asked = head_of(header);
+    if !asked.used {
         return Answer::Refused(Answer::UNUSED_NAME, 0);
     }
-    if !pli_right(header) {
+    if !asked.right {
         return Answer::Refused(Answer::OTHER_PLI, 0);
     }
     let most = often_of(header % 64);
     if most <= times {
         return Answer::Refused(Answer::REPEATED_NAME, 0);
     }
-    if !length_right(t, values) {
+    let held = held_as(header, values);
+    if !length_right(held, t, values) {
         return Answer::Refused(Answer::CUT_CONTENTS, 0);
     }
     let before = 1 + lead(extent_of(header));
-    let len = before + contents_len(t, values);
-    let f = values_fault(t, values);
+    let len = before + len_as(held, t, values);
+    let f = values_fault(held, t, values);
     match f {
         Fault::Sound => Answer::Accepted(len),
         Fault::Bad(k, _) => Answer::Refused(k, 0),
@@ -241,29 +249,25 @@ fn copy(s: &[u8], room: &mut [u8])
     copy_in(room, 0, s);
 }
 
-// The half-octet of the digit at i, and filler past the last.
-fn code_at(z: Alphabet, digits: &[u8], i: usize) -> u8
-    ensures { λ r. ⌜ r ≡ getD (map (codeOf z) (now (digits .entry))) i 0 ⌝ }
-{
-    if digits.len() <= i {
-        return 0;
-    }
-    code_of(z, digits[i])
-}
-
 // Writes digits at the front of the room, two to an octet, low half first.
 fn pack_digits(z: Alphabet, digits: &[u8], room: &mut [u8])
     requires { ⌜ (length (now digits) + 1) / 2 ≤ length (now room) ⌝ }
     ensures { λ r. ⌜ now (room .exit) ≡ atFront (packed z (now (digits .entry))) (now (room .entry)) ⌝ }
 {
-    let n = packed_len(digits.len());
+    let n = digits.len() / 2;
     let mut i: usize = 0;
     while i < n {
-        let low = code_at(z, digits, i * 2) as usize;
-        let high = code_at(z, digits, i * 2 + 1) as usize;
+        let at = 2 * i;
+        let low = code_of(z, digits[at]) as u16;
+        let high = code_of(z, digits[at + 1]) as u16;
         room[i] = ((low + 16 * high) % 256) as u8;
         i += 1;
     }
+    if digits.len() % 2 == 0 {
+        return;
+    }
+    let last = 2 * n;
+    room[n] = code_of(z, digits[last]);
 }
 
 // The upper marks of a count octet.
@@ -315,11 +319,11 @@ fn put_generic(t: Transfer, values: &[u8], room: &mut [u8])
 }
 
 // Writes the contents.
-fn put_contents(t: Transfer, values: &[u8], room: &mut [u8])
-    requires { ⌜ length (contentsOf (rawItem t (now values))) ≤ length (now room) ⌝ }
+fn put_contents(held: Held, t: Transfer, values: &[u8], room: &mut [u8])
+    requires { ⌜ (holdingOf (t .header) (getD (now values) 0 0) ≡ asHeld held (marksOf (t .header)))
+        × (length (contentsOf (rawItem t (now values))) ≤ length (now room)) ⌝ }
     ensures { λ r. ⌜ now (room .exit) ≡ atFront (contentsOf (rawItem t (now (values .entry)))) (now (room .entry)) ⌝ }
 {
-    let held = held_as(t.header, values);
     match held {
         Held::Contents => copy(values, room),
         Held::Digits => put_digits(t, values, room),
@@ -329,29 +333,31 @@ fn put_contents(t: Transfer, values: &[u8], room: &mut [u8])
 }
 
 // Writes the header, the length octet that PLI 11 has, and the contents.
-fn put_whole(t: Transfer, values: &[u8], room: &mut [u8])
-    requires { ⌜ length (layoutItem (rawItem t (now values))) ≤ length (now room) ⌝ }
+fn put_whole(held: Held, t: Transfer, values: &[u8], room: &mut [u8])
+    requires { ⌜ (holdingOf (t .header) (getD (now values) 0 0) ≡ asHeld held (marksOf (t .header)))
+        × (length (layoutItem (rawItem t (now values))) ≤ length (now room)) ⌝ }
     ensures { λ r. ⌜ now (room .exit) ≡ atFront (layoutItem (rawItem t (now (values .entry)))) (now (room .entry)) ⌝ }
 {
     room[0] = t.header;
     if lead(extent_of(t.header)) == 0 {
-        put_contents(t, values, &mut room[1..]);
+        put_contents(held, t, values, &mut room[1..]);
         return;
     }
-    let len = contents_len(t, values);
+    let len = len_as(held, t, values);
     room[1] = (len % 256) as u8;
-    put_contents(t, values, &mut room[2..]);
+    put_contents(held, t, values, &mut room[2..]);
 }
 
 // Whether so much room holds the parameter.
-fn fits_in(t: Transfer, values: &[u8], room: usize) -> bool
+fn fits_in(held: Held, t: Transfer, values: &[u8], room: usize) -> bool
+    requires { ⌜ holdingOf (t .header) (getD (now values) 0 0) ≡ asHeld held (marksOf (t .header)) ⌝ }
     ensures { λ r. ⌜ r ≡ leb (length (layoutItem (rawItem t (now (values .entry))))) room ⌝ }
 {
     let before = 1 + lead(extent_of(t.header));
     if room < before {
         return false;
     }
-    contents_len(t, values) <= room - before
+    len_as(held, t, values) <= room - before
 }
 
 // Writes the parameter at the front of the room, each number modulo 256; where the room is too short, nothing.
@@ -359,9 +365,10 @@ pub fn put(t: Transfer, values: &[u8], room: &mut [u8]) -> bool
     ensures { λ r. ⌜ Stores (leb (length (layoutItem (itemFrom t (now (values .entry))))) (length (now (room .entry))))
         (atFront (layoutItem (itemFrom t (now (values .entry)))) (now (room .entry))) (now (room .entry)) r (now (room .exit)) ⌝ }
 {
-    if !fits_in(t, values, room.len()) {
+    let held = held_as(t.header, values);
+    if !fits_in(held, t, values, room.len()) {
         return false;
     }
-    put_whole(t, values, room);
+    put_whole(held, t, values, room);
     true
 }

@@ -1,8 +1,8 @@
 // Opening a transfer parameter: its contents become a head, and values stored in a record's array of values.
 use crate::contents::octet_at;
 use crate::digits::digit_of;
-use crate::digits::half_at;
-use crate::heads::holds_digits;
+use crate::heads::Shape;
+use crate::heads::head_of;
 use annex::Alphabet;
 use annex::Transfer;
 use octets::copy_in;
@@ -65,7 +65,7 @@ fn copy_values(s: &[u8], values: &mut [u8; Transfer::MOST_VALUES], used: usize)
     copy_in(values, used, s);
 }
 
-// Stores the first `count` digits of `octets` in `values` from `used` on.
+// Stores the first `count` digits of `octets` in `values` from `used` on, the two of an octet together.
 fn unpack_digits(
     z: Alphabet,
     octets: &[u8],
@@ -76,31 +76,45 @@ fn unpack_digits(
     requires { ⌜ (used + count ≤ 512) × (count ≤ length (now octets) * 2) ⌝ }
     ensures { λ r. ⌜ now (values .exit) ≡ sets (now (values .entry)) used (digitsOf z count (now (octets .entry))) ⌝ }
 {
+    let pairs = count / 2;
     let mut i: usize = 0;
-    while i < count {
-        let d = digit_of(z, half_at(octets, i));
-        values[used + i] = d;
+    while i < pairs {
+        let x = octets[i];
+        let at = used + 2 * i;
+        values[at] = digit_of(z, x % 16);
+        values[at + 1] = digit_of(z, x / 16);
         i += 1;
     }
+    if count % 2 == 0 {
+        return;
+    }
+    values[used + 2 * pairs] = digit_of(z, octets[pairs] % 16);
 }
 
 // How the values under this header are held; `first` is the first octet of the contents, or 0.
 pub fn holding_of(header: u8, first: u8) -> Held
     ensures { λ r. ⌜ Gives (heldBy (holdingOf header first)) r ⌝ }
 {
-    if holds_digits(header) {
-        return Held::Digits;
-    }
-    match header {
-        Transfer::CALLING_USER_NUMBER | Transfer::CALLING_NUMBER => Held::Number,
-        Transfer::GENERIC_NUMBER => {
+    let asked = head_of(header);
+    let shape = asked.shape;
+    match shape {
+        Shape::Unmarked => Held::Digits,
+        Shape::Notified => Held::Digits,
+        Shape::Verified => Held::Digits,
+        Shape::Typed => Held::Digits,
+        Shape::Number => Held::Number,
+        Shape::Calling => Held::Number,
+        Shape::Generic => {
             if first == Transfer::ADDED_CALLING_NUMBER {
                 Held::Generic
             } else {
                 Held::Contents
             }
         }
-        _ => Held::Contents,
+        Shape::Carried => Held::Contents,
+        Shape::Duration => Held::Contents,
+        Shape::SecondFunction => Held::Contents,
+        Shape::ForwardCall => Held::Contents,
     }
 }
 

@@ -1,9 +1,8 @@
 // One transfer parameter, its header and the octets after it: 8 to 13 in their order, all placed at the header.
-use crate::contents::contents_fault;
+use crate::contents::fault_under;
 use crate::contents::octet_at;
-use crate::heads::name_used;
+use crate::heads::head_of;
 use crate::heads::often_of;
-use crate::heads::pli_right;
 use crate::units::extent_of;
 use crate::units::lead;
 use crate::units::octets_after;
@@ -17,10 +16,11 @@ ghost use Rattle.annex.specs.Reading.{transferOf};
 pub fn transfer(times: u8, header: u8, xs: &[u8]) -> Answer
     ensures { λ r. ⌜ Gives (transferOf times header (now (xs .entry))) r ⌝ }
 {
-    if !name_used(header) {
+    let asked = head_of(header);
+    if !asked.used {
         return Answer::Refused(Answer::UNUSED_NAME, 0);
     }
-    if !pli_right(header) {
+    if !asked.right {
         return Answer::Refused(Answer::OTHER_PLI, 0);
     }
     let most = often_of(header % 64);
@@ -33,7 +33,8 @@ pub fn transfer(times: u8, header: u8, xs: &[u8]) -> Answer
         return Answer::Refused(Answer::CUT_CONTENTS, 0);
     }
     let start = lead(e);
-    let f = contents_fault(header, &xs[start..n]);
+    let shape = asked.shape;
+    let f = fault_under(asked.zeroes, shape, &xs[start..n]);
     match f {
         Fault::Sound => Answer::Accepted(n),
         Fault::Bad(k, _) => Answer::Refused(k, 0),

@@ -1,11 +1,14 @@
 -- What finding gives.
 use Prim.Native.Nat.{ℕ, _-_, _≤_}
-use mathlib.Core.Path.{_≡_}
+use native.Mathlib.Omega.{arith}
+use mathlib.Core.Path.{_≡_, sym, ap, _∙_}
 use mathlib.Core.List.{List}
-use lib.ListN.{length, take, drop}
+use lib.ListN.{length, take, drop, length-drop}
+use lib.Seq.{length-take-le}
 use Rattle.annex.specs.Finding.{findAnswer, findPart}
 use Rattle.annex.specs.declared.Found.{Found}
 use Rattle.reader.specs.declared.finding.Finding.{Finding}
+use Rattle.reader.specs.declared.finding.Stretch.{Stretch}
 
 -- of the message m where the contents are found at f: the answer, and a stretch of m that is the part
 pub record Tells (m : List ℕ) (f : Found) (r : Finding) : Type 0 where
@@ -13,3 +16,16 @@ pub record Tells (m : List ℕ) (f : Found) (r : Finding) : Type 0 where
   pub order : r .1 ≤ r .2
   pub within : r .2 ≤ length m
   pub part : take (r .2 - r .1) (drop (r .1) m) ≡ findPart m f
+
+-- the answer, and the part's length
+pub record Stretched (m : List ℕ) (f : Found) (r : Stretch) : Type 0 where
+  pub answer : r .answer ≡ findAnswer m f
+  pub len : r .len ≡ length (findPart m f)
+
+pub stretched : (m : List ℕ) (f : Found) (r : Finding) (s : Stretch) → Tells m f r → s .answer ≡ r .0 → s .len ≡ r .2 - r .1 → Stretched m f s
+stretched m f r s t a l =
+    let k : r .2 - r .1 ≤ length (drop (r .1) m) = rw (length-drop (r .1) m) (omega (arith, t .within)) in
+    record {
+      answer = a ∙ t .answer;
+      len = l ∙ sym (length-take-le (r .2 - r .1) (drop (r .1) m) k) ∙ ap (λ (p : List ℕ). length p) (t .part);
+    }

@@ -20,7 +20,7 @@ ghost use Rattle.annex.specs.Promises.{
   Gives,
 };
 ghost use Rattle.laws.specs.Finding.{isSought, extentBy, searchFrom, contentsFound, commonPlain, transferPlain, plainBy, foundBy};
-ghost use Rattle.reader.specs.Finding.{Tells};
+ghost use Rattle.reader.specs.Finding.{Tells, Stretched};
 
 // What finding gives: the answer to the second question, and where the contents start and end, 0 and 0 if refused.
 struct Finding(Answer, usize, usize);
@@ -125,6 +125,24 @@ fn find(m: &[u8], k: Key) -> Finding
         return Finding(Answer::Refused(Answer::ABSENT, 0), 0, 0);
     };
     Finding(Answer::Accepted(start), start, end)
+}
+
+// The answer to the second question, and how many octets the contents have, 0 if refused.
+pub struct Stretch {
+    pub answer: Answer,
+    pub len: usize,
+}
+
+// Both answers of one finding.
+pub fn find_both(m: &[u8], k: Key) -> Stretch
+    ensures { λ r. ⌜ Stretched (now (m .entry)) (foundBy k (now (m .entry))) r ⌝ }
+{
+    let f = find(m, k);
+    let answer = f.0;
+    Stretch {
+        answer: answer,
+        len: f.2 - f.1,
+    }
 }
 
 // The part of the message that they are, the empty part if refused.

@@ -13,7 +13,7 @@ use Rattle.annex.specs.Answers.{numberOf, givenOf, faultNumberOf, stopOf, over-
 use Rattle.annex.specs.Units.{octetsOf, afterOf, leadOf, commonExtentOf, extentOf}
 use Rattle.annex.specs.Heads.{among, listedHeaders, isCall, signalOf, nameUsed, pliRight, oftenOf, zeroesOf, formOf}
 use Rattle.annex.specs.Digits.{halves, joined, digitOf, codeOf, isCode, halvesFault, digitsFault, digitsOf, packed}
-use Rattle.annex.specs.Contents.{dialledFault, faultOf}
+use Rattle.annex.specs.Contents.{clear, formedThen, dialledFault, faultOf}
 use Rattle.annex.specs.Items.{plainItem, holdingOf, openBy, itemOf, contentsOf, ownOf}
 use Rattle.annex.specs.Items.Holding.{AsContents}
 use Rattle.annex.specs.Layout.{layoutItem}
@@ -27,11 +27,11 @@ use Rattle.annex.specs.Bench.{K, recordOfK, recordOfM}
 use Rattle.annex.specs.declared.Alphabet.the-variants.{Dialled, Numbered}
 use Rattle.annex.specs.declared.Answer.the-variants.{Accepted, Refused}
 use Rattle.annex.specs.declared.Extent.the-variants.{CountOctet, LengthOctet}
+use Rattle.annex.specs.declared.Fault.the-variants.{Sound}
 use Rattle.annex.specs.declared.Key.the-variants.{Name}
 use Rattle.laws.specs.Plain.{pars}
 use Rattle.laws.specs.Finding.{searchFrom, firstIn, commonPlain}
 use Rattle.octets.specs.Splice.{spliceFits}
-use Rattle.parameter.specs.Forms.{isDialled}
 use Rattle.parameter.specs.Opening.{heldBy, headFor, openedHead}
 use Rattle.parameter.specs.declared.opening.Held.{Held}
 use Rattle.parameter.specs.declared.opening.Held.the-variants as held
@@ -72,8 +72,8 @@ rows =
     (leadOf CountOctet, leadOf LengthOctet) ∷  -- lead
     (flag (nameUsed 0x90), flag (nameUsed 0x08)) ∷  -- name_used
     (flag (pliRight 0x90), flag (pliRight 0xD0)) ∷  -- pli_right
-    (zeroesOf 0x41, zeroesOf 0x42) ∷  -- zeroes_of
-    (flag (isDialled (formOf 0x90)), flag (isDialled (formOf 0x41))) ∷  -- holds_digits
+    (zeroesOf 0x41, zeroesOf 0x42) ∷  -- head_of
+    (faultNumberOf (formedThen (clear 0xFE 1) Sound), faultNumberOf (formedThen (clear 0xFE 2) Sound)) ∷  -- fault_under
     (getD (halves (0x21 ∷ [])) 0 0, getD (halves (0x21 ∷ [])) 1 0) ∷  -- half_at
     (digitOf Dialled 10, digitOf Numbered 10) ∷  -- digit_of
     (codeOf Dialled 0, codeOf Numbered 0) ∷  -- code_of

@@ -5,8 +5,8 @@ use Rattle.boundary.proofs.tk_find_common.Tie as tie
 
 returns : tie.Need-returns
 returns c =
-    let a = c .before in
-    rw (← a .find-common-answer .ensures, ← a .before .find-common .ensures) (c .pack-stretch .ensures)
+    let f = c .before .find-both .ensures in
+    rw (← f .answer, ← f .len) (c .pack-stretch .ensures)
 
 pub tk-find-common-spec : {M : Type 1} → statement M
-tk-find-common-spec = tie.close (tie.spec (λ c κs. search needs) (λ c κs. search needs) (λ c κs. search needs) returns)
+tk-find-common-spec = tie.close (tie.spec (λ c κs. search needs) (λ c κs. search needs) returns)

@@ -5,8 +5,8 @@ use Rattle.boundary.proofs.tk_find_transfer.Tie as tie
 
 returns : tie.Need-returns
 returns c =
-    let a = c .before in
-    rw (← a .find-transfer-answer .ensures, ← a .before .find-transfer .ensures) (c .pack-stretch .ensures)
+    let f = c .before .find-both .ensures in
+    rw (← f .answer, ← f .len) (c .pack-stretch .ensures)
 
 pub tk-find-transfer-spec : {M : Type 1} → statement M
-tk-find-transfer-spec = tie.close (tie.spec (λ c κs. search needs) (λ c κs. search needs) (λ c κs. search needs) returns)
+tk-find-transfer-spec = tie.close (tie.spec (λ c κs. search needs) (λ c κs. search needs) returns)

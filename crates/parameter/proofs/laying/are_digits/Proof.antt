@@ -1,48 +1,36 @@
--- `are_digits` meets its contract: the invariant: what is left of the values decides.
-use Prim.Native.Nat.{ℕ, _+_, _-_, _<_, _≤_}
-use native.Mathlib.Numerals.{add-one}
+-- `are_digits` meets its contract. The invariant: what was met so far and what is left of the values decide together.
+use Prim.Native.Nat.{_-_, _≤_}
 use native.Mathlib.Omega.{arith}
-use mathlib.Core.Path.{_≡_, refl, sym, _∙_}
+use mathlib.Core.Path.{_≡_, refl}
 use mathlib.Core.Bool.{_&&_}
-use mathlib.Core.List.{List}
-use borrow.Author.Tests.{le-leb, lt-leb}
-use lib.ListN.{length, getD, drop, drop-of-length-le}
-use lib.Seq.{drop-cons}
+use lib.ListN.{length, drop}
 use Rattle.annex.specs.Digits.{isDigit}
 use Rattle.annex.specs.Allowed.{every}
+use Rattle.parameter.proofs.Flat.{every-turn, every-end}
 use Rattle.parameter.proofs.laying.are_digits.Statement.{statement}
 use Rattle.parameter.proofs.laying.are_digits.Tie as tie
 
 abbrev Inv-loop : tie.InvT-loop
-Inv-loop values i₀ i = (i ≤ length values) × (every isDigit values ≡ every isDigit (drop i values))
+Inv-loop values good₀ i₀ good i =
+    (i ≤ length values) × (every isDigit values ≡ good && every isDigit (drop i values))
 
 abbrev μ-loop : tie.MeasureT-loop
-μ-loop values i₀ i = length values - i
+μ-loop values good₀ i₀ good i = length values - i
 
 loop-holds : tie.Need-loop-holds Inv-loop μ-loop
 loop-holds c = (omega arith, refl)
 
-one : (ds : List ℕ) (i : ℕ) → i < length ds → every isDigit (drop i ds) ≡ isDigit (getD ds i 0) && every isDigit (drop (i + 1) ds)
-one ds i h = rw (add-one i, drop-cons ds i 0 h)
+loop-again : tie.Need-loop-again Inv-loop μ-loop
+loop-again c =
+    let t = c .before in
+    let l = t .before in
+    let ds = l .before .args .values .now in
+    (omega arith, every-turn isDigit ds (l .loop .i) _ (l .loop .good) (l .loop .inv .1) (t .loop-test .taken))
 
 returns : tie.Need-returns Inv-loop μ-loop
 returns c =
-    let t = c .before .before in
-    let l = t .before in
-    let ds = l .before .args .values .now in
-    sym (l .loop .inv .1 ∙ one ds (l .loop .i) (t .loop-test .taken) ∙ rw (lt-leb _ _ (c .if1 .taken)))
-
-loop-again : tie.Need-loop-again Inv-loop μ-loop
-loop-again c =
-    let t = c .before .before in
-    let l = t .before in
-    let ds = l .before .args .values .now in
-    (omega arith, l .loop .inv .1 ∙ one ds (l .loop .i) (t .loop-test .taken) ∙ rw (le-leb _ _ (c .if1 .left)))
-
-returns-2 : tie.Need-returns-2 Inv-loop μ-loop
-returns-2 c =
     let l = c .before in
-    sym (l .loop .inv .1 ∙ rw (drop-of-length-le (l .before .args .values .now) (c .loop-test .left)))
+    every-end isDigit (l .before .args .values .now) (l .loop .i) _ (l .loop .good) (l .loop .inv .1) (omega arith)
 
 pub are-digits-spec : {M : Type 1} → statement M
 are-digits-spec =
@@ -52,8 +40,7 @@ are-digits-spec =
     μ-loop
     loop-holds
     (λ c. omega arith)
-    returns
     (λ c. omega arith)
     (λ c. omega arith)
     loop-again
-    returns-2)
+    returns)

@@ -41,7 +41,7 @@ returns-2 c =
     let a = x .before .before .args in
     let i = rawItem (a .t) (a .values .now) in
     let s = ap (λ (y : List ℕ). length y) (own-contents i) in
-    less _ _ _ (a .room) (omega (arith, length-layout i, c .contents-len .ensures, n .lead .ensures, ap leadOf (x .extent-of .ensures))) (e .if1 .left)
+    less _ _ _ (a .room) (omega (arith, length-layout i, c .len-as .ensures, n .lead .ensures, ap leadOf (x .extent-of .ensures))) (e .if1 .left)
 
 pub fits-in-spec : {M : Type 1} → statement M
 fits-in-spec =
@@ -51,5 +51,5 @@ fits-in-spec =
     (λ c κs. search needs)
     add-before
     returns
-    (λ c κs. search needs)
+    (λ c κs. c .before .before .before .before .pre)
     returns-2)

@@ -15,43 +15,42 @@ returns : tie.Need-returns
 returns c =
     let u = c .before in
     let h = u .before .before in
-    let a = h .before .before .args in
+    let a = h .before .args in
     let i = rawItem (a .t) (a .values .now) in
-    let k : heldAs i ≡ AsContents = rw (u .enum-told .given .1) at (h .held-as .ensures) in
+    let k : heldAs i ≡ AsContents = rw (u .enum-told .given .1) at (h .before .pre) in
     rw (length-as AsContents i k, contents-as AsContents i k) (c .length-fits .ensures)
 
 returns-2 : tie.Need-returns-2
 returns-2 c =
     let h = c .before .before in
-    let a = h .before .before .args in
+    let a = h .before .args in
     let i = rawItem (a .t) (a .values .now) in
     let m = marksOf (a .t .header) in
-    let k : heldAs i ≡ AsDigits m = rw (c .enum-told2 .given .1) at (h .held-as .ensures) in
+    let k : heldAs i ≡ AsDigits m = rw (c .enum-told2 .given .1) at (h .before .pre) in
     rw (length-as (AsDigits m) i k)
 
 returns-3 : tie.Need-returns-3
 returns-3 c =
     let u = c .before in
     let h = u .before .before in
-    let a = h .before .before .args in
+    let a = h .before .args in
     let i = rawItem (a .t) (a .values .now) in
-    let k : heldAs i ≡ AsNumber = rw (u .enum-told3 .given .1) at (h .held-as .ensures) in
-    rw (length-as AsNumber i k, number-led i (omega arith) (rw k tt), ← own-contents i, ← c .contents-len .ensures)
+    let k : heldAs i ≡ AsNumber = rw (u .enum-told3 .given .1) at (h .before .pre) in
+    rw (length-as AsNumber i k, number-led i (omega arith) (rw k tt), ← own-contents i, ← c .len-as .ensures)
 
 returns-4 : tie.Need-returns-4
 returns-4 c =
     let u = c .before in
     let h = u .before .before in
-    let a = h .before .before .args in
+    let a = h .before .args in
     let i = rawItem (a .t) (a .values .now) in
-    let k : heldAs i ≡ AsGeneric = rw (u .enum-told4 .given .1) at (h .held-as .ensures) in
-    rw (length-as AsGeneric i k, number-led i (omega arith) (rw k tt), ← own-contents i, ← c .contents-len2 .ensures)
+    let k : heldAs i ≡ AsGeneric = rw (u .enum-told4 .given .1) at (h .before .pre) in
+    rw (length-as AsGeneric i k, number-led i (omega arith) (rw k tt), ← own-contents i, ← c .len-as2 .ensures)
 
 pub length-right-spec : {M : Type 1} → statement M
 length-right-spec =
     tie.close
     (tie.spec
-    (λ c κs. search needs)
     (λ c. search needs)
     (λ c κs. search needs)
     (λ c. search needs)

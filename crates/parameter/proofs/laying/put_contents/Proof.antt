@@ -11,19 +11,19 @@ use Rattle.parameter.proofs.laying.put_contents.Statement.{statement}
 use Rattle.parameter.proofs.laying.put_contents.Tie as tie
 
 -- the contents, where the values are held so
-laid : (c : tie.After-held-as) (v : Held) → c .held-as .result ≡ v →
-    let a = c .before .before .before .args in
+laid : (c : tie.After-slice-known) (v : Held) → c .before .before .args .held ≡ v →
+    let a = c .before .before .args in
     let i = rawItem (a .t) (a .values .now) in
     contentsOf i ≡ contentsBy (asHeld v (marksOf (a .t .header))) i
 laid c v e =
-    let a = c .before .before .before .args in
-    contents-as (asHeld v (marksOf (a .t .header))) (rawItem (a .t) (a .values .now)) (rw e at (c .held-as .ensures))
+    let a = c .before .before .args in
+    contents-as (asHeld v (marksOf (a .t .header))) (rawItem (a .t) (a .values .now)) (rw e at (c .before .before .pre .0))
 
 copy-requires : tie.Need-copy-requires
 copy-requires c κs =
     let u = c .before in
     let h = u .before .before in
-    rw (laid h held.Contents (u .enum-told .given .1)) at (h .before .before .before .pre)
+    rw (laid h held.Contents (u .enum-told .given .1)) at (h .before .before .pre .1)
 
 returns : tie.Need-returns
 returns c =
@@ -35,7 +35,7 @@ put-digits-requires : tie.Need-put-digits-requires
 put-digits-requires c κs =
     let u = c .before in
     let h = u .before .before in
-    rw (laid h held.Digits (u .enum-told2 .given .1)) at (h .before .before .before .pre)
+    rw (laid h held.Digits (u .enum-told2 .given .1)) at (h .before .before .pre .1)
 
 returns-2 : tie.Need-returns-2
 returns-2 c =
@@ -47,7 +47,7 @@ put-number-requires : tie.Need-put-number-requires
 put-number-requires c κs =
     let u = c .before in
     let h = u .before .before in
-    rw (laid h held.Number (u .enum-told3 .given .1)) at (h .before .before .before .pre)
+    rw (laid h held.Number (u .enum-told3 .given .1)) at (h .before .before .pre .1)
 
 returns-3 : tie.Need-returns-3
 returns-3 c =
@@ -59,7 +59,7 @@ put-generic-requires : tie.Need-put-generic-requires
 put-generic-requires c κs =
     let u = c .before in
     let h = u .before .before in
-    rw (laid h held.Generic (u .enum-told4 .given .1)) at (h .before .before .before .pre)
+    rw (laid h held.Generic (u .enum-told4 .given .1)) at (h .before .before .pre .1)
 
 returns-4 : tie.Need-returns-4
 returns-4 c =
@@ -71,7 +71,6 @@ pub put-contents-spec : {M : Type 1} → statement M
 put-contents-spec =
     tie.close
     (tie.spec
-    (λ c κs. search needs)
     (λ c. search needs)
     copy-requires
     (λ c. search needs)

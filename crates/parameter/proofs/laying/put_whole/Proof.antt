@@ -18,7 +18,7 @@ use Rattle.parameter.proofs.laying.put_whole.Tie as tie
 slice-write-room : tie.Need-slice-write-room
 slice-write-room c =
     let st = c .before .before in
-    omega (arith, st .pre, length-layout (rawItem (st .args .t) (st .args .values .now)))
+    omega (arith, st .pre .1, length-layout (rawItem (st .args .t) (st .args .values .now)))
 
 -- what the two arms are told of the layout
 plain : (c : tie.Then1) →
@@ -42,13 +42,13 @@ led c =
 sub-put-contents : tie.Need-sub-put-contents
 sub-put-contents c =
     let st = c .before .before .before .before .before in
-    simp length-set (omega (arith, rw (plain c) at (st .pre)))
+    simp length-set (omega (arith, rw (plain c) at (st .pre .1)))
 
 put-contents-requires : tie.Need-put-contents-requires
 put-contents-requires c κs =
     let e = c .before in
     let st = e .before .before .before .before .before in
-    rw (to-end 1 _, length-drop 1 _, length-set) (omega (arith, rw (plain e) at (st .pre)))
+    (st .pre .0, rw (to-end 1 _, length-drop 1 _, length-set) (omega (arith, rw (plain e) at (st .pre .1))))
 
 returns : tie.Need-returns
 returns c =
@@ -60,32 +60,32 @@ returns c =
     let s = contentsOf (rawItem (a .t) (a .values .now)) in
     let b : h ∷ [] ≡ lowOctets (h ∷ []) = ap (λ n. n ∷ []) (omega arith) in
     rw (plain e)
-    (written-then (a .room .now) (h ∷ []) (h ∷ []) s (p .put-contents .last .1 .1 .0) b (omega (arith, rw (plain e) at (st .pre))) (p .put-contents .ensures))
+    (written-then (a .room .now) (h ∷ []) (h ∷ []) s (p .put-contents .last .1 .1 .1 .0) b (omega (arith, rw (plain e) at (st .pre .1))) (p .put-contents .ensures))
 
 same-length : tie.Need-same-length
 same-length c =
     let st = c .before .before .before .before .before .before .before .before .before in
     let a = st .args in
     ap (λ (l : List ℕ). length l) (returns c)
-    ∙ written-length (a .room .now) (layoutItem (rawItem (a .t) (a .values .now))) (st .pre)
+    ∙ written-length (a .room .now) (layoutItem (rawItem (a .t) (a .values .now))) (st .pre .1)
 
 slice-write-room-2 : tie.Need-slice-write-room-2
 slice-write-room-2 c =
     let e = c .before in
     let st = e .before .before .before .before .before in
-    simp length-set (omega (arith, rw (led e) at (st .pre)))
+    simp length-set (omega (arith, rw (led e) at (st .pre .1)))
 
 sub-put-contents-2 : tie.Need-sub-put-contents-2
 sub-put-contents-2 c =
     let e = c .before in
     let st = e .before .before .before .before .before in
-    simp length-set (omega (arith, rw (led e) at (st .pre)))
+    simp length-set (omega (arith, rw (led e) at (st .pre .1)))
 
 put-contents-requires-2 : tie.Need-put-contents-requires-2
 put-contents-requires-2 c κs =
     let e = c .before .before in
     let st = e .before .before .before .before .before in
-    rw (to-end 2 _, length-drop 2 _, length-set, length-set) (omega (arith, rw (led e) at (st .pre)))
+    (st .pre .0, rw (to-end 2 _, length-drop 2 _, length-set, length-set) (omega (arith, rw (led e) at (st .pre .1))))
 
 returns-2 : tie.Need-returns-2
 returns-2 c =
@@ -97,19 +97,19 @@ returns-2 c =
     let h = a .t .header in
     let i = rawItem (a .t) (a .values .now) in
     let s = contentsOf i in
-    let x = n .contents-len .result in
-    let m : x ≡ length s = n .contents-len .ensures ∙ ap (λ (l : List ℕ). length l) (own-contents i) in
+    let x = n .len-as .result in
+    let m : x ≡ length s = n .len-as .ensures ∙ ap (λ (l : List ℕ). length l) (own-contents i) in
     let b : h ≡ h % 256 = omega arith in
     let low : h ∷ x % 256 ∷ [] ≡ lowOctets (h ∷ length s ∷ []) = rw (← m) (ap (λ n. n ∷ x % 256 ∷ []) b) in
     rw (led e)
-    (written-then (a .room .now) (h ∷ x % 256 ∷ []) (h ∷ length s ∷ []) s (p .put-contents2 .last .1 .1 .0) low (omega (arith, rw (led e) at (st .pre))) (p .put-contents2 .ensures))
+    (written-then (a .room .now) (h ∷ x % 256 ∷ []) (h ∷ length s ∷ []) s (p .put-contents2 .last .1 .1 .1 .0) low (omega (arith, rw (led e) at (st .pre .1))) (p .put-contents2 .ensures))
 
 same-length-2 : tie.Need-same-length-2
 same-length-2 c =
     let st = c .before .before .before .before .before .before .before .before .before .before in
     let a = st .args in
     ap (λ (l : List ℕ). length l) (returns-2 c)
-    ∙ written-length (a .room .now) (layoutItem (rawItem (a .t) (a .values .now))) (st .pre)
+    ∙ written-length (a .room .now) (layoutItem (rawItem (a .t) (a .values .now))) (st .pre .1)
 
 pub put-whole-spec : {M : Type 1} → statement M
 put-whole-spec =
@@ -124,7 +124,7 @@ put-whole-spec =
     put-contents-requires
     same-length
     returns
-    (λ c κs. search needs)
+    (λ c κs. c .before .before .before .before .before .pre .0)
     (λ c. search needs)
     slice-write-room-2
     sub-put-contents-2

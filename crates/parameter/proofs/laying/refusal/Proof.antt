@@ -22,49 +22,46 @@ use Rattle.parameter.proofs.laying.refusal.Tie as tie
 returns : tie.Need-returns
 unfolding itemWriting
 returns c =
-    let u = c .before in
-    let a = u .before .before .args in
-    rw (own-writing (rawItem (a .t) (a .values .now)) (a .times) 0, ← u .name-used .ensures, c .if1 .taken)
+    let h = c .before .before in
+    let a = h .before .before .args in
+    rw (own-writing (rawItem (a .t) (a .values .now)) (a .times) 0, ← h .head-of .ensures .used, c .if1 .taken)
 
 returns-2 : tie.Need-returns-2
 unfolding itemWriting
 returns-2 c =
-    let p = c .before in
-    let e = p .before in
-    let u = e .before in
-    let a = u .before .before .args in
-    rw (own-writing (rawItem (a .t) (a .values .now)) (a .times) 0, ← u .name-used .ensures, e .if1 .left, ← p .pli-right .ensures, c .if2 .taken)
+    let e = c .before .before in
+    let h = e .before .before in
+    let a = h .before .before .args in
+    rw (own-writing (rawItem (a .t) (a .values .now)) (a .times) 0, ← h .head-of .ensures .used, e .if1 .left, ← h .head-of .ensures .right, c .if2 .taken)
 
 returns-3 : tie.Need-returns-3
 unfolding itemWriting
 returns-3 c =
     let o = c .before in
     let f = o .before in
-    let p = f .before in
-    let e = p .before in
-    let u = e .before in
-    let a = u .before .before .args in
-    rw (own-writing (rawItem (a .t) (a .values .now)) (a .times) 0, ← u .name-used .ensures, e .if1 .left, ← p .pli-right .ensures, f .if2 .left, ← o .often-of .ensures, le-leb _ _ (c .if3 .taken))
+    let e = f .before .before in
+    let h = e .before .before in
+    let a = h .before .before .args in
+    rw (own-writing (rawItem (a .t) (a .values .now)) (a .times) 0, ← h .head-of .ensures .used, e .if1 .left, ← h .head-of .ensures .right, f .if2 .left, ← o .often-of .ensures, le-leb _ _ (c .if3 .taken))
 
 -- past 10: length and fault decide
 past-10 : (c : tie.Else3) →
-    let a = c .before .before .before .before .before .before .before .args in
+    let a = c .before .before .before .before .before .before .before .before .args in
     let i = rawItem (a .t) (a .values .now) in
     itemWriting (a .times) 0 (itemFrom (a .t) (a .values .now)) ≡ refuse (not (lengthRight i)) cut-contents 0 (soundThen (headerAt 0) (faultIn i) (Accepted (0 + length (layoutItem i))))
 unfolding itemWriting
 past-10 c =
     let o = c .before in
     let f = o .before in
-    let p = f .before in
-    let e = p .before in
-    let u = e .before in
-    let a = u .before .before .args in
-    rw (own-writing (rawItem (a .t) (a .values .now)) (a .times) 0, ← u .name-used .ensures, e .if1 .left, ← p .pli-right .ensures, f .if2 .left, ← o .often-of .ensures, lt-leb _ _ (c .if3 .left))
+    let e = f .before .before in
+    let h = e .before .before in
+    let a = h .before .before .args in
+    rw (own-writing (rawItem (a .t) (a .values .now)) (a .times) 0, ← h .head-of .ensures .used, e .if1 .left, ← h .head-of .ensures .right, f .if2 .left, ← o .often-of .ensures, lt-leb _ _ (c .if3 .left))
 
 returns-4 : tie.Need-returns-4
 returns-4 c =
     let l = c .before in
-    rw (past-10 (l .before), ← l .length-right .ensures, c .if4 .taken)
+    rw (past-10 (l .before .before), ← l .length-right .ensures, c .if4 .taken)
 
 add-before : tie.Need-add-before
 add-before c = omega (arith, c .lead .ensures, lead-small (c .before .extent-of .result))
@@ -74,29 +71,29 @@ add-len c =
     let n = c .before in
     let g = n .before .before in
     let l = g .before in
-    let a = l .before .before .before .before .before .before .before .before .args in
+    let a = l .before .before .before .before .before .before .before .before .before .before .args in
     let i = rawItem (a .t) (a .values .now) in
     let few = length-small i (sym (l .length-right .ensures) ∙ not-false (l .length-right .result) (g .if4 .left)) in
     let s = ap (λ (x : List ℕ). length x) (own-contents i) in
-    omega (arith, c .contents-len .ensures, n .lead .ensures, lead-small (n .before .extent-of .result))
+    omega (arith, c .len-as .ensures, n .lead .ensures, lead-small (n .before .extent-of .result))
 
 -- past 11: the fault decides
 past-11 : (c : tie.After-values-fault) →
     let m = c .before in
     let l = m .before .before .before .before in
-    let a = l .before .before .before .before .before .before .before .before .args in
-    itemWriting (a .times) 0 (itemFrom (a .t) (a .values .now)) ≡ soundThen (headerAt 0) (c .values-fault .result) (Accepted (1 + m .before .lead .result + m .contents-len .result))
+    let a = l .before .before .before .before .before .before .before .before .before .before .args in
+    itemWriting (a .times) 0 (itemFrom (a .t) (a .values .now)) ≡ soundThen (headerAt 0) (c .values-fault .result) (Accepted (1 + m .before .lead .result + m .len-as .result))
 past-11 c =
     let m = c .before in
     let n = m .before in
     let x = n .before in
     let g = x .before in
     let l = g .before in
-    let a = l .before .before .before .before .before .before .before .before .args in
+    let a = l .before .before .before .before .before .before .before .before .before .before .args in
     let i = rawItem (a .t) (a .values .now) in
     let s = ap (λ (y : List ℕ). length y) (own-contents i) in
-    rw (past-10 (l .before), ← l .length-right .ensures, g .if4 .left, ← c .values-fault .ensures)
-    (ap (λ n. soundThen (headerAt 0) (c .values-fault .result) (Accepted n)) (omega (arith, length-layout i, m .contents-len .ensures, n .lead .ensures, ap leadOf (x .extent-of .ensures))))
+    rw (past-10 (l .before .before), ← l .length-right .ensures, g .if4 .left, ← c .values-fault .ensures)
+    (ap (λ n. soundThen (headerAt 0) (c .values-fault .result) (Accepted n)) (omega (arith, length-layout i, m .len-as .ensures, n .lead .ensures, ap leadOf (x .extent-of .ensures))))
 
 returns-5 : tie.Need-returns-5
 returns-5 c = rw (past-11 (c .before .before), c .enum-told .given .1)
@@ -110,18 +107,18 @@ refusal-spec =
     (tie.spec
     (λ c κs. search needs)
     returns
-    (λ c κs. search needs)
     returns-2
     (λ c κs. search needs)
     returns-3
     (λ c κs. search needs)
+    (λ c κs. c .held-as .ensures)
     returns-4
     (λ c κs. search needs)
     (λ c κs. search needs)
     add-before
-    (λ c κs. search needs)
+    (λ c κs. c .before .before .before .before .held-as .ensures)
     add-len
-    (λ c κs. search needs)
+    (λ c κs. c .before .before .before .before .before .held-as .ensures)
     (λ c. search needs)
     (λ c. search needs)
     returns-5
