@@ -33,7 +33,7 @@ use Rattle.annex.specs.Heads.{
 use Rattle.annex.specs.Heads.Marks.{Unmarked, Notified, Verified, Typed}
 use Rattle.annex.specs.Digits.{isDigit}
 use Rattle.annex.specs.Contents.{formedThen, isSound, faultOf}
-use Rattle.annex.specs.Items.{Item, Part, Holding, heldAs, contentsOf, ownOf}
+use Rattle.annex.specs.Items.{Item, Part, part, valuePart, Holding, heldAs, contentsOf, ownOf}
 use Rattle.annex.specs.Items.Holding.{AsContents, AsDigits, AsNumber, AsGeneric}
 use Rattle.annex.specs.Layout.{layoutItems}
 use Rattle.annex.specs.declared.Extent.{Extent}
@@ -140,8 +140,7 @@ pub record HeldItem (i : Item) : Type 0 where
 
 abbrev pub ownPart : Part → Part
 ownPart p =
-    cond (eqb (p .header) transfer-data) (record { header = p .header; value = 0; items = p .items })
-    (record { header = p .header; value = p .value; items = [] })
+    cond (eqb (p .header) transfer-data) (part (p .header) 0 (p .items)) (valuePart (p .header) (p .value))
 
 pub record HeldPart (p : Part) : Type 0 where
   pub octet : p .header < 256
@@ -197,3 +196,7 @@ pub record Allowed (r : List Part) : Type 0 where
   pub names-often : atMost oftenOf (namesOf (itemsIn r)) ≡ true
   pub lengths-right : every lengthRight (itemsIn r) ≡ true
   pub faults-none : every (λ i. isSound (faultIn i)) (itemsIn r) ≡ true
+
+-- what a record that is written may be: for now, what one that is read may be
+abbrev pub Writable : List Part → Type 0
+Writable r = Allowed r

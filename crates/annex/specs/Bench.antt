@@ -7,24 +7,10 @@ use Rattle.annex.specs.Units.{afterOf, leadOf, commonExtentOf, extentOf}
 use Rattle.annex.specs.Heads.{nameUsed, pliRight, oftenOf, zeroesOf, formOf}
 use Rattle.annex.specs.Digits.{halves, joined, digitOf, codeOf, isCode, halvesFault, digitsFault, digitsOf, packed}
 use Rattle.annex.specs.Contents.{numberFault, callingFault, genericFault, dialledFault, twoFault, faultOf}
-use Rattle.annex.specs.Items.{Item, Part, holdingOf, itemOf, contentsOf, plainItem, markedItem, numberItem}
+use Rattle.annex.specs.Items.{Part, plainItem, markedItem, numberItem, valuePart, dataPart, holdingOf, itemOf, contentsOf}
 use Rattle.annex.specs.Layout.{layoutItem, layoutItems, layoutPart, layout}
 use Rattle.annex.specs.Walk.{walk}
-use Rattle.annex.specs.Reading.{
-  transferOf,
-  transfersVerdict,
-  octetAllowed,
-  commonForm,
-  endOf,
-  dataOf,
-  commonOf,
-  messageVerdict,
-  verdictOf,
-  commonsOf,
-  transfersOf,
-  openCommon,
-  recordOf,
-}
+use Rattle.annex.specs.Reading.{octetAllowed, commonForm, endOf, verdictOf, recordOf, transferBy, transfersVerdictBy, dataBy, commonBy, messageVerdictBy, verdictBy, commonsBy, transfersBy, openCommonBy, recordBy}
 use Rattle.annex.specs.Editing.{Edit, editRefusal, replaced, removed, editedItems, edited, recordEditing, editingOf, bufferOf}
 use Rattle.annex.specs.Editing.Edit.{Replacing}
 use Rattle.annex.specs.declared.Answer.{Answer}
@@ -53,27 +39,21 @@ M =
 abbrev pub K : List ℕ
 K = 0x01 ∷ 0x01 ∷ 0x06 ∷ 0x11 ∷ []
 
-abbrev octet : ℕ → ℕ → Part
-octet h v = record { header = h; value = v; items = [] }
-
-abbrev transferData : List Item → Part
-transferData is = record { header = 0xC5; value = 0; items = is }
-
 -- own call 12345, area 1203, dialled 120
 abbrev pub recordOfM : List Part
 recordOfM =
-    octet 0x01 0x01 ∷
-    octet 0x83 12345 ∷
-    octet 0x04 0x01 ∷
-    octet 0x06 0x11 ∷
-    transferData (
+    valuePart 0x01 0x01 ∷
+    valuePart 0x83 12345 ∷
+    valuePart 0x04 0x01 ∷
+    valuePart 0x06 0x11 ∷
+    dataPart (
     markedItem 0x90 0 0 0 (1 ∷ 2 ∷ 0 ∷ 3 ∷ []) ∷
     plainItem 0x52 (0x81 ∷ []) ∷
     markedItem 0x98 0 0 0 (1 ∷ 2 ∷ 0 ∷ []) ∷ []
     ) ∷ []
 
 abbrev pub recordOfK : List Part
-recordOfK = octet 0x01 0x01 ∷ octet 0x06 0x11 ∷ []
+recordOfK = valuePart 0x01 0x01 ∷ valuePart 0x06 0x11 ∷ []
 
 abbrev pub cases : List Case
 cases =
@@ -91,12 +71,12 @@ cases =
     Read (K ++ (0xC5 ∷ 0x02 ∷ 0x41 ∷ 0x02 ∷ 0x00 ∷ [])) (Refused 12 6) [] ∷
     Read (K ++ (0xC5 ∷ 0x03 ∷ 0x90 ∷ 0x01 ∷ 0x00 ∷ 0x00 ∷ [])) (Refused 13 6) [] ∷
     Read (K ++ (0xC5 ∷ 0x05 ∷ 0xD7 ∷ 0x03 ∷ 0x83 ∷ 0x11 ∷ 0x00 ∷ 0x00 ∷ [])) (Accepted 12)
-    (octet 0x01 0x01 ∷ octet 0x06 0x11 ∷ transferData (numberItem 0xD7 0x03 0x11 (0 ∷ []) ∷ []) ∷ []) ∷
+    (valuePart 0x01 0x01 ∷ valuePart 0x06 0x11 ∷ dataPart (numberItem 0xD7 0x03 0x11 (0 ∷ []) ∷ []) ∷ []) ∷
     Edited (Replacing (0x98 ∷ 0x02 ∷ 0x21 ∷ [])) M (Accepted 22)
     (0x01 ∷ 0x01 ∷ 0x83 ∷ 0x39 ∷ 0x30 ∷ 0x00 ∷ 0x04 ∷ 0x01 ∷ 0x06 ∷ 0x11 ∷ 0xC5 ∷ 0x09 ∷
     0x90 ∷ 0x04 ∷ 0x21 ∷ 0x3A ∷ 0x52 ∷ 0x81 ∷ 0x98 ∷ 0x02 ∷ 0x21 ∷ 0x00 ∷ 0x00 ∷ []) ∷ []
 
 -- what the definitions say of each case is what the table says
 pub bench : map asDefined cases ≡ cases
-unfolding afterOf leadOf commonExtentOf extentOf nameUsed pliRight oftenOf zeroesOf formOf halves joined digitOf codeOf isCode halvesFault digitsFault digitsOf packed numberFault callingFault genericFault dialledFault twoFault faultOf holdingOf itemOf contentsOf layoutItem layoutItems layoutPart layout walk transferOf transfersVerdict octetAllowed commonForm endOf dataOf commonOf messageVerdict verdictOf commonsOf transfersOf openCommon recordOf editRefusal replaced removed editedItems edited recordEditing editingOf bufferOf
+unfolding afterOf leadOf commonExtentOf extentOf nameUsed pliRight oftenOf zeroesOf formOf halves joined digitOf codeOf isCode halvesFault digitsFault digitsOf packed numberFault callingFault genericFault dialledFault twoFault faultOf holdingOf itemOf contentsOf layoutItem layoutItems layoutPart layout walk transferBy transfersVerdictBy octetAllowed commonForm endOf dataBy commonBy messageVerdictBy verdictBy commonsBy transfersBy openCommonBy recordBy editRefusal replaced removed editedItems edited recordEditing editingOf bufferOf
 bench = refl

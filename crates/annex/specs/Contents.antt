@@ -86,3 +86,7 @@ faultBy Generic s = genericFault s
 -- the contents s under the header h: first the bits that must be 0, then the form
 unfoldable pub faultOf : ℕ → List ℕ → Fault
 faultOf h s = formedThen (clear (zeroesOf h) (getD s 0 0)) (faultBy (formOf h) s)
+
+-- what is wrong with the contents under a header, by some rule; faultOf is the one in force
+abbrev pub Rule : Type 0
+Rule = ℕ → List ℕ → Fault

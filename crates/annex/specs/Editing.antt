@@ -5,8 +5,6 @@ use mathlib.Core.List.{List, [], _∷_, _++_, map}
 use lib.Dec.{eqb, ltb, leb}
 use lib.ListN.{length, getD, take, drop, replicate}
 use Rattle.annex.specs.Answers.{
-  unused-name,
-  other-pli,
   repeated-name,
   cut-contents,
   transfer-over,
@@ -18,12 +16,13 @@ use Rattle.annex.specs.Answers.{
   andThen,
 }
 use Rattle.annex.specs.Units.{nameOf, afterOf, extentOf, contentsIn}
-use Rattle.annex.specs.Heads.{among, transfer-data, most-transfer-octets, nameUsed, pliRight, oftenOf}
+use Rattle.annex.specs.Heads.{among, transfer-data, most-transfer-octets, oftenOf}
 use Rattle.annex.specs.Contents.{faultOf}
-use Rattle.annex.specs.Items.{Item, Part, itemOf}
+use Rattle.annex.specs.Items.{Item, Part, partWith, itemOf}
 use Rattle.annex.specs.Layout.{layoutItems, layout}
 use Rattle.annex.specs.Allowed.{headersOf, itemsIn, namesOf, timesIn}
 use Rattle.annex.specs.Reading.{verdictOf, recordOf}
+use Rattle.annex.specs.Writing.{headWriting}
 use Rattle.annex.specs.declared.Answer.{Answer}
 use Rattle.annex.specs.declared.Answer.the-variants.{Accepted, Refused}
 
@@ -48,10 +47,7 @@ present x is = among x (namesOf is)
 
 -- 11, 8 and 9 of the new octets' header
 abbrev pub newHead : List ℕ → Answer → Answer
-newHead new a =
-    refuse (eqb (length new) 0) cut-contents 0
-    (refuse (not (nameUsed (newHeader new))) unused-name 0
-    (refuse (not (pliRight (newHeader new))) other-pli 0 a))
+newHead new a = refuse (eqb (length new) 0) cut-contents 0 (headWriting 0 (newHeader new) a)
 
 -- 11, 12 and 13 of the octets after it
 abbrev pub newContents : List ℕ → Answer
@@ -89,8 +85,7 @@ editedItems (Appending new) is = is ++ (newItem new ∷ [])
 editedItems (Removing x) is = removed x is
 
 abbrev pub editedPart : Edit → Part → Part
-editedPart e p =
-    cond (eqb (p .header) transfer-data) (record { header = p .header; value = p .value; items = editedItems e (p .items) }) p
+editedPart e p = cond (eqb (p .header) transfer-data) (partWith (editedItems e (p .items)) p) p
 
 -- the record so edited
 unfoldable pub edited : Edit → List Part → List Part

@@ -8,7 +8,7 @@ use Rattle.annex.specs.Answers.{over-limits, no-room, refuse, roomAfter}
 use Rattle.annex.specs.Heads.{transfer-data, most-commons, most-transfers, most-values}
 use Rattle.annex.specs.Items.{Item, Part}
 use Rattle.annex.specs.Allowed.{itemsIn}
-use Rattle.annex.specs.Records.{headOf, commonHeadOf, rawItem, valuesOf, pack, isWhole, view}
+use Rattle.annex.specs.Records.{commonHead, transferHead, headOf, commonHeadOf, rawItem, rawPart, valuesOf, pack, isWhole, view}
 use Rattle.annex.specs.declared.Common.{Common}
 use Rattle.annex.specs.declared.Transfer.{Transfer}
 use Rattle.annex.specs.declared.Record.{Record}
@@ -87,18 +87,8 @@ more x n Short = Short
 -- the transfer parameter at the front of octets; its fields are taken as they stand
 abbrev pub headFront : List ℕ → Transfer
 headFront s =
-    record {
-      header = getD s 0 0;
-      notification = getD s 1 0;
-      verification = getD s 2 0;
-      dialling = getD s 3 0;
-      «number_type» = getD s 4 0;
-      incomplete = getD s 5 0;
-      plan = getD s 6 0;
-      presentation = getD s 7 0;
-      screening = getD s 8 0;
-      len = getD s 9 0 + 256 * getD s 10 0;
-    }
+    transferHead (getD s 0 0) (getD s 1 0) (getD s 2 0) (getD s 3 0) (getD s 4 0) (getD s 5 0) (getD s 6 0) (getD s 7 0) (getD s 8 0)
+    (getD s 9 0 + 256 * getD s 10 0)
 
 abbrev pub itemFront : List ℕ → Item
 itemFront s = rawItem (headFront s) (take (headFront s .len) (drop transfer-head s))
@@ -116,14 +106,11 @@ itemsFront (suc n) s =
 -- the common parameter at the front of octets; where it is no C5 its count is not looked at
 abbrev pub commonFront : List ℕ → Common
 commonFront s =
-    record {
-      header = getD s 0 0;
-      value = getD s 1 0 + 256 * getD s 2 0 + 65536 * getD s 3 0 + 16777216 * getD s 4 0;
-      transfers = cond (eqb (getD s 0 0) transfer-data) (getD s 5 0) 0;
-    }
+    commonHead (getD s 0 0) (getD s 1 0 + 256 * getD s 2 0 + 65536 * getD s 3 0 + 16777216 * getD s 4 0)
+    (cond (eqb (getD s 0 0) transfer-data) (getD s 5 0) 0)
 
 abbrev pub partFront : List ℕ → List Item → Part
-partFront s is = record { header = commonFront s .header; value = commonFront s .value; items = is }
+partFront s is = rawPart (commonFront s) is
 
 -- the head s with these transfer parameters behind it, and what follows them
 abbrev pub partThen : List ℕ → Front Item → (ℕ → Front Part) → Front Part

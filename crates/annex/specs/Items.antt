@@ -1,10 +1,10 @@
 -- The parameters of a record: document 01, "Writing", what a record holds of each parameter, and the contents that it stands for.
 use Prim.Native.Nat.{ℕ, _+_, _*_, _/_, _%_}
 use mathlib.Core.Bool.{cond}
-use mathlib.Core.List.{List, _∷_}
+use mathlib.Core.List.{List, [], _∷_}
 use lib.Dec.{eqb}
 use lib.ListN.{length, getD, drop}
-use Rattle.annex.specs.Heads.{added-calling-number, Form, Marks, formOf}
+use Rattle.annex.specs.Heads.{added-calling-number, transfer-data, Form, Marks, formOf}
 use Rattle.annex.specs.Heads.Marks.{Unmarked, Notified, Verified, Typed}
 use Rattle.annex.specs.Heads.Form.{Checked, Digits, Number, Calling, Generic}
 use Rattle.annex.specs.Digits.{digitsOf, packed}
@@ -31,7 +31,55 @@ pub record Part : Type 0 where
   pub value : ℕ
   pub items : List Item
 
--- how the values are held: as the contents, or as digits with marks, as a number, as a number after 06
+-- ---- constructors: only these name the fields of a parameter one by one
+
+-- header; notification, verification, dialling; number type, incomplete mark, plan, presentation, screening; values
+abbrev pub item : ℕ → ℕ → ℕ → ℕ → ℕ → ℕ → ℕ → ℕ → ℕ → List ℕ → Item
+item h n v d t c p r s vs =
+    record {
+      header = h;
+      notification = n;
+      verification = v;
+      dialling = d;
+      numberType = t;
+      incomplete = c;
+      plan = p;
+      presentation = r;
+      screening = s;
+      values = vs;
+    }
+
+-- one with marks, one with neither marks nor fields, one with a number's fields
+abbrev pub markedItem : ℕ → ℕ → ℕ → ℕ → List ℕ → Item
+markedItem h n v d vs = item h n v d 0 0 0 0 0 vs
+
+abbrev pub plainItem : ℕ → List ℕ → Item
+plainItem h vs = markedItem h 0 0 0 vs
+
+abbrev pub fieldsItem : ℕ → ℕ → ℕ → ℕ → ℕ → ℕ → List ℕ → Item
+fieldsItem h t c p r s vs = item h 0 0 0 t c p r s vs
+
+-- Transfer data, D7: x and y are the two octets before the digits; bit 7 of x, the odd mark, is no value of the record
+abbrev pub numberItem : ℕ → ℕ → ℕ → List ℕ → Item
+numberItem h x y vs = fieldsItem h (x % 128) (y / 128) (y / 16 % 8) (y / 4 % 4) (y % 4) vs
+
+-- header, value, transfer parameters
+abbrev pub part : ℕ → ℕ → List Item → Part
+part h v is = record { header = h; value = v; items = is }
+
+-- one with a value alone, the transfer data, and one with other transfer parameters
+abbrev pub valuePart : ℕ → ℕ → Part
+valuePart h v = part h v []
+
+abbrev pub dataPart : List Item → Part
+dataPart is = part transfer-data 0 is
+
+abbrev pub partWith : List Item → Part → Part
+partWith is p = part (p .header) (p .value) is
+
+-- ---- how the values are held
+
+-- as the contents, or as digits with marks, as a number, as a number after 06
 pub data Holding : Type 0 where
   AsContents : Holding
   AsDigits : Marks → Holding
@@ -49,52 +97,6 @@ unfoldable pub holdingOf : ℕ → ℕ → Holding
 holdingOf h x = holdingBy (formOf h) x
 
 -- ---- from contents to a parameter
-
-abbrev pub plainItem : ℕ → List ℕ → Item
-plainItem h vs =
-    record {
-      header = h;
-      notification = 0;
-      verification = 0;
-      dialling = 0;
-      numberType = 0;
-      incomplete = 0;
-      plan = 0;
-      presentation = 0;
-      screening = 0;
-      values = vs;
-    }
-
-abbrev pub markedItem : ℕ → ℕ → ℕ → ℕ → List ℕ → Item
-markedItem h n v d vs =
-    record {
-      header = h;
-      notification = n;
-      verification = v;
-      dialling = d;
-      numberType = 0;
-      incomplete = 0;
-      plan = 0;
-      presentation = 0;
-      screening = 0;
-      values = vs;
-    }
-
--- Transfer data, D7: x and y are the two octets before the digits; bit 7 of x, the odd mark, is no value of the record
-abbrev pub numberItem : ℕ → ℕ → ℕ → List ℕ → Item
-numberItem h x y vs =
-    record {
-      header = h;
-      notification = 0;
-      verification = 0;
-      dialling = 0;
-      numberType = x % 128;
-      incomplete = y / 128;
-      plan = y / 16 % 8;
-      presentation = y / 4 % 4;
-      screening = y % 4;
-      values = vs;
-    }
 
 -- the upper two bits u of a count octet: 90 and 95 notification in bit 7; 91 notification in bit 7, verification in bit 6; 98 the type
 abbrev pub openMarks : Marks → ℕ → ℕ → List ℕ → Item
@@ -150,19 +152,7 @@ ownMarks Verified i = markedItem (i .header) (i .notification) (i .verification)
 ownMarks Typed i = markedItem (i .header) 0 0 (i .dialling) (i .values)
 
 abbrev pub ownFields : Item → Item
-ownFields i =
-    record {
-      header = i .header;
-      notification = 0;
-      verification = 0;
-      dialling = 0;
-      numberType = i .numberType;
-      incomplete = i .incomplete;
-      plan = i .plan;
-      presentation = i .presentation;
-      screening = i .screening;
-      values = i .values;
-    }
+ownFields i = fieldsItem (i .header) (i .numberType) (i .incomplete) (i .plan) (i .presentation) (i .screening) (i .values)
 
 abbrev pub ownBy : Holding → Item → Item
 ownBy AsContents i = plainItem (i .header) (i .values)

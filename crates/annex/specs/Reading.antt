@@ -1,5 +1,6 @@
 -- Reading: document 01, "Refusal numbers and their order", Reading: the tests of a transfer parameter, of a common parameter and of the end
--- mark, each in the order of their numbers, over the message from left to right; and the record of an accepted message.
+-- mark, each in the order of their numbers, over the message from left to right; and the record of an accepted message. All of it is by a rule
+-- of contents, `Contents.Rule`; the names without `By` are by the rule in force, `Contents.faultOf`.
 use Prim.Native.Nat.{ℕ, _+_, _*_}
 use mathlib.Core.Bool.{Bool, true, cond, not, _&&_, _||_}
 use mathlib.Core.List.{List, [], _∷_, map}
@@ -39,33 +40,13 @@ use Rattle.annex.specs.Heads.{
   pliRight,
   oftenOf,
 }
-use Rattle.annex.specs.Contents.{faultOf}
-use Rattle.annex.specs.Items.{Item, Part, itemOf}
+use Rattle.annex.specs.Contents.{Rule, faultOf}
+use Rattle.annex.specs.Items.{Item, Part, part, valuePart, itemOf}
 use Rattle.annex.specs.Walk.{Seen, unseen, timesSeen, Par, Step, walk, judging, listing}
 use Rattle.annex.specs.declared.Answer.{Answer}
 use Rattle.annex.specs.declared.Answer.the-variants.{Accepted}
 
--- ---- transfer data
-
--- a transfer parameter whose name stood so many times before: its header and the octets after it, to the end of the transfer data
-unfoldable pub transferOf : ℕ → ℕ → List ℕ → Answer
-transferOf times h xs =
-    let n = afterOf (extentOf h) (getD xs 0 0) in
-    refuse (not (nameUsed h)) unused-name 0
-    (refuse (not (pliRight h)) other-pli 0
-    (refuse (leb (oftenOf (nameOf h)) times) repeated-name 0
-    (refuse (ltb (length xs) n) cut-contents 0
-    (soundThen (headerAt 0) (faultOf h (contentsIn (extentOf h) (take n xs)))
-    (Accepted n)))))
-
-abbrev pub transferStep : Step
-transferStep seen h xs = transferOf (timesSeen seen h) h xs
-
--- transfer data: accepted with its length, or the first refusal
-unfoldable pub transfersVerdict : List ℕ → Answer
-transfersVerdict t = walk (judging transferStep (λ seen p. Accepted p)) unseen 0 0 t
-
--- ---- the common part
+-- ---- the common part, but for what C5 holds
 
 -- 5: the octet right after 01 or 06
 unfoldable pub octetAllowed : ℕ → ℕ → Bool
@@ -85,41 +66,12 @@ commonForm times h xs =
 unfoldable pub endOf : Bool → List ℕ → Answer
 endOf whole xs = refuse (not whole) missing 0 (refuse (ltb 0 (length xs)) left-over 1 (Accepted 0))
 
--- C5: its parameters start behind the header and the length octet
-unfoldable pub dataOf : ℕ → List ℕ → Answer
-dataOf n xs = andThen (shifted 2 (transfersVerdict (contentsIn (commonExtentOf transfer-data) (take n xs)))) (λ _. Accepted n)
-
--- a common parameter whose name stood so many times before; whole: 01 and 06 have been seen
-unfoldable pub commonOf : ℕ → Bool → ℕ → List ℕ → Answer
-commonOf times whole h xs =
-    andThen (commonForm times h xs)
-    (λ n. cond (eqb h end-mark) (endOf whole xs) (cond (eqb h transfer-data) (dataOf n xs) (Accepted n)))
-
 abbrev pub wholeIn : Seen → Bool
 wholeIn seen = ltb 0 (timesSeen seen user-class) && ltb 0 (timesSeen seen signal-kind)
-
-abbrev pub commonStep : Step
-commonStep seen h xs = commonOf (timesSeen seen h) (wholeIn seen) h xs
 
 -- 4 where the message ends with no end mark
 abbrev pub commonClose : Seen → ℕ → Answer
 commonClose seen p = refuse (not (ltb 0 (timesSeen seen end-mark))) cut-short p (Accepted p)
-
-unfoldable pub messageVerdict : List ℕ → Answer
-messageVerdict m = walk (judging commonStep commonClose) unseen 0 0 m
-
--- the verdict of a message: accepted with its length, or the first refusal
-unfoldable pub verdictOf : List ℕ → Answer
-verdictOf m = refuse (eqb (length m) 0 || ltb most-octets (length m)) over-limits 0 (messageVerdict m)
-
--- ---- the record of an accepted message
-
--- the parameters in order, with the places of their headers, in the message or in the transfer data
-unfoldable pub commonsOf : List ℕ → List Par
-commonsOf m = walk (listing commonStep) unseen 0 0 m
-
-unfoldable pub transfersOf : List ℕ → List Par
-transfersOf t = walk (listing transferStep) unseen 0 0 t
 
 -- Common part: a call number, least octet first
 abbrev pub callNumber : List ℕ → ℕ
@@ -132,16 +84,106 @@ openTransfer q = itemOf (q .head) (contentsIn (extentOf (q .head)) (q .own))
 abbrev pub dataIn : Par → List ℕ
 dataIn q = contentsIn (commonExtentOf transfer-data) (q .own)
 
-unfoldable pub openCommon : Par → Part
-openCommon q =
-    cond (eqb (q .head) transfer-data) (record { header = q .head; value = 0; items = map openTransfer (transfersOf (dataIn q)) })
-    (cond (isCall (q .head)) (record { header = q .head; value = callNumber (q .own); items = [] })
-    (record { header = q .head; value = getD (q .own) 0 0; items = [] }))
-
 -- Writing: a record has no end mark
 abbrev pub withoutEnd : List Par → List Par
 withoutEnd [] = []
 withoutEnd (q ∷ qs) = cond (eqb (q .head) end-mark) (withoutEnd qs) (q ∷ withoutEnd qs)
 
-unfoldable pub recordOf : List ℕ → List Part
-recordOf m = map openCommon (withoutEnd (commonsOf m))
+module _ (rule : Rule) where
+  -- ---- transfer data
+
+  -- a transfer parameter whose name stood so many times before: its header and the octets after it, to the end of the transfer data
+  unfoldable pub transferBy : ℕ → ℕ → List ℕ → Answer
+  transferBy times h xs =
+      let n = afterOf (extentOf h) (getD xs 0 0) in
+      refuse (not (nameUsed h)) unused-name 0
+      (refuse (not (pliRight h)) other-pli 0
+      (refuse (leb (oftenOf (nameOf h)) times) repeated-name 0
+      (refuse (ltb (length xs) n) cut-contents 0
+      (soundThen (headerAt 0) (rule h (contentsIn (extentOf h) (take n xs)))
+      (Accepted n)))))
+
+  abbrev pub transferStepBy : Step
+  transferStepBy seen h xs = transferBy (timesSeen seen h) h xs
+
+  -- transfer data: accepted with its length, or the first refusal
+  unfoldable pub transfersVerdictBy : List ℕ → Answer
+  transfersVerdictBy t = walk (judging transferStepBy (λ seen p. Accepted p)) unseen 0 0 t
+
+  -- ---- the message
+
+  -- C5: its parameters start behind the header and the length octet
+  unfoldable pub dataBy : ℕ → List ℕ → Answer
+  dataBy n xs = andThen (shifted 2 (transfersVerdictBy (contentsIn (commonExtentOf transfer-data) (take n xs)))) (λ _. Accepted n)
+
+  -- a common parameter whose name stood so many times before; whole: 01 and 06 have been seen
+  unfoldable pub commonBy : ℕ → Bool → ℕ → List ℕ → Answer
+  commonBy times whole h xs =
+      andThen (commonForm times h xs)
+      (λ n. cond (eqb h end-mark) (endOf whole xs) (cond (eqb h transfer-data) (dataBy n xs) (Accepted n)))
+
+  abbrev pub commonStepBy : Step
+  commonStepBy seen h xs = commonBy (timesSeen seen h) (wholeIn seen) h xs
+
+  unfoldable pub messageVerdictBy : List ℕ → Answer
+  messageVerdictBy m = walk (judging commonStepBy commonClose) unseen 0 0 m
+
+  -- the verdict of a message: accepted with its length, or the first refusal
+  unfoldable pub verdictBy : List ℕ → Answer
+  verdictBy m = refuse (eqb (length m) 0 || ltb most-octets (length m)) over-limits 0 (messageVerdictBy m)
+
+  -- ---- the record of an accepted message
+
+  -- the parameters in order, with the places of their headers, in the message or in the transfer data
+  unfoldable pub commonsBy : List ℕ → List Par
+  commonsBy m = walk (listing commonStepBy) unseen 0 0 m
+
+  unfoldable pub transfersBy : List ℕ → List Par
+  transfersBy t = walk (listing transferStepBy) unseen 0 0 t
+
+  unfoldable pub openCommonBy : Par → Part
+  openCommonBy q =
+      cond (eqb (q .head) transfer-data) (part (q .head) 0 (map openTransfer (transfersBy (dataIn q))))
+      (cond (isCall (q .head)) (valuePart (q .head) (callNumber (q .own)))
+      (valuePart (q .head) (getD (q .own) 0 0)))
+
+  unfoldable pub recordBy : List ℕ → List Part
+  recordBy m = map openCommonBy (withoutEnd (commonsBy m))
+
+-- ---- by the rule in force
+
+abbrev pub transferOf : ℕ → ℕ → List ℕ → Answer
+transferOf = transferBy faultOf
+
+abbrev pub transferStep : Step
+transferStep = transferStepBy faultOf
+
+abbrev pub transfersVerdict : List ℕ → Answer
+transfersVerdict = transfersVerdictBy faultOf
+
+abbrev pub dataOf : ℕ → List ℕ → Answer
+dataOf = dataBy faultOf
+
+abbrev pub commonOf : ℕ → Bool → ℕ → List ℕ → Answer
+commonOf = commonBy faultOf
+
+abbrev pub commonStep : Step
+commonStep = commonStepBy faultOf
+
+abbrev pub messageVerdict : List ℕ → Answer
+messageVerdict = messageVerdictBy faultOf
+
+abbrev pub verdictOf : List ℕ → Answer
+verdictOf = verdictBy faultOf
+
+abbrev pub commonsOf : List ℕ → List Par
+commonsOf = commonsBy faultOf
+
+abbrev pub transfersOf : List ℕ → List Par
+transfersOf = transfersBy faultOf
+
+abbrev pub openCommon : Par → Part
+openCommon = openCommonBy faultOf
+
+abbrev pub recordOf : List ℕ → List Part
+recordOf = recordBy faultOf

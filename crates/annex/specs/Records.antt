@@ -6,7 +6,7 @@ use mathlib.Core.List.{List, [], _∷_, _++_, map}
 use lib.Dec.{eqb, leb}
 use lib.ListN.{length, take, drop, replicate}
 use Rattle.annex.specs.Heads.{transfer-data, most-commons, most-transfers, most-values}
-use Rattle.annex.specs.Items.{Item, Part, ownOf}
+use Rattle.annex.specs.Items.{Item, Part, item, part, ownOf}
 use Rattle.annex.specs.Allowed.{itemsIn, ownPart}
 use Rattle.annex.specs.Reading.{verdictOf, recordOf}
 use Rattle.annex.specs.declared.Common.{Common}
@@ -18,30 +18,38 @@ use Rattle.annex.specs.declared.Answer.the-variants.{Accepted, Refused}
 
 -- ---- the parts of the struct
 
+-- header, value, how many transfer parameters; only this names the fields one by one
+abbrev pub commonHead : ℕ → ℕ → ℕ → Common
+commonHead h v n = record { header = h; value = v; transfers = n }
+
 -- a common parameter with one value: an octet, or a call number
 abbrev pub valueHead : ℕ → ℕ → Common
-valueHead h v = record { header = h; value = v; transfers = 0 }
+valueHead h v = commonHead h v 0
 
 abbrev pub dataHead : ℕ → Common
-dataHead n = record { header = transfer-data; value = 0; transfers = n }
+dataHead n = commonHead transfer-data 0 n
 
 abbrev pub noCommon : Common
-noCommon = record { header = 0; value = 0; transfers = 0 }
+noCommon = valueHead 0 0
 
-abbrev pub dialledHead : ℕ → ℕ → ℕ → ℕ → ℕ → Transfer
-dialledHead h n v d l =
+-- a transfer parameter with the fields of `Items.item`, in that order, and so many values
+abbrev pub transferHead : ℕ → ℕ → ℕ → ℕ → ℕ → ℕ → ℕ → ℕ → ℕ → ℕ → Transfer
+transferHead h n v d t c p r s l =
     record {
       header = h;
       notification = n;
       verification = v;
       dialling = d;
-      «number_type» = 0;
-      incomplete = 0;
-      plan = 0;
-      presentation = 0;
-      screening = 0;
+      «number_type» = t;
+      incomplete = c;
+      plan = p;
+      presentation = r;
+      screening = s;
       len = l;
     }
+
+abbrev pub dialledHead : ℕ → ℕ → ℕ → ℕ → ℕ → Transfer
+dialledHead h n v d l = transferHead h n v d 0 0 0 0 0 l
 
 abbrev pub carriedHead : ℕ → ℕ → Transfer
 carriedHead h l = dialledHead h 0 0 0 l
@@ -50,19 +58,7 @@ abbrev pub noTransfer : Transfer
 noTransfer = carriedHead 0 0
 
 abbrev pub numberHead : ℕ → ℕ → ℕ → ℕ → Transfer
-numberHead h x y l =
-    record {
-      header = h;
-      notification = 0;
-      verification = 0;
-      dialling = 0;
-      «number_type» = x % 128;
-      incomplete = y / 128;
-      plan = y / 16 % 8;
-      presentation = y / 4 % 4;
-      screening = y % 4;
-      len = l;
-    }
+numberHead h x y l = transferHead h 0 0 0 (x % 128) (y / 128) (y / 16 % 8) (y / 4 % 4) (y % 4) l
 
 -- ---- pack: the struct that is handed out
 
@@ -72,21 +68,11 @@ pad n z xs = xs ++ replicate (n - length xs) z
 
 abbrev pub headOf : Item → Transfer
 headOf i =
-    record {
-      header = i .header;
-      notification = i .notification;
-      verification = i .verification;
-      dialling = i .dialling;
-      «number_type» = i .numberType;
-      incomplete = i .incomplete;
-      plan = i .plan;
-      presentation = i .presentation;
-      screening = i .screening;
-      len = length (i .values);
-    }
+    transferHead (i .header) (i .notification) (i .verification) (i .dialling) (i .numberType) (i .incomplete) (i .plan) (i .presentation)
+    (i .screening) (length (i .values))
 
 abbrev pub commonHeadOf : Part → Common
-commonHeadOf p = record { header = p .header; value = p .value; transfers = length (p .items) }
+commonHeadOf p = commonHead (p .header) (p .value) (length (p .items))
 
 unfoldable pub valuesOf : List Item → List ℕ
 valuesOf [] = []
@@ -105,18 +91,11 @@ pack r =
 
 abbrev pub rawItem : Transfer → List ℕ → Item
 rawItem t vs =
-    record {
-      header = t .header;
-      notification = t .notification;
-      verification = t .verification;
-      dialling = t .dialling;
-      numberType = t .«number_type»;
-      incomplete = t .incomplete;
-      plan = t .plan;
-      presentation = t .presentation;
-      screening = t .screening;
-      values = vs;
-    }
+    item (t .header) (t .notification) (t .verification) (t .dialling) (t .«number_type») (t .incomplete) (t .plan) (t .presentation)
+    (t .screening) vs
+
+abbrev pub rawPart : Common → List Item → Part
+rawPart c is = part (c .header) (c .value) is
 
 -- the parameters of which these are the heads, with their values one after the other; what a parameter does not have is no part of it
 unfoldable pub viewItems : List Transfer → List ℕ → List Item
@@ -138,7 +117,7 @@ transfersSum (c ∷ cs) = transferCount c + transfersSum cs
 unfoldable pub viewParts : List Common → List Transfer → List ℕ → List Part
 viewParts [] ts vs = []
 viewParts (c ∷ cs) ts vs =
-    ownPart (record { header = c .header; value = c .value; items = viewItems (take (transferCount c) ts) vs }) ∷
+    ownPart (rawPart c (viewItems (take (transferCount c) ts) vs)) ∷
     viewParts cs (drop (transferCount c) ts) (drop (lengthsOf (take (transferCount c) ts)) vs)
 
 abbrev pub commonsIn : Record → List Common

@@ -43,22 +43,7 @@ use Rattle.annex.specs.Items.{Item, Part}
 use Rattle.annex.specs.Layout.{layoutItems, layout}
 use Rattle.annex.specs.Allowed.{every, isOctet, headersOf, itemsIn, namesOf, timesIn}
 use Rattle.annex.specs.Walk.{Seen, unseen, timesSeen, counted, Step, byStep, walk, judging}
-use Rattle.annex.specs.Reading.{
-  transferOf,
-  transferStep,
-  transfersVerdict,
-  octetAllowed,
-  wholeIn,
-  commonForm,
-  endOf,
-  dataOf,
-  commonOf,
-  commonStep,
-  commonClose,
-  messageVerdict,
-  verdictOf,
-  recordOf,
-}
+use Rattle.annex.specs.Reading.{transferStep, transfersVerdict, octetAllowed, wholeIn, commonForm, endOf, dataOf, commonStep, commonClose, messageVerdict, verdictOf, recordOf, transferBy, transfersVerdictBy, dataBy, commonBy, messageVerdictBy, verdictBy}
 use Rattle.annex.specs.Packed.{oneNumber, packedAnswer, row-octets, octetSpans}
 use Rattle.annex.specs.Finding.{foundAnswer, foundPart, findAnswer, findPart}
 use Rattle.annex.specs.Spans.{rowsOf, spansOf}
@@ -155,20 +140,20 @@ module _ (step : Step) (close : Seen → ℕ → Answer) (c : ℕ)
       go (Refused k q) h ih = (omega arith, omega arith)
 
 transfer-place : (seen : Seen) (h : ℕ) (xs : List ℕ) → placeOf (transferStep seen h xs) ≤ 0 + length xs
-unfolding transferOf
+unfolding transferBy
 transfer-place seen h xs =
     let n = afterOf (extentOf h) (getD xs 0 0) in
     let f = faultOf h (contentsIn (extentOf h) (take n xs)) in
     place-four (not (nameUsed h)) (not (pliRight h)) (leb (oftenOf (nameOf h)) (timesSeen seen h)) (ltb (length xs) n) unused-name other-pli repeated-name cut-contents (0 + length xs) (soundThen (headerAt 0) f (Accepted n)) (place-sound (headerAt 0) f n (0 + length xs) (λ j i e. omega arith))
 
 transfers-upto : (t : List ℕ) → Upto (length t) (transfersVerdict t)
-unfolding transfersVerdict
+unfolding transfersVerdictBy
 transfers-upto t =
     upto-more (walk (judging transferStep (λ seen p. Accepted p)) unseen 0 0 t) (0 + length t + 0) (length t) (omega arith)
     (walk-upto transferStep (λ seen p. Accepted p) 0 transfer-place (λ seen p. (omega arith, omega arith)) t unseen 0 0)
 
 common-place : (seen : Seen) (h : ℕ) (xs : List ℕ) → placeOf (commonStep seen h xs) ≤ 2 + length xs
-unfolding commonOf commonForm endOf dataOf
+unfolding commonBy commonForm endOf dataBy
 common-place seen h xs =
     let n = afterOf (commonExtentOf h) (getD xs 0 0) in
     let most = 2 + length xs in
@@ -188,7 +173,7 @@ common-place seen h xs =
 
 -- neither the place nor the length that a verdict tells is over 274
 pub verdict-upto : (m : List ℕ) → Upto 274 (verdictOf m)
-unfolding verdictOf messageVerdict
+unfolding verdictBy messageVerdictBy
 verdict-upto m = go (eqb (length m) 0 || ltb most-octets (length m)) refl
   where
     go : (b : Bool) → eqb (length m) 0 || ltb most-octets (length m) ≡ b → Upto 274 (refuse b over-limits 0 (messageVerdict m))

@@ -14,6 +14,7 @@ use Rattle.annex.specs.declared.Answer.the-variants.{Accepted}
 use Rattle.annex.specs.declared.Key.the-variants.{Name}
 use Rattle.annex.specs.declared.Found.{Found}
 use Rattle.annex.specs.declared.Found.the-variants.{At, Nowhere}
+use Rattle.annex.specs.Contents.{faultOf}
 use Rattle.laws.specs.Plain.{transfers-plain}
 use Rattle.laws.specs.Finding.{isSought, firstIn, searchFrom, contentsAt, transferSearch}
 use Rattle.theorems.specs.Places.{OtherPar, isFound}
@@ -42,4 +43,4 @@ whole-stands x m t s at old k v w =
     let l = ap length (w .laid) in
     let named : isSought (Name x) (w .item .header) ≡ true = eq-eqb _ x (w .named) in
     let end : at + 1 + length (drop 1 (layoutItem (w .item))) ≡ at + length old = omega arith in
-    rw (← transfers-plain t k v, w .listed, ← end) (whole-behind x (w .ahead) _ (w .rest) (w .others) named)
+    rw (← transfers-plain faultOf t k v, w .listed, ← end) (whole-behind x (w .ahead) _ (w .rest) (w .others) named)

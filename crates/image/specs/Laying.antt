@@ -10,9 +10,9 @@ use lib.ListN.{length, take, drop, length-drop}
 use lib.Seq.{length-take-le}
 use Rattle.annex.specs.Answers.{over-limits, no-room, refuse}
 use Rattle.annex.specs.Heads.{transfer-data}
-use Rattle.annex.specs.Items.{Item}
+use Rattle.annex.specs.Items.{Item, part, valuePart}
 use Rattle.annex.specs.Allowed.{Each, every, isOctet}
-use Rattle.annex.specs.Records.{headOf, transferCount, transfersSum, commonsIn, isWhole, view}
+use Rattle.annex.specs.Records.{headOf, transferCount, transfersSum, commonsIn, isWhole, view, commonHead}
 use Rattle.annex.specs.Image.{imageHead, imageItem, imageItems, imageCommon, imagePart, imageParts, imageOf, imagingOf, imagedIn}
 use Rattle.annex.specs.declared.Answer.{Answer}
 use Rattle.annex.specs.declared.Answer.the-variants.{Accepted, Refused}
@@ -26,7 +26,7 @@ use Rattle.writer.specs.Limits.{length-parts, length-items}
 -- the head of a common parameter; what it does not have is 0
 abbrev pub ownCommon : Common → Common
 ownCommon c =
-    record { header = c .header; value = cond (eqb (c .header) transfer-data) 0 (c .value); transfers = transferCount c }
+    commonHead (c .header) (cond (eqb (c .header) transfer-data) 0 (c .value)) (transferCount c)
 
 -- such a head, and these transfer parameters behind it
 abbrev pub partOctets : Common → List Item → List ℕ
@@ -84,7 +84,7 @@ part-octets : (c : Common) (is : List Item) → length is ≡ transferCount c �
 unfolding imagePart imageItems
 part-octets c is e = go (eqb (c .header) transfer-data) is e
   where
-    go : (b : Bool) (js : List Item) → length js ≡ cond b (c .transfers) 0 → imagePart (cond b (record { header = c .header; value = 0; items = js }) (record { header = c .header; value = c .value; items = [] })) ≡ partOctets (record { header = c .header; value = cond b 0 (c .value); transfers = cond b (c .transfers) 0 }) js
+    go : (b : Bool) (js : List Item) → length js ≡ cond b (c .transfers) 0 → imagePart (cond b (part (c .header) 0 js) (valuePart (c .header) (c .value))) ≡ partOctets (commonHead (c .header) (cond b 0 (c .value)) (cond b (c .transfers) 0)) js
     go true js l = rw l
     go false [] l = refl
     go false (j ∷ js) l = absurd (omega arith)

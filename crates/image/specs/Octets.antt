@@ -10,7 +10,7 @@ use lib.ListN.{length, take, drop, length-append, length-take, length-drop}
 use lib.Seq.{length-take-le}
 use Rattle.annex.specs.Heads.{transfer-data}
 use Rattle.annex.specs.Heads.Marks.{Unmarked, Notified, Verified, Typed}
-use Rattle.annex.specs.Items.{Item, Part, Holding, heldAs, ownBy, ownOf}
+use Rattle.annex.specs.Items.{Item, Part, Holding, heldAs, ownBy, ownOf, part, valuePart}
 use Rattle.annex.specs.Items.Holding.{AsContents, AsDigits, AsNumber, AsGeneric}
 use Rattle.annex.specs.Allowed.{Each, every, isOctet, itemsIn}
 use Rattle.annex.specs.Records.{headOf, commonHeadOf, valuesOf, rawItem, viewItems, lengthsOf, transferCount, transfersSum, viewParts, commonsIn, view}
@@ -121,7 +121,7 @@ parts-view (c ∷ cs) ts vs hc ht o =
     let few : length (viewItems (take n ts) vs) < 256 = omega (arith, length-items (take n ts) vs, length-take n ts, transfers-small c (hc .0 .1)) in
     (own (eqb (c .header) transfer-data) (viewItems (take n ts) vs) (few, view-octets (take n ts) vs (each-take OctetHead n ts ht) o), parts-view cs (drop n ts) (drop l vs) (hc .1) (each-drop OctetHead n ts ht) (every-drop isOctet l vs o))
   where
-    own : (b : Bool) (is : List Item) → (length is < 256) × Each OctetItem is → OctetPart (cond b (record { header = c .header; value = 0; items = is }) (record { header = c .header; value = c .value; items = [] }))
+    own : (b : Bool) (is : List Item) → (length is < 256) × Each OctetItem is → OctetPart (cond b (part (c .header) 0 is) (valuePart (c .header) (c .value)))
     own true is h = (hc .0 .0, h .0, h .1)
     own false is h = (hc .0 .0, omega arith, tt)
 

@@ -10,7 +10,7 @@ use lib.Dec.{eqb, leb}
 use lib.ListN.{length, take, drop, length-append}
 use lib.Seq.{take-append-seam, drop-append-seam}
 use Rattle.annex.specs.Heads.{transfer-data, most-commons, most-transfers, call-number-below}
-use Rattle.annex.specs.Items.{Item, Part, markedItem}
+use Rattle.annex.specs.Items.{Item, Part, markedItem, part, valuePart, dataPart}
 use Rattle.annex.specs.Allowed.{Each, every, isOctet, itemsIn, valueRight, valueFits, Allowed}
 use Rattle.annex.specs.Reading.{octetAllowed, verdictOf, recordOf}
 use Rattle.annex.specs.Records.{valuesOf, pack, view, readingOf}
@@ -128,7 +128,7 @@ unfolding valueRight valueFits octetAllowed
 value-small p a (octet k) = omega (arith, k .small (p .value) (a .right) (rw (k .uncalled) at (a .fits)))
 value-small p a (call k) = omega (arith, ltb-true (p .value) call-number-below (rw (k .unsequenced, k .called) at (a .fits)))
 value-small p a (many k) =
-    let e : record { header = p .header; value = 0; items = p .items } ≡ p = rw (k .isData) at (a .held .own) in
+    let e : part (p .header) 0 (p .items) ≡ p = rw (k .isData) at (a .held .own) in
     omega (arith, ap (λ (q : Part). q .value) e)
 
 imageable : (p : Part) → AllowedPart p → Imageable p
@@ -153,9 +153,9 @@ read-back m o n e =
 
 abbrev example : List Part
 example =
-    record { header = 0x01; value = 1; items = [] } ∷
-    record { header = 0x83; value = 12345; items = [] } ∷
-    record { header = 0xC5; value = 0; items = markedItem 0x90 0 0 0 (1 ∷ 2 ∷ 0 ∷ 3 ∷ []) ∷ [] } ∷
+    valuePart 0x01 1 ∷
+    valuePart 0x83 12345 ∷
+    dataPart (markedItem 0x90 0 0 0 (1 ∷ 2 ∷ 0 ∷ 3 ∷ []) ∷ []) ∷
     []
 
 abbrev octets : List ℕ

@@ -11,10 +11,11 @@ use lib.ListN.{length, getD, set, take, length-set, length-append, length-map}
 use Rattle.annex.specs.Units.{nameOf}
 use Rattle.annex.specs.Heads.{among, listedHeaders, transfer-data, nameUsed, oftenOf, most-transfers}
 use Rattle.annex.specs.Walk.{Seen, unseen, timesSeen, counted, Par, Step, byStep, walk, listing}
-use Rattle.annex.specs.Reading.{transferStep, transfersOf, commonStep, commonsOf, dataIn}
+use Rattle.annex.specs.Reading.{transferStep, transfersOf, commonStep, commonsOf, dataIn, commonsBy, transfersBy}
 use Rattle.annex.specs.Spans.{transferRows, innerRows, commonRows, rowsOf}
 use Rattle.annex.specs.declared.Answer.{Answer}
 use Rattle.annex.specs.declared.Answer.the-variants.{Accepted, Refused}
+use Rattle.annex.specs.Contents.{faultOf}
 use Rattle.laws.specs.Members.{among-every}
 use Rattle.laws.specs.Steps.{transfer-taken, common-taken}
 use Rattle.laws.specs.Rows.{sumOf, parAt, transfer-rows}
@@ -69,7 +70,7 @@ name-used h = let e : h % 64 % 64 ≡ h % 64 = omega arith in rw e
 transfer-spends : (seen : Seen) (p h : ℕ) (xs : List ℕ) (n : ℕ) → transferStep seen h xs ≡ Accepted n → 1 + transferAllows (nameOf h) (timesSeen seen h + 1) ≤ transferAllows (nameOf h) (timesSeen seen h)
 unfolding transferAllows
 transfer-spends seen p h xs n e =
-    let t = transfer-taken _ h xs n e in
+    let t = transfer-taken faultOf _ h xs n e in
     rw (name-used h, t .used) (omega (arith, t .often))
 
 count : {A : Type 0} (xs : List A) → sumOf (λ x. 1) xs ≡ length xs
@@ -77,7 +78,7 @@ count [] = refl
 count (x ∷ xs) = omega (arith, count xs)
 
 pub transfers-few : (t : List ℕ) → length (transfersOf t) ≤ most-transfers
-unfolding transfersOf transferAllows allowance nameUsed oftenOf
+unfolding transfersBy transferAllows allowance nameUsed oftenOf
 transfers-few t =
     omega (arith, count (transfersOf t), spent transferAllows transferStep (λ q. 1) transfer-spends t unseen 0 0 refl)
 
@@ -107,7 +108,7 @@ rowsIn q = 1 + length (innerRows q)
 common-spends : (seen : Seen) (p h : ℕ) (xs : List ℕ) (n : ℕ) → commonStep seen h xs ≡ Accepted n → rowsIn (parAt p h (take n xs)) + commonAllows (nameOf h) (timesSeen seen h + 1) ≤ commonAllows (nameOf h) (timesSeen seen h)
 unfolding commonAllows
 common-spends seen p h xs n e =
-    let t = common-taken _ _ h xs n e .1 in
+    let t = common-taken faultOf _ _ h xs n e .1 in
     rw (t .once) (omega (arith, inner-few p h (take n xs) (t .listed)))
 
 length-rows : (qs : List Par) → length (commonRows qs) ≡ sumOf rowsIn qs
@@ -117,5 +118,5 @@ length-rows (q ∷ qs) = rw (length-append (innerRows q) (commonRows qs)) (omega
 
 -- no more than 59 of them
 pub rows-few : (m : List ℕ) → length (rowsOf m) ≤ 59
-unfolding rowsOf commonsOf commonAllows allowance
+unfolding rowsOf commonsBy commonAllows allowance
 rows-few m = omega (arith, length-rows (commonsOf m), spent commonAllows commonStep rowsIn common-spends m unseen 0 0 refl)

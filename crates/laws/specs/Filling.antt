@@ -10,11 +10,11 @@ use borrow.Author.Tests.{eqb-true}
 use lib.ListN.{length, getD, drop, set, replicate, length-map, length-replicate}
 use lib.Seq.{sets, sets-eq}
 use Rattle.annex.specs.Heads.{transfer-data, isCall}
-use Rattle.annex.specs.Items.{Item, Part}
+use Rattle.annex.specs.Items.{Item, Part, part, valuePart}
 use Rattle.annex.specs.Allowed.{itemsIn}
 use Rattle.annex.specs.Walk.{Par}
-use Rattle.annex.specs.Reading.{callNumber, openTransfer, dataIn, openCommon, transfersOf}
-use Rattle.annex.specs.Records.{valueHead, dataHead, noCommon, noTransfer, pad, headOf, commonHeadOf, valuesOf, pack}
+use Rattle.annex.specs.Reading.{callNumber, openTransfer, dataIn, openCommon, transfersOf, openCommonBy}
+use Rattle.annex.specs.Records.{valueHead, dataHead, noCommon, noTransfer, pad, headOf, commonHeadOf, valuesOf, pack, commonHead}
 use Rattle.annex.specs.declared.Common.{Common}
 use Rattle.annex.specs.declared.Record.{Record}
 
@@ -125,26 +125,26 @@ partHead h own n =
 
 -- ---- a common parameter opened
 
-items-of : (a b : Bool) (h v w : ℕ) (is : List Item) → cond {A = Part} a (record { header = h; value = 0; items = is }) (cond b (record { header = h; value = v; items = [] }) (record { header = h; value = w; items = [] })) .items ≡ cond a is []
+items-of : (a b : Bool) (h v w : ℕ) (is : List Item) → cond {A = Part} a (part h 0 is) (cond b (valuePart h v) (valuePart h w)) .items ≡ cond a is []
 items-of true b h v w is = refl
 items-of false true h v w is = refl
 items-of false false h v w is = refl
 
 pub items-opened : (q : Par) → openCommon q .items ≡ cond (eqb (q .head) transfer-data) (map openTransfer (transfersOf (dataIn q))) []
-unfolding openCommon
+unfolding openCommonBy
 items-opened q =
     items-of (eqb (q .head) transfer-data) (isCall (q .head)) (q .head) (callNumber (q .own)) (getD (q .own) 0 0) (map openTransfer (transfersOf (dataIn q)))
 
 -- the head of what it opens to: a C5's has as many transfer parameters as it holds
 pub head-opened : (q : Par) → commonHeadOf (openCommon q) ≡ partHead (q .head) (q .own) (length (openCommon q .items))
-unfolding openCommon
+unfolding openCommonBy
 head-opened q = by (eqb (q .head) transfer-data) refl (isCall (q .head))
   where
     is : List Item
     is = map openTransfer (transfersOf (dataIn q))
 
-    by : (a : Bool) → eqb (q .head) transfer-data ≡ a → (b : Bool) → commonHeadOf (cond a (record { header = q .head; value = 0; items = is }) (cond b (record { header = q .head; value = callNumber (q .own); items = [] }) (record { header = q .head; value = getD (q .own) 0 0; items = [] }))) ≡ cond a (dataHead (length (cond {A = Part} a (record { header = q .head; value = 0; items = is }) (cond b (record { header = q .head; value = callNumber (q .own); items = [] }) (record { header = q .head; value = getD (q .own) 0 0; items = [] })) .items))) (cond b (valueHead (q .head) (callNumber (q .own))) (valueHead (q .head) (getD (q .own) 0 0)))
-    by true e b = ap (λ (h : ℕ). record { header = h; value = 0; transfers = length is }) (eqb-true (q .head) transfer-data e)
+    by : (a : Bool) → eqb (q .head) transfer-data ≡ a → (b : Bool) → commonHeadOf (cond a (part (q .head) 0 is) (cond b (valuePart (q .head) (callNumber (q .own))) (valuePart (q .head) (getD (q .own) 0 0)))) ≡ cond a (dataHead (length (cond {A = Part} a (part (q .head) 0 is) (cond b (valuePart (q .head) (callNumber (q .own))) (valuePart (q .head) (getD (q .own) 0 0))) .items))) (cond b (valueHead (q .head) (callNumber (q .own))) (valueHead (q .head) (getD (q .own) 0 0)))
+    by true e b = ap (λ (h : ℕ). commonHead h 0 (length is)) (eqb-true (q .head) transfer-data e)
     by false e true = refl
     by false e false = refl
 

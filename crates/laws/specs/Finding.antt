@@ -21,6 +21,7 @@ use Rattle.annex.specs.declared.Key.{Key}
 use Rattle.annex.specs.declared.Key.the-variants.{Header, Name}
 use Rattle.annex.specs.declared.Found.{Found}
 use Rattle.annex.specs.declared.Found.the-variants.{At, Nowhere}
+use Rattle.annex.specs.Contents.{faultOf}
 use Rattle.laws.specs.Extents.{lead-within}
 use Rattle.laws.specs.Parts.{from-to}
 use Rattle.laws.specs.Plain.{
@@ -198,7 +199,7 @@ transfer-first x s t (q ∷ qs) l = first-by (eqb (nameOf (q .head)) x) (λ f. m
 
 pub common-plain : (h : ℕ) (m : List ℕ) (n : ℕ) → verdictOf m ≡ Accepted n → commonFound h m ≡ commonPlain h m
 unfolding commonFound
-common-plain h m n e = rw (commons-plain m n e, common-first h m _ (pars-lie commonSize m m 0 0 refl))
+common-plain h m n e = rw (commons-plain faultOf m n e, common-first h m _ (pars-lie commonSize m m 0 0 refl))
 
 -- C5's contents are its transfer data
 data-first : (x : ℕ) (m : List ℕ) (q : Par) → Lies commonSize m q → InnerSound q → q .head ≡ transfer-data → transferIn x (q .place + 2) (transfersOf (dataIn q)) ≡ inData x m (contentsAt (Header transfer-data) m (wholeOf q))
@@ -208,7 +209,7 @@ data-first x m q l d f =
     let j : q .place + 1 + 1 ≡ q .place + 2 = omega arith in
     let k : q .place + 1 + n - (q .place + 2) ≡ n - 1 = omega arith in
     let t : drop 1 (q .own) ≡ take (n - 1) (drop (q .place + 2) m) = ap (λ (r : List ℕ). drop 1 r) (l .own) ∙ rw (← from-to 1 n (drop (q .place + 1) m), drop-drop, j) in
-    rw (transfers-plain (dataIn q) _ (d f .1), transfer-first x (q .place + 2) (dataIn q) _ (pars-lie transferSize (dataIn q) (dataIn q) 0 0 refl), ← l .head, f, j, k, ← t)
+    rw (transfers-plain faultOf (dataIn q) _ (d f .1), transfer-first x (q .place + 2) (dataIn q) _ (pars-lie transferSize (dataIn q) (dataIn q) 0 0 refl), ← l .head, f, j, k, ← t)
 
 among-first : (x : ℕ) (m : List ℕ) (qs : List Par) → Each (Lies commonSize m) qs → Each InnerSound qs → transferAmong x qs ≡ inData x m (contentsAt (Header transfer-data) m (firstIn (Header transfer-data) qs))
 unfolding transferAmong firstIn
@@ -221,7 +222,7 @@ among-first x m (q ∷ qs) l i =
 pub transfer-plain : (x : ℕ) (m : List ℕ) (n : ℕ) → verdictOf m ≡ Accepted n → transferFound x m ≡ transferPlain x m
 unfolding transferFound
 transfer-plain x m n e =
-    let p = commons-plain m n e in
+    let p = commons-plain faultOf m n e in
     rw p (among-first x m _ (pars-lie commonSize m m 0 0 refl) (rw p at (commons-inner m)))
 
 pub plain-found : (k : Key) (m : List ℕ) (n : ℕ) → verdictOf m ≡ Accepted n → foundBy k m ≡ plainBy k m

@@ -13,10 +13,11 @@ use lib.ListN.{length, getD, take, drop, length-drop, drop-of-length-le}
 use lib.Seq.{getD-drop, drop-cons, drop-drop, length-take-le}
 use Rattle.annex.specs.Units.{afterOf, extentOf, commonExtentOf, contentsIn}
 use Rattle.annex.specs.Answers.{over-limits}
+use Rattle.annex.specs.Contents.{Rule, faultOf}
 use Rattle.annex.specs.Heads.{end-mark, transfer-data, most-octets}
 use Rattle.annex.specs.Allowed.{Each}
 use Rattle.annex.specs.Walk.{Seen, unseen, counted, Par, Step, byStep, walk, judging, listing}
-use Rattle.annex.specs.Reading.{transferStep, transfersVerdict, transfersOf, endOf, dataOf, commonStep, commonClose, messageVerdict, verdictOf, wholeIn, commonsOf, dataIn}
+use Rattle.annex.specs.Reading.{transfersVerdict, endOf, dataOf, commonStep, commonClose, wholeIn, commonsOf, dataIn, transfersVerdictBy, messageVerdictBy, verdictBy, commonsBy, transfersBy, transferStepBy, dataBy, commonStepBy}
 use Rattle.annex.specs.declared.Extent.{Extent}
 use Rattle.annex.specs.declared.Answer.{Answer}
 use Rattle.annex.specs.declared.Answer.the-variants.{Accepted, Refused}
@@ -150,38 +151,39 @@ each-listed step P f (x ∷ xs) seen zero p = go (step seen x xs) refl (λ k. ea
     go (Accepted n) e ih = (f seen p x xs n e, ih n)
     go (Refused k r) e ih = tt
 
-transfer-sized : (seen : Seen) (h : ℕ) (xs : List ℕ) (n : ℕ) → transferStep seen h xs ≡ Accepted n → (n ≡ transferSize h xs) × (n ≤ length xs)
-transfer-sized seen h xs n e = let t = transfer-taken _ h xs n e in (t .size, t .within)
+module _ (rule : Rule) where
+  transfer-sized : (seen : Seen) (h : ℕ) (xs : List ℕ) (n : ℕ) → transferStepBy rule seen h xs ≡ Accepted n → (n ≡ transferSize h xs) × (n ≤ length xs)
+  transfer-sized seen h xs n e = let t = transfer-taken rule _ h xs n e in (t .size, t .within)
 
-pub transfers-plain : (t : List ℕ) (q : ℕ) → transfersVerdict t ≡ Accepted q → transfersOf t ≡ pars transferSize 0 0 t
-unfolding transfersVerdict transfersOf
-transfers-plain t q e = listing-pars transferStep (λ seen p. Accepted p) transferSize transfer-sized t unseen 0 0 q e
+  pub transfers-plain : (t : List ℕ) (q : ℕ) → transfersVerdictBy rule t ≡ Accepted q → transfersBy rule t ≡ pars transferSize 0 0 t
+  unfolding transfersVerdictBy transfersBy
+  transfers-plain t q e = listing-pars (transferStepBy rule) (λ seen p. Accepted p) transferSize transfer-sized t unseen 0 0 q e
 
--- the end mark has no octets after it, C5 as many as its length octet says
-common-sized : (seen : Seen) (h : ℕ) (xs : List ℕ) (n : ℕ) → commonStep seen h xs ≡ Accepted n → (n ≡ commonSize h xs) × (n ≤ length xs)
-unfolding endOf commonExtentOf afterOf
-common-sized seen h xs n e =
-    let t = common-taken _ _ h xs n e in
-    let g = sym (common-formed _ _ h xs (t .0) (t .2)) ∙ e in
-    (by (eqb h end-mark) refl (eqb h transfer-data) (t .0) (t .1 .size) g, common-within _ _ h xs n e)
-  where
-    by : (a : Bool) → eqb h end-mark ≡ a → (b : Bool) (k : ℕ) → k ≡ commonSize h xs → cond a (endOf (wholeIn seen) xs) (cond b (dataOf k xs) (Accepted k)) ≡ Accepted n → n ≡ commonSize h xs
-    by true f b k s g =
-        let g₁ = passed (not (wholeIn seen)) _ 0 n _ g in
-        let g₂ = passed (ltb 0 (length xs)) _ 1 n (Accepted 0) (g₁ .1) in
-        let same : 0 ≡ n = cc in
-        rw f (sym same)
-    by false f true k s g = data-taken k xs n g .2 ∙ s
-    by false f false k s g = let same : k ≡ n = cc in sym same ∙ s
+  -- the end mark has no octets after it, C5 as many as its length octet says
+  common-sized : (seen : Seen) (h : ℕ) (xs : List ℕ) (n : ℕ) → commonStepBy rule seen h xs ≡ Accepted n → (n ≡ commonSize h xs) × (n ≤ length xs)
+  unfolding endOf commonExtentOf afterOf
+  common-sized seen h xs n e =
+      let t = common-taken rule _ _ h xs n e in
+      let g = sym (common-formed rule _ _ h xs (t .0) (t .2)) ∙ e in
+      (by (eqb h end-mark) refl (eqb h transfer-data) (t .0) (t .1 .size) g, common-within rule _ _ h xs n e)
+    where
+      by : (a : Bool) → eqb h end-mark ≡ a → (b : Bool) (k : ℕ) → k ≡ commonSize h xs → cond a (endOf (wholeIn seen) xs) (cond b (dataBy rule k xs) (Accepted k)) ≡ Accepted n → n ≡ commonSize h xs
+      by true f b k s g =
+          let g₁ = passed (not (wholeIn seen)) _ 0 n _ g in
+          let g₂ = passed (ltb 0 (length xs)) _ 1 n (Accepted 0) (g₁ .1) in
+          let same : 0 ≡ n = cc in
+          rw f (sym same)
+      by false f true k s g = data-taken rule k xs n g .2 ∙ s
+      by false f false k s g = let same : k ≡ n = cc in sym same ∙ s
 
-message-plain : (m : List ℕ) (q : ℕ) → messageVerdict m ≡ Accepted q → commonsOf m ≡ pars commonSize 0 0 m
-unfolding messageVerdict commonsOf
-message-plain m q e = listing-pars commonStep commonClose commonSize common-sized m unseen 0 0 q e
+  message-plain : (m : List ℕ) (q : ℕ) → messageVerdictBy rule m ≡ Accepted q → commonsBy rule m ≡ pars commonSize 0 0 m
+  unfolding messageVerdictBy commonsBy
+  message-plain m q e = listing-pars (commonStepBy rule) commonClose commonSize common-sized m unseen 0 0 q e
 
-pub commons-plain : (m : List ℕ) (q : ℕ) → verdictOf m ≡ Accepted q → commonsOf m ≡ pars commonSize 0 0 m
-unfolding verdictOf
-commons-plain m q e =
-    message-plain m q (passed (eqb (length m) 0 || ltb most-octets (length m)) over-limits 0 q (messageVerdict m) e .1)
+  pub commons-plain : (m : List ℕ) (q : ℕ) → verdictBy rule m ≡ Accepted q → commonsBy rule m ≡ pars commonSize 0 0 m
+  unfolding verdictBy
+  commons-plain m q e =
+      message-plain m q (passed (eqb (length m) 0 || ltb most-octets (length m)) over-limits 0 q (messageVerdictBy rule m) e .1)
 
 -- the transfer data of an accepted message is accepted
 unfoldable pub InnerSound : Par → Type 0
@@ -190,14 +192,14 @@ InnerSound q = q .head ≡ transfer-data → (k : ℕ) × (transfersVerdict (dat
 common-inner : (seen : Seen) (p h : ℕ) (xs : List ℕ) (n : ℕ) → commonStep seen h xs ≡ Accepted n → InnerSound (parOf p h n xs)
 unfolding InnerSound
 common-inner seen p h xs n e five =
-    let t = common-taken _ _ h xs n e in
+    let t = common-taken faultOf _ _ h xs n e in
     let b : eqb h end-mark ≡ false = rw five in
     let a : eqb h transfer-data ≡ true = rw five in
-    inner (t .0) (rw (b, a) at (sym (common-formed _ _ h xs (t .0) (t .2)) ∙ e))
+    inner (t .0) (rw (b, a) at (sym (common-formed faultOf _ _ h xs (t .0) (t .2)) ∙ e))
   where
     inner : (k : ℕ) → dataOf k xs ≡ Accepted n → (q : ℕ) × (transfersVerdict (dataIn (parOf p h n xs)) ≡ Accepted q)
-    inner k g = let d = data-taken k xs n g in (d .0, ap (λ (j : ℕ). transfersVerdict (contentsIn (commonExtentOf transfer-data) (take j xs))) (d .2) ∙ d .1)
+    inner k g = let d = data-taken faultOf k xs n g in (d .0, ap (λ (j : ℕ). transfersVerdict (contentsIn (commonExtentOf transfer-data) (take j xs))) (d .2) ∙ d .1)
 
 pub commons-inner : (m : List ℕ) → Each InnerSound (commonsOf m)
-unfolding commonsOf
+unfolding commonsBy
 commons-inner m = each-listed commonStep InnerSound common-inner m unseen 0 0

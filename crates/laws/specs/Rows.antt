@@ -16,12 +16,13 @@ use Rattle.annex.specs.Answers.{over-limits}
 use Rattle.annex.specs.Heads.{transfer-data, most-octets}
 use Rattle.annex.specs.Allowed.{Each}
 use Rattle.annex.specs.Walk.{Seen, unseen, counted, Par, Step, byStep, walk, judging, listing}
-use Rattle.annex.specs.Reading.{transferStep, transfersVerdict, transfersOf, commonStep, commonClose, messageVerdict, verdictOf, commonsOf, dataIn}
+use Rattle.annex.specs.Reading.{transferStep, transfersVerdict, transfersOf, commonStep, commonClose, messageVerdict, verdictOf, commonsOf, dataIn, transfersVerdictBy, messageVerdictBy, verdictBy, commonsBy, transfersBy}
 use Rattle.annex.specs.Spans.{rowBy, transferRows, innerRows, commonRows}
 use Rattle.annex.specs.declared.Answer.{Answer}
 use Rattle.annex.specs.declared.Answer.the-variants.{Accepted, Refused}
 use Rattle.annex.specs.declared.Row.{Row}
 use Rattle.annex.specs.declared.Extent.{Extent}
+use Rattle.annex.specs.Contents.{faultOf}
 use Rattle.laws.specs.Extents.{lead-within}
 use Rattle.laws.specs.Steps.{passed, transfer-taken, common-within}
 use Rattle.laws.specs.Plain.{Size, commonSize, transferSize, pars, pars-turn, Lies, pars-lie, commons-plain, transfers-plain, InnerSound, commons-inner}
@@ -66,19 +67,19 @@ module _ (step : Step) (close : Seen → ℕ → Answer)
 
 -- the parameters of a message add up to it
 pub commons-sum : (m : List ℕ) (q : ℕ) → verdictOf m ≡ Accepted q → sumOf octetsIn (commonsOf m) ≡ length m
-unfolding verdictOf messageVerdict commonsOf
+unfolding verdictBy messageVerdictBy commonsBy
 commons-sum m q e =
     omega (
       arith,
-      listing-sum commonStep commonClose (λ seen h xs n. common-within _ _ h xs n) m unseen 0 0 q (omega arith)
+      listing-sum commonStep commonClose (λ seen h xs n. common-within faultOf _ _ h xs n) m unseen 0 0 q (omega arith)
           (passed (eqb (length m) 0 || ltb most-octets (length m)) over-limits 0 q (messageVerdict m) e .1),
     )
 
 -- those of transfer data add up to it
 pub transfers-sum : (t : List ℕ) (q : ℕ) → transfersVerdict t ≡ Accepted q → sumOf octetsIn (transfersOf t) ≡ length t
-unfolding transfersVerdict transfersOf
+unfolding transfersVerdictBy transfersBy
 transfers-sum t q e =
-    omega (arith, listing-sum transferStep (λ seen p. Accepted p) (λ seen h xs n f. transfer-taken _ h xs n f .within) t unseen 0 0 q (omega arith) e)
+    omega (arith, listing-sum transferStep (λ seen p. Accepted p) (λ seen h xs n f. transfer-taken faultOf _ h xs n f .within) t unseen 0 0 q (omega arith) e)
 
 -- ---- a walk by the length rule
 
@@ -87,10 +88,10 @@ pub record Filled (size : Size) (p : ℕ) (xs : List ℕ) : Type 0 where
   pub sum : sumOf octetsIn (pars size 0 p xs) ≡ length xs
 
 pub commons-filled : (m : List ℕ) (q : ℕ) → verdictOf m ≡ Accepted q → Filled commonSize 0 m
-commons-filled m q e = record { sum = rw (commons-plain m q e) at (commons-sum m q e) }
+commons-filled m q e = record { sum = rw (commons-plain faultOf m q e) at (commons-sum m q e) }
 
 pub transfers-filled : (t : List ℕ) (q : ℕ) → transfersVerdict t ≡ Accepted q → Filled transferSize 0 t
-transfers-filled t q e = record { sum = rw (transfers-plain t q e) at (transfers-sum t q e) }
+transfers-filled t q e = record { sum = rw (transfers-plain faultOf t q e) at (transfers-sum t q e) }
 
 -- one turn: the next parameter, with n octets of its own, is whole, and what comes after it is filled again
 pub record Turned (size : Size) (i n : ℕ) (t : List ℕ) : Type 0 where
@@ -165,7 +166,7 @@ outsideRow q = rowBy (commonExtentOf (q .head)) 0 q
 -- the rows outside C5 add up to the message
 pub rows-outside : (m : List ℕ) (k : ℕ) → verdictOf m ≡ Accepted k → sumOf (spanBy commonExtentOf) (map outsideRow (commonsOf m)) ≡ length m
 rows-outside m k e =
-    rows-sum commonExtentOf 0 (commonsOf m) (rw (commons-plain m k e) (leads-in commonExtentOf m)) ∙ commons-sum m k e
+    rows-sum commonExtentOf 0 (commonsOf m) (rw (commons-plain faultOf m k e) (leads-in commonExtentOf m)) ∙ commons-sum m k e
 
 pub transfer-rows : (s : ℕ) (qs : List Par) → transferRows s qs ≡ map (λ q. rowBy (extentOf (q .head)) s q) qs
 unfolding transferRows
@@ -175,7 +176,7 @@ transfer-rows s (q ∷ qs) = rw (transfer-rows s qs)
 data-rows : (s : ℕ) (t : List ℕ) (k : ℕ) → transfersVerdict t ≡ Accepted k → sumOf (spanBy extentOf) (transferRows s (transfersOf t)) ≡ length t
 data-rows s t k e =
     rw (transfer-rows s (transfersOf t))
-    (rows-sum extentOf s (transfersOf t) (rw (transfers-plain t k e) (leads-in extentOf t)) ∙ transfers-sum t k e)
+    (rows-sum extentOf s (transfersOf t) (rw (transfers-plain faultOf t k e) (leads-in extentOf t)) ∙ transfers-sum t k e)
 
 -- the rows inside a C5 add up to its length
 unfoldable pub InsideFills : Par → Type 0

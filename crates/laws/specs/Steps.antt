@@ -27,18 +27,9 @@ use Rattle.annex.specs.Answers.{
 }
 use Rattle.annex.specs.Units.{nameOf, afterOf, leadOf, extentOf, commonExtentOf, contentsIn}
 use Rattle.annex.specs.Heads.{among, listedHeaders, end-mark, transfer-data, nameUsed, pliRight, oftenOf}
-use Rattle.annex.specs.Contents.{faultOf}
+use Rattle.annex.specs.Contents.{Rule}
 use Rattle.annex.specs.Walk.{Seen, unseen, counted, Step, walk, judging, byStep}
-use Rattle.annex.specs.Reading.{
-  transferOf,
-  transferStep,
-  transfersVerdict,
-  octetAllowed,
-  commonForm,
-  endOf,
-  dataOf,
-  commonOf,
-}
+use Rattle.annex.specs.Reading.{octetAllowed, commonForm, endOf, transferBy, transfersVerdictBy, dataBy, commonBy, transferStepBy}
 use Rattle.annex.specs.declared.Answer.{Answer}
 use Rattle.annex.specs.declared.Answer.the-variants.{Accepted, Refused}
 use Rattle.annex.specs.declared.Fault.{Fault}
@@ -86,47 +77,6 @@ sound-place l place (Bad k i) a h g = refused-place l k (place k i) (h k i refl)
 pub place-up : (l m : ℕ) (a : Answer) → l ≤ m → PlaceTo l a → PlaceTo m a
 place-up l m a h g = record { at = λ k p e. omega (arith, g .at k p e) }
 
--- ---- a transfer parameter
-
-pub record TransferTaken (times h : ℕ) (xs : List ℕ) (n : ℕ) : Type 0 where
-  pub used : nameUsed h ≡ true
-  pub pli : pliRight h ≡ true
-  pub often : times < oftenOf (nameOf h)
-  pub size : n ≡ afterOf (extentOf h) (getD xs 0 0)
-  pub within : n ≤ length xs
-  pub sound : faultOf h (contentsIn (extentOf h) (take n xs)) ≡ Sound
-
-pub transfer-taken : (times h : ℕ) (xs : List ℕ) (n : ℕ) → transferOf times h xs ≡ Accepted n → TransferTaken times h xs n
-unfolding transferOf
-transfer-taken times h xs n e =
-    let l = afterOf (extentOf h) (getD xs 0 0) in
-    let e₁ = passed (not (nameUsed h)) _ 0 n _ e in
-    let e₂ = passed (not (pliRight h)) _ 0 n _ (e₁ .1) in
-    let e₃ = passed (leb (oftenOf (nameOf h)) times) _ 0 n _ (e₂ .1) in
-    let e₄ = passed (ltb (length xs) l) _ 0 n _ (e₃ .1) in
-    let e₅ = sounded (headerAt 0) (faultOf h (contentsIn (extentOf h) (take l xs))) n (Accepted l) (e₄ .1) in
-    let same : l ≡ n = cc in
-    record {
-      used = not-false (nameUsed h) (e₁ .0);
-      pli = not-false (pliRight h) (e₂ .0);
-      often = leb-false (oftenOf (nameOf h)) times (e₃ .0);
-      size = sym same;
-      within = omega (arith, ltb-false (length xs) l (e₄ .0));
-      sound = rw same at (e₅ .0);
-    }
-
--- its refusals lie within it
-pub transfer-place : (times h : ℕ) (xs : List ℕ) → PlaceTo (length xs) (transferOf times h xs)
-unfolding transferOf
-transfer-place times h xs =
-    let l = length xs in
-    let n = afterOf (extentOf h) (getD xs 0 0) in
-    let sound = sound-place l (headerAt 0) (faultOf h (contentsIn (extentOf h) (take n xs))) (Accepted n) (λ k i e. omega arith) (accepted-place l n) in
-    let whole = refuse-place l (ltb (length xs) n) cut-contents 0 _ (omega arith) sound in
-    let once = refuse-place l (leb (oftenOf (nameOf h)) times) repeated-name 0 _ (omega arith) whole in
-    let right = refuse-place l (not (pliRight h)) other-pli 0 _ (omega arith) once in
-    refuse-place l (not (nameUsed h)) unused-name 0 _ (omega arith) right
-
 -- ---- places in a walk
 
 module _ (step : Step) (close : Seen → ℕ → Answer)
@@ -140,15 +90,6 @@ module _ (step : Step) (close : Seen → ℕ → Answer)
       go : (a : Answer) → step seen x xs ≡ a → ((k p : ℕ) → PlaceTo (p + length xs + l) (walk (judging step close) (counted seen x) k p xs)) → PlaceTo (p + suc (length xs) + l) (byStep a (λ k q. Refused k (p + q)) (λ n. walk (judging step close) (counted seen x) n (p + 1) xs))
       go (Accepted n) e ih = place-up (p + 1 + length xs + l) _ _ (omega arith) (ih n (p + 1))
       go (Refused k q) e ih = refused-place _ k (p + q) (omega (arith, placed seen x xs .at k q e))
-
-pub transfers-place : (t : List ℕ) → PlaceTo (length t) (transfersVerdict t)
-unfolding transfersVerdict
-transfers-place t =
-    let f : 0 + length t + 0 ≡ length t = omega arith in
-    rw f at
-    (walk-place transferStep (λ seen p. Accepted p) 0
-    (λ seen h xs. place-up (length xs) (length xs + 0) (transferStep seen h xs) (omega arith) (transfer-place _ h xs))
-    (λ seen p. accepted-place (p + 0) p) t unseen 0 0)
 
 -- ---- a common parameter
 
@@ -191,17 +132,6 @@ end-place whole xs =
     let last = refuse-place 1 (ltb 0 (length xs)) left-over 1 (Accepted 0) (omega arith) (accepted-place 1 0) in
     refuse-place 1 (not whole) missing 0 _ (omega arith) last
 
--- what follows 2 to 5
-pub common-formed : (times : ℕ) (whole : Bool) (h : ℕ) (xs : List ℕ) (n : ℕ) → commonForm times h xs ≡ Accepted n → commonOf times whole h xs ≡ cond (eqb h end-mark) (endOf whole xs) (cond (eqb h transfer-data) (dataOf n xs) (Accepted n))
-unfolding commonOf
-common-formed times whole h xs n e = rw e
-
-pub common-refused : (times : ℕ) (whole : Bool) (h : ℕ) (xs : List ℕ) (k p : ℕ) → commonForm times h xs ≡ Refused k p → commonOf times whole h xs ≡ Refused k p
-unfolding commonOf
-common-refused times whole h xs k p e = rw e
-
--- ---- C5 and the whole step
-
 behind-data : (n : ℕ) (xs : List ℕ) → n ≤ length xs → length (contentsIn (commonExtentOf transfer-data) (take n xs)) ≤ length xs
 unfolding commonExtentOf leadOf
 behind-data n xs h = simp (length-drop, length-take) (omega arith)
@@ -219,64 +149,127 @@ pub data-part : (n : ℕ) (xs : List ℕ) → contentsIn (commonExtentOf transfe
 unfolding commonExtentOf leadOf
 data-part n xs = sym (from-to 1 n xs)
 
-pub data-told : (n : ℕ) (xs : List ℕ) → dataOf n xs ≡ andThen (shifted 2 (transfersVerdict (take (n - 1) (drop 1 xs)))) (λ _. Accepted n)
-unfolding dataOf
-data-told n xs = rw (data-part n xs)
+-- ---- by any rule of contents
 
-data-place : (n : ℕ) (xs : List ℕ) → n ≤ length xs → PlaceTo (2 + length xs) (dataOf n xs)
-unfolding dataOf
-data-place n xs h =
-    let t = contentsIn (commonExtentOf transfer-data) (take n xs) in
-    place-up (2 + length t) (2 + length xs) _ (omega (arith, behind-data n xs h))
-    (then-place (2 + length t) n _ (shifted-place (length t) 2 _ (transfers-place t)))
+-- what an accepted transfer parameter has passed
+pub record TransferTaken (rule : Rule) (times h : ℕ) (xs : List ℕ) (n : ℕ) : Type 0 where
+  pub used : nameUsed h ≡ true
+  pub pli : pliRight h ≡ true
+  pub often : times < oftenOf (nameOf h)
+  pub size : n ≡ afterOf (extentOf h) (getD xs 0 0)
+  pub within : n ≤ length xs
+  pub sound : rule h (contentsIn (extentOf h) (take n xs)) ≡ Sound
 
-pub data-taken : (n : ℕ) (xs : List ℕ) (k : ℕ) → dataOf n xs ≡ Accepted k → (q : ℕ) × (transfersVerdict (contentsIn (commonExtentOf transfer-data) (take n xs)) ≡ Accepted q) × (k ≡ n)
-unfolding dataOf
-data-taken n xs k e = go (transfersVerdict (contentsIn (commonExtentOf transfer-data) (take n xs))) refl e
-  where
-    go : (a : Answer) → transfersVerdict (contentsIn (commonExtentOf transfer-data) (take n xs)) ≡ a → andThen (shifted 2 a) (λ _. Accepted n) ≡ Accepted k → (q : ℕ) × (transfersVerdict (contentsIn (commonExtentOf transfer-data) (take n xs)) ≡ Accepted q) × (k ≡ n)
-    go (Accepted q) f e = (q, f, cc)
-    go (Refused j p) f e = absurd (let z : _≡_ {A = ℕ} 0 1 = cc in omega arith)
+module _ (rule : Rule) where
+  pub transfer-taken : (times h : ℕ) (xs : List ℕ) (n : ℕ) → transferBy rule times h xs ≡ Accepted n → TransferTaken rule times h xs n
+  unfolding transferBy
+  transfer-taken times h xs n e =
+      let l = afterOf (extentOf h) (getD xs 0 0) in
+      let e₁ = passed (not (nameUsed h)) _ 0 n _ e in
+      let e₂ = passed (not (pliRight h)) _ 0 n _ (e₁ .1) in
+      let e₃ = passed (leb (oftenOf (nameOf h)) times) _ 0 n _ (e₂ .1) in
+      let e₄ = passed (ltb (length xs) l) _ 0 n _ (e₃ .1) in
+      let e₅ = sounded (headerAt 0) (rule h (contentsIn (extentOf h) (take l xs))) n (Accepted l) (e₄ .1) in
+      let same : l ≡ n = cc in
+      record {
+        used = not-false (nameUsed h) (e₁ .0);
+        pli = not-false (pliRight h) (e₂ .0);
+        often = leb-false (oftenOf (nameOf h)) times (e₃ .0);
+        size = sym same;
+        within = omega (arith, ltb-false (length xs) l (e₄ .0));
+        sound = rw same at (e₅ .0);
+      }
 
-pub common-place : (times : ℕ) (whole : Bool) (h : ℕ) (xs : List ℕ) → PlaceTo (length xs + 2) (commonOf times whole h xs)
-common-place times whole h xs = go (commonForm times h xs) refl
-  where
-    byKind : (a b : Bool) (n : ℕ) → n ≤ length xs → PlaceTo (length xs + 2) (cond a (endOf whole xs) (cond b (dataOf n xs) (Accepted n)))
-    byKind true b n l = place-up 1 _ _ (omega arith) (end-place whole xs)
-    byKind false true n l = place-up (2 + length xs) _ _ (omega arith) (data-place n xs l)
-    byKind false false n l = accepted-place _ n
+  -- its refusals lie within it
+  pub transfer-place : (times h : ℕ) (xs : List ℕ) → PlaceTo (length xs) (transferBy rule times h xs)
+  unfolding transferBy
+  transfer-place times h xs =
+      let l = length xs in
+      let n = afterOf (extentOf h) (getD xs 0 0) in
+      let sound = sound-place l (headerAt 0) (rule h (contentsIn (extentOf h) (take n xs))) (Accepted n) (λ k i e. omega arith) (accepted-place l n) in
+      let whole = refuse-place l (ltb (length xs) n) cut-contents 0 _ (omega arith) sound in
+      let once = refuse-place l (leb (oftenOf (nameOf h)) times) repeated-name 0 _ (omega arith) whole in
+      let right = refuse-place l (not (pliRight h)) other-pli 0 _ (omega arith) once in
+      refuse-place l (not (nameUsed h)) unused-name 0 _ (omega arith) right
 
-    go : (a : Answer) → commonForm times h xs ≡ a → PlaceTo (length xs + 2) (commonOf times whole h xs)
-    go (Accepted n) e =
-        rw (common-formed times whole h xs n e) (byKind (eqb h end-mark) (eqb h transfer-data) n (form-taken times h xs n e .within))
-    go (Refused k p) e = rw (common-refused times whole h xs k p e) (refused-place _ k p (omega (arith, form-place times h xs .at k p e)))
+  pub transfers-place : (t : List ℕ) → PlaceTo (length t) (transfersVerdictBy rule t)
+  unfolding transfersVerdictBy
+  transfers-place t =
+      let f : 0 + length t + 0 ≡ length t = omega arith in
+      rw f at
+      (walk-place (transferStepBy rule) (λ seen p. Accepted p) 0
+      (λ seen h xs. place-up (length xs) (length xs + 0) (transferStepBy rule seen h xs) (omega arith) (transfer-place _ h xs))
+      (λ seen p. accepted-place (p + 0) p) t unseen 0 0)
 
--- an accepted common parameter lies within its octets
-pub common-within : (times : ℕ) (whole : Bool) (h : ℕ) (xs : List ℕ) (n : ℕ) → commonOf times whole h xs ≡ Accepted n → n ≤ length xs
-unfolding endOf
-common-within times whole h xs n e = go (commonForm times h xs) refl
-  where
-    byEnd : endOf whole xs ≡ Accepted n → n ≤ length xs
-    byEnd f =
-        let f₁ = passed (not whole) _ 0 n _ f in
-        let f₂ = passed (ltb 0 (length xs)) _ 1 n (Accepted 0) (f₁ .1) in
-        let same : 0 ≡ n = cc in
-        omega arith
+  -- what follows 2 to 5
+  pub common-formed : (times : ℕ) (whole : Bool) (h : ℕ) (xs : List ℕ) (n : ℕ) → commonForm times h xs ≡ Accepted n → commonBy rule times whole h xs ≡ cond (eqb h end-mark) (endOf whole xs) (cond (eqb h transfer-data) (dataBy rule n xs) (Accepted n))
+  unfolding commonBy
+  common-formed times whole h xs n e = rw e
 
-    byKind : (a b : Bool) (k : ℕ) → k ≤ length xs → cond a (endOf whole xs) (cond b (dataOf k xs) (Accepted k)) ≡ Accepted n → n ≤ length xs
-    byKind true b k l f = byEnd f
-    byKind false true k l f = omega (arith, data-taken k xs n f .2)
-    byKind false false k l f = let same : k ≡ n = cc in omega arith
+  pub common-refused : (times : ℕ) (whole : Bool) (h : ℕ) (xs : List ℕ) (k p : ℕ) → commonForm times h xs ≡ Refused k p → commonBy rule times whole h xs ≡ Refused k p
+  unfolding commonBy
+  common-refused times whole h xs k p e = rw e
 
-    go : (a : Answer) → commonForm times h xs ≡ a → n ≤ length xs
-    go (Accepted k) f =
-        byKind (eqb h end-mark) (eqb h transfer-data) k (form-taken times h xs k f .within) (sym (common-formed times whole h xs k f) ∙ e)
-    go (Refused k q) f = absurd (let g = common-refused times whole h xs k q f in let z : _≡_ {A = ℕ} 0 1 = cc in omega arith)
+  -- ---- C5 and the whole step
 
--- an accepted common parameter has passed 2 to 5
-pub common-taken : (times : ℕ) (whole : Bool) (h : ℕ) (xs : List ℕ) (n : ℕ) → commonOf times whole h xs ≡ Accepted n → (k : ℕ) × FormTaken times h xs k × (commonForm times h xs ≡ Accepted k)
-common-taken times whole h xs n e = go (commonForm times h xs) refl
-  where
-    go : (a : Answer) → commonForm times h xs ≡ a → (k : ℕ) × FormTaken times h xs k × (commonForm times h xs ≡ Accepted k)
-    go (Accepted k) f = (k, form-taken times h xs k f, f)
-    go (Refused k q) f = absurd (let g = common-refused times whole h xs k q f in let z : _≡_ {A = ℕ} 0 1 = cc in omega arith)
+  pub data-told : (n : ℕ) (xs : List ℕ) → dataBy rule n xs ≡ andThen (shifted 2 (transfersVerdictBy rule (take (n - 1) (drop 1 xs)))) (λ _. Accepted n)
+  unfolding dataBy
+  data-told n xs = rw (data-part n xs)
+
+  data-place : (n : ℕ) (xs : List ℕ) → n ≤ length xs → PlaceTo (2 + length xs) (dataBy rule n xs)
+  unfolding dataBy
+  data-place n xs h =
+      let t = contentsIn (commonExtentOf transfer-data) (take n xs) in
+      place-up (2 + length t) (2 + length xs) _ (omega (arith, behind-data n xs h))
+      (then-place (2 + length t) n _ (shifted-place (length t) 2 _ (transfers-place t)))
+
+  pub data-taken : (n : ℕ) (xs : List ℕ) (k : ℕ) → dataBy rule n xs ≡ Accepted k → (q : ℕ) × (transfersVerdictBy rule (contentsIn (commonExtentOf transfer-data) (take n xs)) ≡ Accepted q) × (k ≡ n)
+  unfolding dataBy
+  data-taken n xs k e = go (transfersVerdictBy rule (contentsIn (commonExtentOf transfer-data) (take n xs))) refl e
+    where
+      go : (a : Answer) → transfersVerdictBy rule (contentsIn (commonExtentOf transfer-data) (take n xs)) ≡ a → andThen (shifted 2 a) (λ _. Accepted n) ≡ Accepted k → (q : ℕ) × (transfersVerdictBy rule (contentsIn (commonExtentOf transfer-data) (take n xs)) ≡ Accepted q) × (k ≡ n)
+      go (Accepted q) f e = (q, f, cc)
+      go (Refused j p) f e = absurd (let z : _≡_ {A = ℕ} 0 1 = cc in omega arith)
+
+  pub common-place : (times : ℕ) (whole : Bool) (h : ℕ) (xs : List ℕ) → PlaceTo (length xs + 2) (commonBy rule times whole h xs)
+  common-place times whole h xs = go (commonForm times h xs) refl
+    where
+      byKind : (a b : Bool) (n : ℕ) → n ≤ length xs → PlaceTo (length xs + 2) (cond a (endOf whole xs) (cond b (dataBy rule n xs) (Accepted n)))
+      byKind true b n l = place-up 1 _ _ (omega arith) (end-place whole xs)
+      byKind false true n l = place-up (2 + length xs) _ _ (omega arith) (data-place n xs l)
+      byKind false false n l = accepted-place _ n
+
+      go : (a : Answer) → commonForm times h xs ≡ a → PlaceTo (length xs + 2) (commonBy rule times whole h xs)
+      go (Accepted n) e =
+          rw (common-formed times whole h xs n e) (byKind (eqb h end-mark) (eqb h transfer-data) n (form-taken times h xs n e .within))
+      go (Refused k p) e = rw (common-refused times whole h xs k p e) (refused-place _ k p (omega (arith, form-place times h xs .at k p e)))
+
+  -- an accepted common parameter lies within its octets
+  pub common-within : (times : ℕ) (whole : Bool) (h : ℕ) (xs : List ℕ) (n : ℕ) → commonBy rule times whole h xs ≡ Accepted n → n ≤ length xs
+  unfolding endOf
+  common-within times whole h xs n e = go (commonForm times h xs) refl
+    where
+      byEnd : endOf whole xs ≡ Accepted n → n ≤ length xs
+      byEnd f =
+          let f₁ = passed (not whole) _ 0 n _ f in
+          let f₂ = passed (ltb 0 (length xs)) _ 1 n (Accepted 0) (f₁ .1) in
+          let same : 0 ≡ n = cc in
+          omega arith
+
+      byKind : (a b : Bool) (k : ℕ) → k ≤ length xs → cond a (endOf whole xs) (cond b (dataBy rule k xs) (Accepted k)) ≡ Accepted n → n ≤ length xs
+      byKind true b k l f = byEnd f
+      byKind false true k l f = omega (arith, data-taken k xs n f .2)
+      byKind false false k l f = let same : k ≡ n = cc in omega arith
+
+      go : (a : Answer) → commonForm times h xs ≡ a → n ≤ length xs
+      go (Accepted k) f =
+          byKind (eqb h end-mark) (eqb h transfer-data) k (form-taken times h xs k f .within) (sym (common-formed times whole h xs k f) ∙ e)
+      go (Refused k q) f = absurd (let g = common-refused times whole h xs k q f in let z : _≡_ {A = ℕ} 0 1 = cc in omega arith)
+
+  -- an accepted common parameter has passed 2 to 5
+  pub common-taken : (times : ℕ) (whole : Bool) (h : ℕ) (xs : List ℕ) (n : ℕ) → commonBy rule times whole h xs ≡ Accepted n → (k : ℕ) × FormTaken times h xs k × (commonForm times h xs ≡ Accepted k)
+  common-taken times whole h xs n e = go (commonForm times h xs) refl
+    where
+      go : (a : Answer) → commonForm times h xs ≡ a → (k : ℕ) × FormTaken times h xs k × (commonForm times h xs ≡ Accepted k)
+      go (Accepted k) f = (k, form-taken times h xs k f, f)
+      go (Refused k q) f = absurd (let g = common-refused times whole h xs k q f in let z : _≡_ {A = ℕ} 0 1 = cc in omega arith)

@@ -9,11 +9,12 @@ use Rattle.annex.specs.Heads.{end-mark}
 use Rattle.annex.specs.Items.{Part}
 use Rattle.annex.specs.Allowed.{Each, every, isOctet, itemsIn}
 use Rattle.annex.specs.Walk.{Par}
-use Rattle.annex.specs.Reading.{verdictOf, commonsOf, openCommon, withoutEnd, recordOf}
+use Rattle.annex.specs.Reading.{verdictOf, commonsOf, openCommon, withoutEnd, recordOf, recordBy}
 use Rattle.annex.specs.Records.{valuesOf, commonHeadOf, pack}
 use Rattle.annex.specs.declared.Common.{Common}
 use Rattle.annex.specs.declared.Record.{Record}
 use Rattle.annex.specs.declared.Answer.the-variants.{Accepted}
+use Rattle.annex.specs.Contents.{faultOf}
 use mathlib.Core.Bool.{true}
 use Rattle.laws.specs.Plain.{InnerSound, commons-plain, commons-inner}
 use Rattle.laws.specs.Filling.{withItems, withParts, emptyRecord, filled-whole, filled-none, part-put, values-append}
@@ -29,10 +30,10 @@ pub record Filling (m : List ℕ) (q : Record) (transfers used i : ℕ) : Type 0
   pub sound : Each InnerSound (parsAt m i)
 
 pub filling-start : (m : List ℕ) (n : ℕ) → every isOctet m ≡ true → verdictOf m ≡ Accepted n → (q : Record) → q ≡ emptyRecord → Filling m q 0 0 0
-unfolding recordOf
+unfolding recordBy
 filling-start m n o v q e =
     let w = read-within m o n v in
-    let p : commonsOf m ≡ parsAt m 0 = commons-plain m n v in
+    let p : commonsOf m ≡ parsAt m 0 = commons-plain faultOf m n v in
     let r : recordOf m ≡ partsLeft m 0 = ap (λ (qs : List Par). map openCommon (withoutEnd qs)) p in
     rw e (record {
       inside = omega arith;

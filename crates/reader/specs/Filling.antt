@@ -13,6 +13,7 @@ use Rattle.annex.specs.Items.{Item, Part, itemOf}
 use Rattle.annex.specs.Records.{headOf, valuesOf}
 use Rattle.annex.specs.Reading.{openTransfer, openCommon, withoutEnd, dataIn}
 use Rattle.annex.specs.declared.Record.{Record}
+use Rattle.annex.specs.Contents.{faultOf}
 use Rattle.laws.specs.Parts.{from-to}
 use Rattle.laws.specs.Plain.{pars, transferSize, commonSize, pars-end, pars-turn, pars-short, pars-next, InnerSound, transfers-plain}
 use Rattle.laws.specs.Steps.{data-part}
@@ -116,7 +117,7 @@ data-is m i n =
 pub data-items : (q : Par) → q .head ≡ transfer-data → InnerSound q → openCommon q .items ≡ itemsFrom (dataIn q)
 unfolding InnerSound
 data-items q e s =
-    items-opened q ∙ rw (eq-eqb (q .head) transfer-data e) (ap (λ (l : List Par). map openTransfer l) (transfers-plain (dataIn q) (s e .0) (s e .1)))
+    items-opened q ∙ rw (eq-eqb (q .head) transfer-data e) (ap (λ (l : List Par). map openTransfer l) (transfers-plain faultOf (dataIn q) (s e .0) (s e .1)))
 
 pub other-items : (q : Par) → (q .head ≡ transfer-data → ⊥) → openCommon q .items ≡ []
 other-items q u = items-opened q ∙ rw (ne-eqb (q .head) transfer-data u)

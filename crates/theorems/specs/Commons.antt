@@ -10,11 +10,11 @@ use lib.Dec.{eqb}
 use lib.ListN.{length, getD, drop}
 use Rattle.annex.specs.Units.{nameOf, afterOf, leadOf, commonExtentOf, contentsIn}
 use Rattle.annex.specs.Heads.{among, user-class, partners-call, own-call, sequence, signal-kind, transfer-data, isCall, commonHeaders, signalKinds, call-number-below, most-transfer-octets}
-use Rattle.annex.specs.Items.{Item, Part}
+use Rattle.annex.specs.Items.{Item, Part, valuePart, dataPart}
 use Rattle.annex.specs.Layout.{layoutItems, layoutPart, callOctets, dataOctets}
 use Rattle.annex.specs.Allowed.{every, isOctet, HeldItem, HeldPart, valueRight, valueFits}
 use Rattle.annex.specs.Walk.{Par}
-use Rattle.annex.specs.Reading.{transfersOf, octetAllowed, openTransfer, openCommon, callNumber}
+use Rattle.annex.specs.Reading.{transfersOf, octetAllowed, openTransfer, openCommon, callNumber, openCommonBy}
 use Rattle.annex.specs.declared.Extent.the-variants.{Fixed, LengthOctet}
 use Rattle.laws.specs.Bools.{and-left, and-right, and-both}
 use Rattle.theorems.specs.Lists.{among-each, each-so, every-drop}
@@ -106,10 +106,6 @@ pub no-items : AllowedItems []
 unfolding layoutItems
 no-items = record { each = tt; often = λ u. omega arith; few-octets = omega arith }
 
--- a C5 with these parameters
-abbrev pub dataPart : List Item → Part
-dataPart is = record { header = transfer-data; value = 0; items = is }
-
 pub data-allowed : (is : List Item) → AllowedItems is → AllowedPart (dataPart is)
 unfolding valueRight valueFits
 data-allowed is a =
@@ -129,7 +125,7 @@ pub record PartRead (h : ℕ) (own : List ℕ) (p : Part) : Type 0 where
   pub laid : layoutPart p ≡ h ∷ own
   pub allowed : AllowedPart p
 
-octet-read : (times h : ℕ) (own : List ℕ) → h < 256 → every isOctet own ≡ true → OneOctet h → CommonOwn times h own → length own ≡ 1 → PartRead h own (record { header = h; value = getD own 0 0; items = [] })
+octet-read : (times h : ℕ) (own : List ℕ) → h < 256 → every isOctet own ≡ true → OneOctet h → CommonOwn times h own → length own ≡ 1 → PartRead h own (valuePart h (getD own 0 0))
 unfolding layoutPart valueRight valueFits octetAllowed
 octet-read times h [] s o k c l = absurd (omega arith)
 octet-read times h (x ∷ y ∷ own) s o k c l = absurd (omega arith)
@@ -161,7 +157,7 @@ upper-octets x n h = omega arith
 last-octet : (w z : ℕ) → w < 65536 → z < 256 → (w + 65536 * z) / 65536 % 256 ≡ z
 last-octet w z h g = let e : (w + 65536 * z) / 65536 ≡ z = omega arith in rw e (omega arith)
 
-call-read : (times h : ℕ) (own : List ℕ) → h < 256 → every isOctet own ≡ true → CallNumber h → CommonOwn times h own → length own ≡ 3 → PartRead h own (record { header = h; value = callNumber own; items = [] })
+call-read : (times h : ℕ) (own : List ℕ) → h < 256 → every isOctet own ≡ true → CallNumber h → CommonOwn times h own → length own ≡ 3 → PartRead h own (valuePart h (callNumber own))
 unfolding layoutPart valueRight valueFits octetAllowed
 call-read times h [] s o k c l = absurd (omega arith)
 call-read times h (x ∷ []) s o k c l = absurd (omega arith)
@@ -205,7 +201,7 @@ data-read times own o c =
     }
 
 pub part-read : (q : Par) (times : ℕ) → q .head < 256 → every isOctet (q .own) ≡ true → CommonOwn times (q .head) (q .own) → PartRead (q .head) (q .own) (openCommon q)
-unfolding openCommon afterOf
+unfolding openCommonBy afterOf
 part-read q times s o c = go (kind (q .head) (c .listed))
   where
     go : Kind (q .head) → PartRead (q .head) (q .own) (openCommon q)
@@ -229,7 +225,7 @@ pub record PartBuilt (p : Part) (own : List ℕ) : Type 0 where
   pub most : suc (length own) ≤ mostOf (nameOf (p .header))
 
 octet-built : (p : Part) → AllowedPart p → OneOctet (p .header) → PartBuilt p (p .value ∷ [])
-unfolding layoutPart openCommon afterOf valueRight valueFits octetAllowed
+unfolding layoutPart openCommonBy afterOf valueRight valueFits octetAllowed
 octet-built p a k =
     let h = p .header in
     let v = p .value in
@@ -253,7 +249,7 @@ call-whole : (v : ℕ) → v < call-number-below → callNumber (callOctets v) �
 call-whole v h = omega arith
 
 call-built : (p : Part) → AllowedPart p → CallNumber (p .header) → PartBuilt p (callOctets (p .value))
-unfolding layoutPart openCommon afterOf valueFits
+unfolding layoutPart openCommonBy afterOf valueFits
 call-built p a k =
     let h = p .header in
     let v = p .value in
@@ -275,7 +271,7 @@ call-built p a k =
     }
 
 data-built : (p : Part) → AllowedPart p → DataKind (p .header) → PartBuilt p (dataOctets (layoutItems (p .items)))
-unfolding layoutPart openCommon afterOf leadOf commonExtentOf
+unfolding layoutPart openCommonBy afterOf leadOf commonExtentOf
 data-built p a k =
     let t = layoutItems (p .items) in
     let b = transfers-built (p .items) (a .items) in

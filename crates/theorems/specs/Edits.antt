@@ -10,7 +10,7 @@ use lib.Dec.{eqb}
 use lib.ListN.{length, take}
 use Rattle.annex.specs.Units.{nameOf}
 use Rattle.annex.specs.Heads.{transfer-data, most-transfer-octets, oftenOf}
-use Rattle.annex.specs.Items.{Item, Part}
+use Rattle.annex.specs.Items.{Item, Part, dataPart, partWith}
 use Rattle.annex.specs.Layout.{layoutItem, layoutItems, layout}
 use Rattle.annex.specs.Allowed.{every, Each, timesIn, isOctet, itemsIn, namesOf, Allowed}
 use Rattle.annex.specs.Walk.{Par}
@@ -22,7 +22,7 @@ use Rattle.laws.specs.Bools.{and-left, and-right}
 use Rattle.theorems.specs.Lists.{each-append, each-left, each-right, every-take, times-append}
 use Rattle.theorems.specs.Steps.{TransferOwn}
 use Rattle.theorems.specs.Transfers.{AllowedItem, AllowedItems, item-read}
-use Rattle.theorems.specs.Commons.{AllowedPart, dataPart, data-allowed}
+use Rattle.theorems.specs.Commons.{AllowedPart, data-allowed}
 use Rattle.theorems.specs.Records.{Once, Plain, allowed, allowed-items, allowed-parts, allowed-once, names-append}
 use Rattle.theorems.specs.Messages.{read-then-laid}
 use Rattle.theorems.specs.Named.{Other, Chosen, choose}
@@ -201,7 +201,7 @@ unfolding edited
 headers-kept f e [] = refl
 headers-kept f e (p ∷ r) = go (eqb (p .header) transfer-data) (headers-kept f e r)
   where
-    go : (b : Bool) → map (λ p. f (p .header)) (edited e r) ≡ map (λ p. f (p .header)) r → f (cond b (record { header = p .header; value = p .value; items = editedItems e (p .items) }) p .header) ∷ map (λ p. f (p .header)) (edited e r) ≡ f (p .header) ∷ map (λ p. f (p .header)) r
+    go : (b : Bool) → map (λ p. f (p .header)) (edited e r) ≡ map (λ p. f (p .header)) r → f (cond b (partWith (editedItems e (p .items)) p) p .header) ∷ map (λ p. f (p .header)) (edited e r) ≡ f (p .header) ∷ map (λ p. f (p .header)) r
     go true ih = ap (λ (l : List ℕ). f (p .header) ∷ l) ih
     go false ih = ap (λ (l : List ℕ). f (p .header) ∷ l) ih
 

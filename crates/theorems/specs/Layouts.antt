@@ -13,17 +13,7 @@ use Rattle.annex.specs.Items.{Part}
 use Rattle.annex.specs.Layout.{layoutPart, layout}
 use Rattle.annex.specs.Allowed.{every, Each, timesIn, isOctet, partNamesOf, Allowed}
 use Rattle.annex.specs.Walk.{Seen, unseen, timesSeen, counted, Par, judging, listing}
-use Rattle.annex.specs.Reading.{
-  wholeIn,
-  commonStep,
-  commonClose,
-  messageVerdict,
-  verdictOf,
-  commonsOf,
-  openCommon,
-  withoutEnd,
-  recordOf,
-}
+use Rattle.annex.specs.Reading.{wholeIn, commonStep, commonClose, messageVerdict, verdictOf, commonsOf, openCommon, withoutEnd, recordOf, messageVerdictBy, verdictBy, commonsBy, recordBy}
 use Rattle.annex.specs.declared.Answer.the-variants.{Accepted}
 use Rattle.laws.specs.Bools.{and-both}
 use Rattle.theorems.specs.Lists.{every-append, each-so, stands, times-rest, total, pigeons}
@@ -142,7 +132,7 @@ closing r k =
     rw (lt-ltb 0 (timesSeen (seenBy unseen qs) end-mark) (omega (arith, seen-times qs unseen (nameOf end-mark) full-unseen, end-named r 0)))
 
 message-built : (r : List Part) → Trail commonStep unseen 0 (partPars 0 r) → messageVerdict (layout r) ≡ Accepted (length (layout r))
-unfolding messageVerdict
+unfolding messageVerdictBy
 message-built r t =
     let qs = partPars 0 r in
     let end : 0 + length (layout r) ≡ length (layout r) = omega arith in
@@ -155,20 +145,20 @@ layout-some [] = omega arith
 layout-some (p ∷ r) = simp length-append (omega (arith, layout-some r))
 
 verdict-built : (r : List Part) → Trail commonStep unseen 0 (partPars 0 r) → length (layout r) ≤ most-octets → verdictOf (layout r) ≡ Accepted (length (layout r))
-unfolding verdictOf
+unfolding verdictBy
 verdict-built r t l =
     let some = layout-some r in
     rw (ne-eqb (length (layout r)) 0 (λ e. omega arith), le-ltb most-octets (length (layout r)) l) (message-built r t)
 
 -- what is listed of it: its parts and the end mark
 commons-built : (r : List Part) → Trail commonStep unseen 0 (partPars 0 r) → commonsOf (layout r) ≡ partPars 0 r
-unfolding commonsOf
+unfolding commonsBy
 commons-built r t =
     let qs = partPars 0 r in
     rw (pars-laid r 0) at (built (listing commonStep) qs unseen 0 t ∙ made-list commonStep qs unseen 0)
 
 record-built : (r : List Part) → Trail commonStep unseen 0 (partPars 0 r) → Each AllowedPart r → Each Built r → recordOf (layout r) ≡ r
-unfolding recordOf
+unfolding recordBy
 record-built r t a b = ap (λ (l : List Par). map openCommon (withoutEnd l)) (commons-built r t) ∙ each-opens r 0 a b
 
 all-built : (r : List Part) → Allowed r → Each Built r

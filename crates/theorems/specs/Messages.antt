@@ -14,8 +14,9 @@ use Rattle.annex.specs.Heads.{among, end-mark, user-class, signal-kind, commonH
 use Rattle.annex.specs.Layout.{layout}
 use Rattle.annex.specs.Allowed.{every, Each, isOctet, headersOf, partNamesOf, Allowed}
 use Rattle.annex.specs.Walk.{Seen, unseen, timesSeen, counted, Par, walk, listing}
-use Rattle.annex.specs.Reading.{wholeIn, commonStep, commonClose, messageVerdict, verdictOf, commonsOf, openCommon, withoutEnd, recordOf}
+use Rattle.annex.specs.Reading.{wholeIn, commonStep, commonClose, messageVerdict, verdictOf, commonsOf, openCommon, withoutEnd, recordOf, messageVerdictBy, verdictBy, commonsBy, recordBy}
 use Rattle.annex.specs.declared.Answer.the-variants.{Accepted}
+use Rattle.annex.specs.Contents.{faultOf}
 use Rattle.laws.specs.Bools.{and-left, and-right, or-right}
 use Rattle.laws.specs.Steps.{passed, common-within}
 use Rattle.laws.specs.Members.{among-every}
@@ -93,10 +94,10 @@ pub record MessageRead (m : List ℕ) (n : ℕ) : Type 0 where
   pub parts : Parts unseen (withoutEnd (commonsOf m))
 
 pub message-read : (m : List ℕ) (n : ℕ) → verdictOf m ≡ Accepted n → MessageRead m n
-unfolding verdictOf messageVerdict commonsOf
+unfolding verdictBy messageVerdictBy commonsBy
 message-read m n e =
     let v = passed (eqb (length m) 0 || ltb most-octets (length m)) over-limits 0 n (messageVerdict m) e in
-    let w = walked commonStep commonClose (λ seen h. common-within (timesSeen seen h) (wholeIn seen) h) m unseen 0 0 n (omega arith) (v .1) in
+    let w = walked commonStep commonClose (λ seen h. common-within faultOf (timesSeen seen h) (wholeIn seen) h) m unseen 0 0 n (omega arith) (v .1) in
     let qs = walk (listing commonStep) unseen 0 0 m in
     let d = ended qs unseen 0 (0 + length m) n full-unseen refl (w .trail) (w .closes) in
     let c : Accepted (0 + length m) ≡ Accepted n = passed (not (ltb 0 (timesSeen (seenBy unseen qs) end-mark))) cut-short (0 + length m) n (Accepted (0 + length m)) (w .closes) .1 in
@@ -166,7 +167,7 @@ each-part (q ∷ ps) seen w o =
     (part-read q (timesSeen seen h) (ltb-true h 256 (and-left (isOctet h) _ o)) (every-left isOctet (q .own) _ after) (w .0), each-part ps (counted seen h) (w .1) (every-right isOctet (q .own) _ after))
 
 pub read-then-laid : (m : List ℕ) → every isOctet m ≡ true → (n : ℕ) → verdictOf m ≡ Accepted n → (n ≡ length m) × Allowed (recordOf m) × (layout (recordOf m) ≡ m)
-unfolding recordOf
+unfolding recordBy
 read-then-laid m o n e =
     let w = message-read m n e in
     let ps = withoutEnd (commonsOf m) in

@@ -10,12 +10,11 @@ use lib.Dec.{eqb}
 use lib.ListN.{length}
 use Rattle.annex.specs.Units.{nameOf}
 use Rattle.annex.specs.Heads.{among, transfer-data}
-use Rattle.annex.specs.Items.{Item, Part}
+use Rattle.annex.specs.Items.{Item, Part, part, dataPart}
 use Rattle.annex.specs.Layout.{layoutItems, layoutPart, layout}
 use Rattle.annex.specs.Allowed.{Each, HeldPart, itemsIn, headersOf, partNamesOf, Allowed}
 use Rattle.laws.specs.Bools.{or-left, or-right}
 use Rattle.theorems.specs.Lists.{each-left, each-right, times-here, times-rest}
-use Rattle.theorems.specs.Commons.{dataPart}
 use Rattle.theorems.specs.Records.{Once, Plain, plain-items, unnamed-plain, plain-none, allowed-once}
 
 -- a header is C5 or not, whichever way it is asked
@@ -51,7 +50,7 @@ parted (p ∷ r) h o m = go (eqb (p .header) transfer-data) refl (parted r (h .1
         let x = nameOf transfer-data in
         let names = partNamesOf r in
         let five = eqb-true (p .header) transfer-data e in
-        let own : record { header = p .header; value = 0; items = p .items } ≡ p = rw e at (h .0 .own) in
+        let own : part (p .header) 0 (p .items) ≡ p = rw e at (h .0 .own) in
         let same : dataPart (p .items) ≡ p = cc in
         let plain = unnamed-plain r (omega (arith, times-here x names, rw five at (o x))) in
         record {

@@ -11,7 +11,7 @@ use lib.Dec.{eqb, leb}
 use lib.ListN.{length, drop, length-append}
 use Rattle.annex.specs.Units.{nameOf, leadOf, extentOf, commonExtentOf}
 use Rattle.annex.specs.Heads.{among, transfer-data, oftenOf}
-use Rattle.annex.specs.Items.{Item, Part, contentsOf}
+use Rattle.annex.specs.Items.{Item, Part, contentsOf, dataPart}
 use Rattle.annex.specs.Layout.{ledBy, layoutItem, layoutItems, layoutPart, layout}
 use Rattle.annex.specs.Allowed.{every, Each, timesIn, isOctet, itemsIn, headersOf, namesOf, Allowed}
 use Rattle.annex.specs.Walk.{Par}
@@ -23,7 +23,7 @@ use Rattle.annex.specs.declared.Found.{Found}
 use Rattle.annex.specs.declared.Found.the-variants.{At, Nowhere}
 use Rattle.theorems.specs.Lists.{among-times}
 use Rattle.theorems.specs.Transfers.{itemPar, itemPars, transfers-built}
-use Rattle.theorems.specs.Commons.{dataPart, partPar}
+use Rattle.theorems.specs.Commons.{partPar}
 use Rattle.theorems.specs.Records.{Plain, plain-none, allowed-items}
 use Rattle.theorems.specs.Named.{Other, choose, absent-others}
 use Rattle.theorems.specs.Parted.{Parted, one-data, no-data, layoutParts}

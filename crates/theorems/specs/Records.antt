@@ -9,7 +9,7 @@ use lib.Dec.{eqb}
 use lib.ListN.{length, getD, drop, length-append, length-map, length-drop}
 use Rattle.annex.specs.Units.{nameOf, extentOf}
 use Rattle.annex.specs.Heads.{among, heads, freeNames, end-mark, user-class, partners-call, own-call, sequence, signal-kind, transfer-data, commonHeaders, most-commons, most-transfers, most-transfer-octets, nameUsed, pliRight, oftenOf}
-use Rattle.annex.specs.Items.{Item, Part, Holding, contentsOf, contentsBy, heldAs}
+use Rattle.annex.specs.Items.{Item, Part, Holding, contentsOf, contentsBy, heldAs, valuePart}
 use Rattle.annex.specs.Contents.{isSound}
 use Rattle.annex.specs.Items.Holding.{AsContents, AsDigits, AsNumber, AsGeneric}
 use Rattle.annex.specs.Digits.{codeOf, joined, packed}
@@ -50,7 +50,7 @@ Once r = (u : ℕ) → timesIn u (partNamesOf r) ≤ 1
 -- only a C5 has transfer parameters
 pub plain-items : (p : Part) → HeldPart p → eqb (p .header) transfer-data ≡ false → p .items ≡ []
 plain-items p h e =
-    let own : record { header = p .header; value = p .value; items = [] } ≡ p = rw e at (h .own) in
+    let own : valuePart (p .header) (p .value) ≡ p = rw e at (h .own) in
     sym (ap (λ (q : Part). q .items) own)
 
 -- this one is no C5

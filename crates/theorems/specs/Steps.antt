@@ -12,7 +12,7 @@ use Rattle.annex.specs.Answers.{missing, left-over, andThen, shifted}
 use Rattle.annex.specs.Units.{nameOf, afterOf, extentOf, commonExtentOf, contentsIn}
 use Rattle.annex.specs.Heads.{among, commonHeaders, end-mark, transfer-data, nameUsed, pliRight, oftenOf}
 use Rattle.annex.specs.Contents.{faultOf}
-use Rattle.annex.specs.Reading.{transferOf, transfersVerdict, octetAllowed, commonForm, endOf, dataOf, commonOf}
+use Rattle.annex.specs.Reading.{transferOf, transfersVerdict, octetAllowed, commonForm, endOf, dataOf, commonOf, transferBy, dataBy, commonBy}
 use Rattle.annex.specs.declared.Answer.{Answer}
 use Rattle.annex.specs.declared.Answer.the-variants.{Accepted, Refused}
 use Rattle.annex.specs.declared.Fault.the-variants.{Sound}
@@ -33,7 +33,7 @@ pub record TransferOwn (times h : ℕ) (own : List ℕ) : Type 0 where
 
 pub transfer-own : (times h : ℕ) (own rest : List ℕ) → transferOf times h (own ++ rest) ≡ Accepted (length own) → TransferOwn times h own
 transfer-own times h own rest e =
-    let t = transfer-taken times h (own ++ rest) (length own) e in
+    let t = transfer-taken faultOf times h (own ++ rest) (length own) e in
     record {
       used = t .used;
       pli = t .pli;
@@ -43,7 +43,7 @@ transfer-own times h own rest e =
     }
 
 pub transfer-accepts : (times h : ℕ) (own rest : List ℕ) → TransferOwn times h own → transferOf times h (own ++ rest) ≡ Accepted (length own)
-unfolding transferOf
+unfolding transferBy
 transfer-accepts times h own rest t =
     rw (t .used, t .pli, lt-leb (oftenOf (nameOf h)) times (t .fewer), long-before (extentOf h) own rest (t .long), le-ltb (length (own ++ rest)) (length own) (simp length-append (omega arith)), take-append-seam, t .sound)
 
@@ -86,7 +86,7 @@ common-accepted times whole h n xs e = go (commonForm times h xs) refl
   where
     many : (k : ℕ) (d : Bool) → eqb h transfer-data ≡ d → FormTaken times h xs k → cond d (dataOf k xs) (Accepted k) ≡ Accepted n → Commoned times h n xs
     many k true p f a =
-        let d = data-taken k xs n a in
+        let d = data-taken faultOf k xs n a in
         rw (d .2) (record { formed = f; inner = λ _. (d .0, d .1) })
     many k false p f a =
         let same : k ≡ n = cc in
@@ -97,8 +97,8 @@ common-accepted times whole h n xs e = go (commonForm times h xs) refl
     by k false f a = many k (eqb h transfer-data) refl f a
 
     go : (a : Answer) → commonForm times h xs ≡ a → Outcome (eqb h end-mark) times whole h n xs
-    go (Accepted k) f = by k (eqb h end-mark) (form-taken times h xs k f) (sym (common-formed times whole h xs k f) ∙ e)
-    go (Refused k q) f = absurd (let g = common-refused times whole h xs k q f in let z : _≡_ {A = ℕ} 0 1 = cc in omega arith)
+    go (Accepted k) f = by k (eqb h end-mark) (form-taken times h xs k f) (sym (common-formed faultOf times whole h xs k f) ∙ e)
+    go (Refused k q) f = absurd (let g = common-refused faultOf times whole h xs k q f in let z : _≡_ {A = ℕ} 0 1 = cc in omega arith)
 
 -- one that a record may hold, of its own octets
 pub record CommonOwn (times h : ℕ) (own : List ℕ) : Type 0 where
@@ -138,7 +138,7 @@ data-accepts : (a : Answer) (k j : ℕ) → a ≡ Accepted j → andThen (shifte
 data-accepts a k j e = rw e
 
 pub common-accepts : (times : ℕ) (whole : Bool) (h : ℕ) (own rest : List ℕ) → CommonOwn times h own → commonOf times whole h (own ++ rest) ≡ Accepted (length own)
-unfolding commonOf dataOf
+unfolding commonBy dataBy
 common-accepts times whole h own rest c =
     rw (form-accepts times h (length own) (own ++ rest) formed, not-end h (c .listed)) (go (eqb h transfer-data) refl)
   where
@@ -157,5 +157,5 @@ common-accepts times whole h own rest c =
     go false e = refl
 
 pub end-accepts : commonOf 0 true end-mark [] ≡ Accepted 0
-unfolding commonOf commonForm octetAllowed afterOf commonExtentOf endOf
+unfolding commonBy commonForm octetAllowed afterOf commonExtentOf endOf
 end-accepts = refl

@@ -13,9 +13,10 @@ use Rattle.annex.specs.Items.{Item, contentsOf}
 use Rattle.annex.specs.Layout.{ledBy, layoutItem, layoutItems}
 use Rattle.annex.specs.Allowed.{every, Each, timesIn, isOctet, lengthRight, faultIn, HeldItem, namesOf}
 use Rattle.annex.specs.Walk.{Seen, unseen, timesSeen, counted, Par, walk, judging, listing}
-use Rattle.annex.specs.Reading.{transferStep, transfersVerdict, transfersOf, openTransfer}
+use Rattle.annex.specs.Reading.{transferStep, transfersVerdict, transfersOf, openTransfer, transfersVerdictBy, transfersBy}
 use Rattle.annex.specs.declared.Answer.the-variants.{Accepted}
 use Rattle.annex.specs.declared.Fault.the-variants.{Sound}
+use Rattle.annex.specs.Contents.{faultOf}
 use Rattle.laws.specs.Bools.{and-left, and-right, and-both}
 use Rattle.laws.specs.Steps.{transfer-taken}
 use Rattle.laws.specs.Leaves.{opened, closed}
@@ -57,10 +58,10 @@ items-named [] e = refl
 items-named (q ∷ qs) e = rw (e .0 .header, items-named qs (e .1))
 
 abbrev fewer : (seen : Seen) (h : ℕ) (xs : List ℕ) (n : ℕ) → transferStep seen h xs ≡ Accepted n → timesSeen seen h < oftenOf (nameOf h)
-fewer seen h xs n e = transfer-taken (timesSeen seen h) h xs n e .often
+fewer seen h xs n e = transfer-taken faultOf (timesSeen seen h) h xs n e .often
 
 within : (seen : Seen) (h : ℕ) (xs : List ℕ) (n : ℕ) → transferStep seen h xs ≡ Accepted n → n ≤ length xs
-within seen h xs n e = transfer-taken (timesSeen seen h) h xs n e .within
+within seen h xs n e = transfer-taken faultOf (timesSeen seen h) h xs n e .within
 
 pub none-often : Sparing oftenOf unseen []
 none-often u = omega (arith, none-seen u)
@@ -101,7 +102,7 @@ each-read (q ∷ qs) seen p t o =
     (item-read q (timesSeen seen h) small (every-left isOctet (q .own) _ after) (transfer-own _ h (q .own) _ (t .1)), each-read qs (counted seen h) _ (t .2) (every-right isOctet (q .own) _ after))
 
 pub transfers-read : (t : List ℕ) (j : ℕ) → every isOctet t ≡ true → length t ≤ most-transfer-octets → transfersVerdict t ≡ Accepted j → TransfersRead t j
-unfolding transfersVerdict transfersOf
+unfolding transfersVerdictBy transfersBy
 transfers-read t j o l e =
     let qs = walk (listing transferStep) unseen 0 0 t in
     let w = walked transferStep (λ seen p. Accepted p) within t unseen 0 0 j (omega arith) e in
@@ -181,7 +182,7 @@ item-built i a =
     }
 
 pub transfers-built : (is : List Item) → AllowedItems is → TransfersBuilt is
-unfolding transfersVerdict transfersOf
+unfolding transfersVerdictBy transfersBy
 transfers-built is a =
     let b = each-so AllowedItem ItemBuilt item-built is (a .each) in
     let qs = itemPars 0 is in

@@ -10,7 +10,7 @@ use lib.ListN.{length, take}
 use lib.Seq.{length-take-le}
 use Rattle.annex.specs.Units.{nameOf}
 use Rattle.annex.specs.Heads.{among, oftenOf}
-use Rattle.annex.specs.Items.{Item, Part}
+use Rattle.annex.specs.Items.{Item, Part, dataPart}
 use Rattle.annex.specs.Layout.{layout}
 use Rattle.annex.specs.Allowed.{every, Each, timesIn, isOctet, itemsIn, namesOf, Allowed}
 use Rattle.annex.specs.Reading.{recordOf}
@@ -18,7 +18,6 @@ use Rattle.annex.specs.Editing.{Edit, newHeader, newItem, present, editedItems,
 use Rattle.annex.specs.Editing.Edit.{Appending, Removing}
 use Rattle.annex.specs.declared.Answer.the-variants.{Accepted}
 use Rattle.theorems.specs.Lists.{among-append}
-use Rattle.theorems.specs.Commons.{dataPart}
 use Rattle.theorems.specs.Records.{names-append}
 use Rattle.theorems.specs.Named.{Other, none-others}
 use Rattle.theorems.specs.Parted.{Parted, one-data}

@@ -9,9 +9,9 @@ use lib.Dec.{eqb}
 use lib.ListN.{length, take, drop, replicate, length-append, length-map}
 use lib.Seq.{take-append-seam, drop-append-seam, take-at, drop-at}
 use Rattle.annex.specs.Heads.{transfer-data, most-commons, most-transfers}
-use Rattle.annex.specs.Items.{Item, Part}
+use Rattle.annex.specs.Items.{Item, Part, part, valuePart}
 use Rattle.annex.specs.Allowed.{every, Each, isOctet, HeldItem, HeldPart, Held, ownPart, itemsIn}
-use Rattle.annex.specs.Records.{noCommon, noTransfer, pad, headOf, commonHeadOf, valuesOf, pack, rawItem, viewItems, lengthsOf, transferCount, transfersSum, viewParts, commonsIn, isWhole, view}
+use Rattle.annex.specs.Records.{noCommon, noTransfer, pad, headOf, commonHeadOf, valuesOf, pack, rawItem, viewItems, lengthsOf, transferCount, transfersSum, viewParts, commonsIn, isWhole, view, rawPart}
 use Rattle.annex.specs.declared.Common.{Common}
 use Rattle.annex.specs.declared.Transfer.{Transfer}
 use Rattle.annex.specs.declared.Record.{Record}
@@ -109,7 +109,7 @@ held-items (t ∷ ts) vs s o = (
 own-part : (p : Part) → p .header < 256 → Each HeldItem (p .items) → HeldPart (ownPart p)
 own-part p s h = go (eqb (p .header) transfer-data) refl
   where
-    go : (b : Bool) → eqb (p .header) transfer-data ≡ b → HeldPart (cond b (record { header = p .header; value = 0; items = p .items }) (record { header = p .header; value = p .value; items = [] }))
+    go : (b : Bool) → eqb (p .header) transfer-data ≡ b → HeldPart (cond b (part (p .header) 0 (p .items)) (valuePart (p .header) (p .value)))
     go true e = record { octet = s; own = rw e; each = h }
     go false e = record { octet = s; own = rw e; each = tt }
 
@@ -119,7 +119,7 @@ held-parts [] ts vs s t o = tt
 held-parts (c ∷ cs) ts vs s t o =
     let n = transferCount c in
     let l = lengthsOf (take n ts) in (
-      own-part (record { header = c .header; value = c .value; items = viewItems (take n ts) vs }) (s .0) (held-items (take n ts) vs (each-take OctetTransfer n ts t) o),
+      own-part (rawPart c (viewItems (take n ts) vs)) (s .0) (held-items (take n ts) vs (each-take OctetTransfer n ts t) o),
       held-parts cs (drop n ts) (drop l vs) (s .1) (each-drop OctetTransfer n ts t) (every-drop isOctet l vs o),
     )
 

@@ -15,7 +15,7 @@ use Rattle.annex.specs.Units.{nameOf}
 use Rattle.annex.specs.Heads.{among, commonHeaders, user-class, signal-kind, transfer-data, most-commons, most-transfers, most-transfer-octets, most-octets, nameUsed, pliRight, oftenOf}
 use Rattle.annex.specs.Items.{Item, Part}
 use Rattle.annex.specs.Layout.{layoutItem, layoutItems, layoutPart, layout}
-use Rattle.annex.specs.Allowed.{every, Each, isOctet, lengthRight, faultIn, valueRight, valueFits, HeldItem, HeldPart, Held, itemsIn, contentsSum, namesOf, partNamesOf, Allowed}
+use Rattle.annex.specs.Allowed.{every, Each, isOctet, lengthRight, faultIn, valueRight, valueFits, HeldItem, HeldPart, Held, itemsIn, contentsSum, namesOf, partNamesOf, Allowed, Writable}
 use Rattle.annex.specs.Walk.{Seen, unseen, timesSeen, counted}
 use Rattle.annex.specs.Reading.{wholeIn, verdictOf, recordOf}
 use Rattle.annex.specs.Writing.{itemWriting, itemsWriting, dataWriting, partWriting, partsWriting, overLimits, recordWriting, structWriting, writingOf, writtenOf}
@@ -211,16 +211,23 @@ parts-write (q ∷ r) seen p f s a =
     rw (part-writes (timesSeen seen k) p q (a .0) new)
     (parts-write r (counted seen k) (p + length (layoutPart q)) (full-counted seen k f) (standing-rest seen k (partNamesOf r) f s) (a .1) ∙ ap Accepted e)
 
--- ---- records: accepted exactly if allowed
+-- ---- records: accepted exactly if they may be written
+
+-- what may be written may be read, and what may be read may be written
+pub writable-allowed : (r : List Part) → Writable r → Allowed r
+writable-allowed r w = w
+
+pub allowed-writable : (r : List Part) → Allowed r → Writable r
+allowed-writable r a = a
 
 within-limits : (r : List Part) → Allowed r → overLimits r ≡ false
 unfolding overLimits
 within-limits r a =
     rw (le-ltb most-commons (length r) (a .few-commons), le-ltb most-transfers (length (itemsIn r)) (a .few-transfers), le-ltb most-transfer-octets (contentsSum (itemsIn r)) (a .few-contents))
 
-pub writing-allowed : (r : List Part) → Held r → (n : ℕ) → recordWriting r ≡ Accepted n → Allowed r × (n ≡ length (layout r))
+pub writing-writable : (r : List Part) → Held r → (n : ℕ) → recordWriting r ≡ Accepted n → Writable r × (n ≡ length (layout r))
 unfolding recordWriting
-writing-allowed r h n e =
+writing-writable r h n e =
     let w = parts-written r unseen 0 n full-unseen (λ u. omega (arith, none-seen u)) h (passed (overLimits r) over-limits 0 n (partsWriting unseen 0 r) e .1) in (
       allowed r (w .each) (λ u. omega (arith, w .once u))
           (header-stands user-class refl r (w .each) (omega (arith, w .class, none-seen (nameOf user-class))))
@@ -228,21 +235,22 @@ writing-allowed r h n e =
       omega (arith, w .behind),
     )
 
-pub allowed-writing : (r : List Part) → Allowed r → recordWriting r ≡ Accepted (length (layout r))
+pub writable-writing : (r : List Part) → Writable r → recordWriting r ≡ Accepted (length (layout r))
 unfolding recordWriting
-allowed-writing r a =
+writable-writing r w =
+    let a = writable-allowed r w in
     let e : 0 + length (layout r) ≡ length (layout r) = omega arith in
     rw (within-limits r a, parts-write r unseen 0 full-unseen (standing r a) (allowed-parts r a)) (ap Accepted e)
 
-pub written-exactly : (r : List Part) → Held r → (recordWriting r ≡ Accepted (length (layout r))) ↔ Allowed r
-written-exactly r h = (λ e. writing-allowed r h (length (layout r)) e .0, allowed-writing r)
+pub written-exactly : (r : List Part) → Held r → (recordWriting r ≡ Accepted (length (layout r))) ↔ Writable r
+written-exactly r h = (λ e. writing-writable r h (length (layout r)) e .0, writable-writing r)
 
 -- ---- structs
 
 -- what an accepted one says
 pub record StructWritten (s : Record) (n : ℕ) : Type 0 where
   pub whole : isWhole s ≡ true
-  pub allowed : Allowed (view s)
+  pub writable : Writable (view s)
   pub length-given : n ≡ length (layout (view s))
   pub few : n ≤ most-octets
   pub octets : every isOctet (layout (view s)) ≡ true
@@ -251,14 +259,14 @@ pub struct-written : (s : Record) → FitsStruct s → (n : ℕ) → structWriti
 unfolding structWriting
 struct-written s f n e =
     let t = passed (not (isWhole s)) over-limits 0 n (recordWriting (view s)) e in
-    let w = writing-allowed (view s) (view-held s f) n (t .1) in
-    let l = laid-then-read (view s) (w .0) in
-    record { whole = not-false _ (t .0); allowed = w .0; length-given = w .1; few = omega (arith, w .1, l .3); octets = l .2 }
+    let w = writing-writable (view s) (view-held s f) n (t .1) in
+    let l = laid-then-read (view s) (writable-allowed (view s) (w .0)) in
+    record { whole = not-false _ (t .0); writable = w .0; length-given = w .1; few = omega (arith, w .1, l .3); octets = l .2 }
 
 -- and that is enough
-pub struct-writes : (s : Record) → isWhole s ≡ true → Allowed (view s) → structWriting s ≡ Accepted (length (layout (view s)))
+pub struct-writes : (s : Record) → isWhole s ≡ true → Writable (view s) → structWriting s ≡ Accepted (length (layout (view s)))
 unfolding structWriting
-struct-writes s w a = rw w (allowed-writing (view s) a)
+struct-writes s w a = rw w (writable-writing (view s) a)
 
 -- with room for the message, the answer is the same, and the message stands at the front
 module _ (s : Record) (n : ℕ) (e : structWriting s ≡ Accepted n) where
@@ -270,15 +278,17 @@ module _ (s : Record) (n : ℕ) (e : structWriting s ≡ Accepted n) where
   unfolding writtenOf
   room-after room l = rw (with-room (length room) l)
 
--- an allowed record, packed
-pub packed-writes : (r : List Part) → Allowed r → structWriting (pack r) ≡ Accepted (length (layout r))
-packed-writes r a =
+-- a record that may be written, packed
+pub packed-writes : (r : List Part) → Writable r → structWriting (pack r) ≡ Accepted (length (layout r))
+packed-writes r w =
+    let a = writable-allowed r w in
     let v = view-pack r (a .held) in
-    rw v at (struct-writes (pack r) (whole-pack r (a .held) (allowed-within r a)) (rw v a))
+    rw v at (struct-writes (pack r) (whole-pack r (a .held) (allowed-within r a)) (rw v w))
 
--- every allowed record fits 272 octets of room
-pub room-enough : (r : List Part) → Allowed r → writingOf (pack r) most-octets ≡ Accepted (length (layout r))
-room-enough r a = with-room (pack r) (length (layout r)) (packed-writes r a) most-octets (laid-then-read r a .3)
+-- 272 octets of room suffice for every record that may be written
+pub room-enough : (r : List Part) → Writable r → writingOf (pack r) most-octets ≡ Accepted (length (layout r))
+room-enough r w =
+    with-room (pack r) (length (layout r)) (packed-writes r w) most-octets (laid-then-read r (writable-allowed r w) .3)
 
 -- ---- the round trip
 
@@ -295,7 +305,7 @@ read-then-written m o n e =
     let r = recordOf m in
     let w = read-then-laid m o n e in
     let laid : layout (view (pack r)) ≡ m = ap layout (view-pack r (w .1 .held)) ∙ w .2 in
-    let accepted : structWriting (pack r) ≡ Accepted (length m) = rw (w .2) at (packed-writes r (w .1)) in
+    let accepted : structWriting (pack r) ≡ Accepted (length m) = rw (w .2) at (packed-writes r (allowed-writable r (w .1))) in
     rw e
     (record {
       laid = laid;
@@ -309,5 +319,5 @@ pub written-then-read : (s : Record) → FitsStruct s → (n : ℕ) → structWr
 unfolding readingOf
 written-then-read s f n e =
     let w = struct-written s f n e in
-    let l = laid-then-read (view s) (w .allowed) in
+    let l = laid-then-read (view s) (writable-allowed (view s) (w .writable)) in
     rw (l .0, l .1, w .length-given)

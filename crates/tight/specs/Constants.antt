@@ -19,7 +19,7 @@ use Rattle.annex.specs.Items.Holding.{AsContents}
 use Rattle.annex.specs.Layout.{layoutItem}
 use Rattle.annex.specs.Allowed.{every, lengthRight, faultIn}
 use Rattle.annex.specs.Walk.{walk}
-use Rattle.annex.specs.Reading.{transferOf, octetAllowed, commonForm, endOf, commonsOf}
+use Rattle.annex.specs.Reading.{transferOf, octetAllowed, commonForm, endOf, transferBy, commonsBy}
 use Rattle.annex.specs.Records.{valueHead, dataHead, carriedHead, dialledHead, numberHead, pad, valuesOf, pack, viewItems, lengthsOf, transfersSum, viewParts, commonsIn, isWhole, view}
 use Rattle.annex.specs.Writing.{itemWriting, overLimits}
 use Rattle.annex.specs.Promises.{Gives}
@@ -104,5 +104,5 @@ rows =
     (flag (spliceFits (0x00 ∷ []) 1 0 0 []), flag (spliceFits (0x00 ∷ []) 2 0 0 [])) ∷ []  -- splice
 
 pub rows-differ : every (λ (r : ℕ × ℕ). not (eqb (r .0) (r .1))) rows ≡ true
-unfolding afterOf extentOf commonExtentOf leadOf nameUsed pliRight oftenOf zeroesOf formOf halves joined digitOf codeOf isCode halvesFault digitsFault digitsOf packed dialledFault faultOf holdingOf itemOf contentsOf ownOf layoutItem lengthRight faultIn walk transferOf octetAllowed commonForm endOf commonsOf pad valuesOf pack lengthsOf transfersSum isWhole viewItems viewParts view overLimits itemWriting pars firstIn
+unfolding afterOf extentOf commonExtentOf leadOf nameUsed pliRight oftenOf zeroesOf formOf halves joined digitOf codeOf isCode halvesFault digitsFault digitsOf packed dialledFault faultOf holdingOf itemOf contentsOf ownOf layoutItem lengthRight faultIn walk transferBy octetAllowed commonForm endOf commonsBy pad valuesOf pack lengthsOf transfersSum isWhole viewItems viewParts view overLimits itemWriting pars firstIn
 rows-differ = refl

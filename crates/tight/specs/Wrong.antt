@@ -15,21 +15,7 @@ use Rattle.annex.specs.Items.{holdingOf, itemOf, contentsOf, ownOf}
 use Rattle.annex.specs.Layout.{layoutItem, layoutItems, layoutPart, layout}
 use Rattle.annex.specs.Allowed.{lengthRight, faultIn, valueRight, valueFits}
 use Rattle.annex.specs.Walk.{walk}
-use Rattle.annex.specs.Reading.{
-  transferOf,
-  transfersVerdict,
-  octetAllowed,
-  commonForm,
-  endOf,
-  dataOf,
-  commonOf,
-  messageVerdict,
-  verdictOf,
-  commonsOf,
-  transfersOf,
-  openCommon,
-  recordOf,
-}
+use Rattle.annex.specs.Reading.{octetAllowed, commonForm, endOf, verdictOf, transferBy, transfersVerdictBy, dataBy, commonBy, messageVerdictBy, verdictBy, commonsBy, transfersBy, openCommonBy, recordBy}
 use Rattle.annex.specs.Records.{pad, valuesOf, pack, viewItems, lengthsOf, transfersSum, viewParts, isWhole, view, readingOf}
 use Rattle.annex.specs.Writing.{
   itemWriting,
@@ -109,7 +95,7 @@ pub record Said : Type 0 where
   pub removed-rest : getD (bufferOf (Removing 0x18) M 23) 19 0 ≡ 0x00
 
 pub said : Said
-unfolding afterOf leadOf commonExtentOf extentOf nameUsed pliRight oftenOf zeroesOf formOf halves joined digitOf codeOf isCode halvesFault digitsFault digitsOf packed numberFault callingFault genericFault dialledFault twoFault faultOf holdingOf itemOf contentsOf ownOf layoutItem layoutItems layoutPart layout lengthRight faultIn valueRight valueFits walk transferOf transfersVerdict octetAllowed commonForm endOf dataOf commonOf messageVerdict verdictOf commonsOf transfersOf openCommon recordOf pad valuesOf pack viewItems lengthsOf transfersSum viewParts isWhole view readingOf itemWriting itemsWriting dataWriting partWriting partsWriting overLimits recordWriting structWriting writingOf writtenOf commonIn commonFound transferIn transferAmong transferFound transferRows commonRows rowsOf rowAt spansOf editRefusal replaced removed editedItems edited recordEditing editingOf bufferOf
+unfolding afterOf leadOf commonExtentOf extentOf nameUsed pliRight oftenOf zeroesOf formOf halves joined digitOf codeOf isCode halvesFault digitsFault digitsOf packed numberFault callingFault genericFault dialledFault twoFault faultOf holdingOf itemOf contentsOf ownOf layoutItem layoutItems layoutPart layout lengthRight faultIn valueRight valueFits walk transferBy transfersVerdictBy octetAllowed commonForm endOf dataBy commonBy messageVerdictBy verdictBy commonsBy transfersBy openCommonBy recordBy pad valuesOf pack viewItems lengthsOf transfersSum viewParts isWhole view readingOf itemWriting itemsWriting dataWriting partWriting partsWriting overLimits recordWriting structWriting writingOf writtenOf commonIn commonFound transferIn transferAmong transferFound transferRows commonRows rowsOf rowAt spansOf editRefusal replaced removed editedItems edited recordEditing editingOf bufferOf
 said =
     record {
       verdict-cut = refl;

@@ -12,7 +12,7 @@ use Rattle.annex.specs.Items.{ownOf}
 use Rattle.annex.specs.Layout.{layoutItem, layoutItems, layoutPart, layout}
 use Rattle.annex.specs.Allowed.{valueRight, valueFits}
 use Rattle.annex.specs.Walk.{walk}
-use Rattle.annex.specs.Reading.{octetAllowed, commonForm, endOf, dataOf, commonOf, messageVerdict, verdictOf, commonsOf, openCommon, recordOf}
+use Rattle.annex.specs.Reading.{octetAllowed, commonForm, endOf, dataBy, commonBy, messageVerdictBy, verdictBy, commonsBy, openCommonBy, recordBy}
 use Rattle.annex.specs.Records.{pad, valuesOf, pack, viewItems, lengthsOf, transfersSum, viewParts, isWhole, view}
 use Rattle.annex.specs.Writing.{partWriting, partsWriting, overLimits, recordWriting, structWriting, writingOf}
 use Rattle.annex.specs.Image.{imageItem, imageItems, imagePart, imageParts, imageOf, imagingOf, imagedIn, itemsFront, partsFront, isWithin, imagedOf}
@@ -70,7 +70,7 @@ record SaidPacked : Type 0 where
   no-list : classOf 0x01 1 ≡ classes.Refused 17 0
 
 said-packed : SaidPacked
-unfolding afterOf leadOf commonExtentOf zeroesOf ownOf layoutItem layoutItems layoutPart layout valueRight valueFits walk octetAllowed commonForm endOf dataOf commonOf messageVerdict verdictOf commonsOf openCommon recordOf pad valuesOf pack viewItems lengthsOf transfersSum viewParts isWhole view partWriting partsWriting overLimits recordWriting structWriting writingOf imageItem imageItems imagePart imageParts imageOf imagingOf imagedIn itemsFront partsFront isWithin imagedOf commonRows rowsOf spansOf classOf imageReading imageRead imageWriting imageWritten rowsOctets octetTable
+unfolding afterOf leadOf commonExtentOf zeroesOf ownOf layoutItem layoutItems layoutPart layout valueRight valueFits walk octetAllowed commonForm endOf dataBy commonBy messageVerdictBy verdictBy commonsBy openCommonBy recordBy pad valuesOf pack viewItems lengthsOf transfersSum viewParts isWhole view partWriting partsWriting overLimits recordWriting structWriting writingOf imageItem imageItems imagePart imageParts imageOf imagingOf imagedIn itemsFront partsFront isWithin imagedOf commonRows rowsOf spansOf classOf imageReading imageRead imageWriting imageWritten rowsOctets octetTable
 said-packed =
     record {
       imaging-K = refl;

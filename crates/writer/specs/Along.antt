@@ -11,7 +11,7 @@ use lib.Seq.{take-all, take-suc, drop-cons, drop-drop, take-add, getD-take, leng
 use Rattle.annex.specs.Heads.{transfer-data, most-commons, most-transfers}
 use Rattle.annex.specs.Items.{Item, Part}
 use Rattle.annex.specs.Allowed.{ownPart, itemsIn}
-use Rattle.annex.specs.Records.{noCommon, noTransfer, viewItems, lengthsOf, transferCount, transfersSum, viewParts, commonsIn, view}
+use Rattle.annex.specs.Records.{noCommon, noTransfer, viewItems, lengthsOf, transferCount, transfersSum, viewParts, commonsIn, view, rawPart}
 use Rattle.annex.specs.declared.Common.{Common}
 use Rattle.annex.specs.declared.Transfer.{Transfer}
 use Rattle.annex.specs.declared.Record.{Record}
@@ -19,7 +19,7 @@ use Rattle.parameter.specs.Laying.{itemFrom}
 
 -- the common parameter with this head and these transfer parameters; what it does not have is no part of it
 abbrev pub partFrom : Common → List Item → Part
-partFrom c is = ownPart (record { header = c .header; value = c .value; items = is })
+partFrom c is = ownPart (rawPart c is)
 
 -- the heads at a place
 abbrev pub commonAt : Record → ℕ → Common

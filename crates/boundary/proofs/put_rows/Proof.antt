@@ -12,6 +12,7 @@ use Rattle.annex.specs.Units.{commonExtentOf}
 use Rattle.annex.specs.Allowed.{Each}
 use Rattle.annex.specs.Packed.{rowsOctets}
 use Rattle.annex.specs.Spans.{innerRows, commonRows, rowsOf}
+use Rattle.annex.specs.Contents.{faultOf}
 use Rattle.laws.specs.Extents.{lead-within}
 use Rattle.laws.specs.Plain.{commonSize, pars, pars-end, commons-plain, InnerSound, commons-inner}
 use Rattle.laws.specs.Rows.{parAt, rowFor, Filled, Turned, filled-turn, common-turn, commons-filled}
@@ -33,7 +34,7 @@ loop-holds c =
     let st = c .before .before in
     let m = now (st .args .m) in
     let a = st .pre .0 in
-    let e = commons-plain m (a .0) (a .1) in
+    let e = commons-plain faultOf m (a .0) (a .1) in
     (omega arith, commons-filled m (a .0) (a .1), rw e at (commons-inner m), rw e (left-all _ _ _))
 
 -- the octets of its own are as many as the length rule says

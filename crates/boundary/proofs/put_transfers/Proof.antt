@@ -9,6 +9,7 @@ use lib.ListN.{length, getD, drop, length-drop}
 use Rattle.annex.specs.Units.{extentOf}
 use Rattle.annex.specs.Reading.{transfersOf}
 use Rattle.annex.specs.Spans.{transferRows}
+use Rattle.annex.specs.Contents.{faultOf}
 use Rattle.laws.specs.Extents.{lead-within}
 use Rattle.laws.specs.Plain.{transferSize, pars, pars-end, transfers-plain}
 use Rattle.laws.specs.Rows.{Filled, Turned, rowFor, filled-turn, transfer-turn, transfers-filled}
@@ -27,7 +28,7 @@ abbrev μ-loop : tie.MeasureT-loop
 loop-holds : tie.Need-loop-holds Inv-loop μ-loop
 loop-holds c =
     let a = c .before .before .pre .0 in
-    (omega arith, transfers-filled _ (a .0) (a .1), rw (transfers-plain _ (a .0) (a .1)) (left-all _ _ _))
+    (omega arith, transfers-filled _ (a .0) (a .1), rw (transfers-plain faultOf _ (a .0) (a .1)) (left-all _ _ _))
 
 -- the octets of its own are as many as the length rule says
 told : (c : tie.After-octets-after Inv-loop μ-loop) →

@@ -8,7 +8,7 @@ use lib.ListN.{length, take, drop}
 use Rattle.annex.specs.Answers.{refuse, soundThen, headerAt, cut-contents}
 use Rattle.annex.specs.Units.{extentOf, contentsIn}
 use Rattle.annex.specs.Contents.{faultOf}
-use Rattle.annex.specs.Reading.{transferOf}
+use Rattle.annex.specs.Reading.{transferOf, transferBy}
 use Rattle.annex.specs.declared.Answer.the-variants.{Accepted}
 use Rattle.laws.specs.Extents.{lead-within}
 use Rattle.laws.specs.Parts.{from-to}
@@ -17,18 +17,18 @@ use Rattle.parameter.proofs.transfer.transfer.Statement.{statement}
 use Rattle.parameter.proofs.transfer.transfer.Tie as tie
 
 returns : tie.Need-returns
-unfolding transferOf
+unfolding transferBy
 returns c = rw (← c .before .before .head-of .ensures .used, c .if1 .taken)
 
 returns-2 : tie.Need-returns-2
-unfolding transferOf
+unfolding transferBy
 returns-2 c =
     let u = c .before .before in
     let h = u .before .before in
     rw (← h .head-of .ensures .used, u .if1 .left, ← h .head-of .ensures .right, c .if2 .taken)
 
 returns-3 : tie.Need-returns-3
-unfolding transferOf
+unfolding transferBy
 returns-3 c =
     let o = c .before in
     let p = o .before in
@@ -42,7 +42,7 @@ past-10 : (c : tie.After-octets-after) →
     let n = c .octets-after .result in
     let xs = a .xs .now in
     transferOf (a .times) (a .header) xs ≡ refuse (ltb (length xs) n) cut-contents 0 (soundThen (headerAt 0) (faultOf (a .header) (contentsIn (extentOf (a .header)) (take n xs))) (Accepted n))
-unfolding transferOf
+unfolding transferBy
 past-10 c =
     let x = c .before .before in
     let o = x .before .before in

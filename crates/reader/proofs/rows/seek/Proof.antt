@@ -10,6 +10,7 @@ use lib.ListN.{length, getD, take, drop, length-drop}
 use lib.Seq.{length-take-le}
 use Rattle.annex.specs.Allowed.{Each}
 use Rattle.annex.specs.Spans.{innerRows, commonRows, rowsOf}
+use Rattle.annex.specs.Contents.{faultOf}
 use Rattle.laws.specs.Extents.{lead-within}
 use Rattle.laws.specs.Parts.{to-end}
 use Rattle.laws.specs.Plain.{commonSize, pars, pars-end, commons-plain, InnerSound, commons-inner}
@@ -31,7 +32,7 @@ unfolding rowsOf
 loop-holds c =
     let m = now (c .before .args .m) in
     let a = c .before .pre in
-    let e = commons-plain m (a .0) (a .1) in
+    let e = commons-plain faultOf m (a .0) (a .1) in
     (omega arith, commons-filled m (a .0) (a .1), rw e at (commons-inner m), rw e)
 
 -- the octets of its own are as many as the length rule says

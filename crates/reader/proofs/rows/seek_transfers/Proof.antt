@@ -7,6 +7,7 @@ use native.Mathlib.Omega.{arith}
 use lib.ListN.{length, getD, drop, length-drop}
 use Rattle.annex.specs.Reading.{transfersOf}
 use Rattle.annex.specs.Spans.{transferRows}
+use Rattle.annex.specs.Contents.{faultOf}
 use Rattle.laws.specs.Extents.{lead-within}
 use Rattle.laws.specs.Parts.{to-end}
 use Rattle.laws.specs.Plain.{transferSize, pars, pars-end, transfers-plain}
@@ -26,7 +27,7 @@ abbrev μ-loop : tie.MeasureT-loop
 loop-holds : tie.Need-loop-holds Inv-loop μ-loop
 loop-holds c =
     let a = c .before .pre .0 in
-    (omega arith, transfers-filled _ (a .0) (a .1), rw (transfers-plain _ (a .0) (a .1)))
+    (omega arith, transfers-filled _ (a .0) (a .1), rw (transfers-plain faultOf _ (a .0) (a .1)))
 
 -- the octets of its own are as many as the length rule says
 told : (c : tie.After-octets-after Inv-loop μ-loop) →

@@ -7,8 +7,9 @@ use borrow.Author.Tests.{lt-ltb, le-ltb}
 use native.Mathlib.Omega.{arith}
 use lib.ListN.{length, getD, drop, length-drop, length-take}
 use Rattle.annex.specs.Walk.{Walker, walk, judging}
-use Rattle.annex.specs.Reading.{messageVerdict, commonStep, commonClose}
+use Rattle.annex.specs.Reading.{messageVerdict, commonStep, commonClose, messageVerdictBy}
 use Rattle.annex.specs.declared.Answer.{Answer}
+use Rattle.annex.specs.Contents.{faultOf}
 use Rattle.laws.specs.Parts.{to-end}
 use Rattle.laws.specs.Walks.{walk-end, walk-refused, walk-accepted}
 use Rattle.laws.specs.Steps.{common-place, common-within, common-taken}
@@ -25,7 +26,7 @@ abbrev μ-loop : tie.MeasureT-loop
 μ-loop m seen₀ i₀ seen i = length m - i
 
 loop-holds : tie.Need-loop-holds Inv-loop μ-loop
-unfolding messageVerdict
+unfolding messageVerdictBy
 loop-holds c = search needs
 
 common-requires : tie.Need-common-requires Inv-loop μ-loop
@@ -42,7 +43,7 @@ shift-requires : tie.Need-shift-requires Inv-loop μ-loop
 shift-requires c κs =
     let t = c .before .before in
     let e = c .enum-told .given .1 in
-    rw e (omega (arith, rw length-drop at (common-place _ _ _ _ .at _ _ (step-is t ∙ e))))
+    rw e (omega (arith, rw length-drop at (common-place faultOf _ _ _ _ .at _ _ (step-is t ∙ e))))
 
 returns : tie.Need-returns Inv-loop μ-loop
 returns c =
@@ -55,13 +56,13 @@ returns c =
 add-seen : tie.Need-add-seen Inv-loop μ-loop
 add-seen c =
     let t = c .before .before .before in
-    omega (arith, common-taken _ _ _ _ _ (step-is t ∙ c .before .a .given .1) .1 .once)
+    omega (arith, common-taken faultOf _ _ _ _ _ (step-is t ∙ c .before .a .given .1) .1 .once)
 
 -- an accepted parameter ends within the message
 within : (c : tie.After-known-told Inv-loop μ-loop) →
     let l = c .before .before .before .before .before .before .before .before in
     c .before .a .given .0 .0 ≤ length (drop (l .loop .i + 1) (now (l .before .before .args .m)))
-within c = common-within _ _ _ _ _ (step-is (c .before .before .before) ∙ c .before .a .given .1)
+within c = common-within faultOf _ _ _ _ _ (step-is (c .before .before .before) ∙ c .before .a .given .1)
 
 add-i : tie.Need-add-i Inv-loop μ-loop
 add-i c = omega (arith, rw length-drop at (within c))

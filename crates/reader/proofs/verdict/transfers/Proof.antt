@@ -7,12 +7,13 @@ use native.Mathlib.Omega.{arith}
 use lib.ListN.{length, getD, drop, length-drop}
 use Rattle.annex.specs.Walk.{Walker, walk, judging}
 use Rattle.annex.specs.Heads.{oftenOf}
-use Rattle.annex.specs.Reading.{transfersVerdict, transferStep}
+use Rattle.annex.specs.Reading.{transfersVerdict, transferStep, transfersVerdictBy}
 use Rattle.annex.specs.declared.Answer.the-variants.{Accepted}
 use Rattle.laws.specs.Parts.{to-end}
 use Rattle.laws.specs.Walks.{walk-end, walk-refused, walk-accepted}
 use Rattle.laws.specs.Steps.{TransferTaken, transfer-taken, transfer-place}
 use Rattle.annex.specs.declared.Answer.{Answer}
+use Rattle.annex.specs.Contents.{faultOf}
 use Rattle.reader.proofs.verdict.transfers.Statement.{statement}
 use Rattle.reader.proofs.verdict.transfers.Tie as tie
 
@@ -26,7 +27,7 @@ abbrev μ-loop : tie.MeasureT-loop
 μ-loop t seen₀ i₀ seen i = length t - i
 
 loop-holds : tie.Need-loop-holds Inv-loop μ-loop
-unfolding transfersVerdict
+unfolding transfersVerdictBy
 loop-holds c = search needs
 
 -- the step that the walk asks for is what the call gave
@@ -40,7 +41,7 @@ shift-requires : tie.Need-shift-requires Inv-loop μ-loop
 shift-requires c κs =
     let t = c .before .before in
     let e = c .enum-told .given .1 in
-    rw e (omega (arith, simp length-drop at (transfer-place _ _ _ .at _ _ (step-is t ∙ e))))
+    rw e (omega (arith, simp length-drop at (transfer-place faultOf _ _ _ .at _ _ (step-is t ∙ e))))
 
 returns : tie.Need-returns Inv-loop μ-loop
 returns c =
@@ -54,8 +55,8 @@ returns c =
 taken : (c : tie.After-known-told Inv-loop μ-loop) →
     let l = c .before .before .before .before .before .before .before in
     let t = now (l .before .before .args .t) in
-    TransferTaken (getD (l .loop .seen) (getD t (l .loop .i) 0 % 64) 0) (getD t (l .loop .i) 0) (drop (l .loop .i + 1) t) (c .before .a .given .0 .0)
-taken c = transfer-taken _ _ _ _ (step-is (c .before .before .before) ∙ c .before .a .given .1)
+    TransferTaken faultOf (getD (l .loop .seen) (getD t (l .loop .i) 0 % 64) 0) (getD t (l .loop .i) 0) (drop (l .loop .i + 1) t) (c .before .a .given .0 .0)
+taken c = transfer-taken faultOf _ _ _ _ (step-is (c .before .before .before) ∙ c .before .a .given .1)
 
 add-seen : tie.Need-add-seen Inv-loop μ-loop
 unfolding oftenOf
