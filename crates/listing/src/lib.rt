@@ -9,7 +9,9 @@ use annex::Transfer;
 use libc::STDOUT_FILENO;
 use parameter::units::extent_of;
 use reader::rows::check;
-use reader::rows::row_at;
+use walk::cursor::first;
+use walk::cursor::next;
+use walk::cursor::row_here;
 ghost use Rattle.annex.specs.Promises.{SpansCheckPromise};
 
 fn print(text: &[u8]) {
@@ -100,9 +102,11 @@ fn print_refusal(number: u8, place: usize) {
 
 fn print_rows(m: &[u8], n: usize) {
     print(b"OFFSET HEAD LEN CONTENTS\n");
+    let mut c = first();
     let mut k = 0;
     while k < n {
-        print_row(m, row_at(m, k));
+        print_row(m, row_here(m, c));
+        c = next(m, c);
         k += 1;
     }
 }

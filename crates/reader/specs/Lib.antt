@@ -1,4 +1,3 @@
 -- What the contracts of this crate's own steps cite beside the definitions of `annex`.
 pub mod Filling
-pub mod Seeking
 pub mod Finding

@@ -9,11 +9,13 @@ use lib.ListN.{length, getD, set, take, drop, length-append, length-drop}
 use lib.Seq.{take-suc, take-all, length-take-le, drop-cons, set-at, append-snoc}
 use Rattle.annex.specs.Answers.{givenOf, roomAfter}
 use Rattle.annex.specs.Reading.{verdictOf}
-use Rattle.annex.specs.Spans.{rowsOf, noRow, rowAt, spansOf, tableOf}
+use Rattle.annex.specs.Spans.{rowsOf, noRow, spansOf, tableOf}
 use Rattle.annex.specs.declared.Answer.{Answer}
 use Rattle.annex.specs.declared.Answer.the-variants.{Accepted, Refused}
 use Rattle.annex.specs.declared.Row.{Row}
 use Rattle.laws.specs.Listed.{listed, Within, spansBy}
+use Rattle.walk.specs.Cursors.{rowHere, cursorAt}
+use Rattle.walk.specs.Ahead.{row-behind}
 
 -- the table with the first i rows of m stored
 unfoldable pub filled : List ℕ → List Row → ℕ → List Row
@@ -28,15 +30,16 @@ unfolding filled
 length-filled m table i w =
     omega (arith, w .roomy, length-append (take i (listed m)) (drop i table), length-take-le i (listed m) (w .there), length-drop i table)
 
--- a turn: row i is stored
-pub filled-more : (m : List ℕ) (table : List Row) (i : ℕ) → Within m (length table) (suc i) → set (filled m table i) i (rowAt m i) ≡ filled m table (suc i)
-unfolding filled rowAt
+-- a turn: the row behind i rows is stored
+pub filled-more : (m : List ℕ) (table : List Row) (i : ℕ) → Within m (length table) (suc i) → set (filled m table i) i (rowHere m (cursorAt m i)) ≡ filled m table (suc i)
+unfolding filled
 filled-more m table i w =
     let t : i < length (listed m) = omega (arith, w .there) in
     let r : i < length table = omega (arith, w .roomy) in
-    ap (λ (l : List Row). set (take i (listed m) ++ l) i (rowAt m i)) (drop-cons table i noRow r)
-    ∙ set-at (take i (listed m)) (getD table i noRow) (drop (suc i) table) (rowAt m i) i (length-take-le i (listed m) (omega arith))
-    ∙ sym (append-snoc (take i (listed m)) (rowAt m i) (drop (suc i) table))
+    ap (λ (x : Row). set (take i (listed m) ++ drop i table) i x) (row-behind m i t)
+    ∙ ap (λ (l : List Row). set (take i (listed m) ++ l) i (getD (listed m) i noRow)) (drop-cons table i noRow r)
+    ∙ set-at (take i (listed m)) (getD table i noRow) (drop (suc i) table) (getD (listed m) i noRow) i (length-take-le i (listed m) (omega arith))
+    ∙ sym (append-snoc (take i (listed m)) (getD (listed m) i noRow) (drop (suc i) table))
     ∙ ap (λ (l : List Row). l ++ drop (suc i) table) (sym (take-suc (listed m) i noRow t))
 
 -- with all rows stored that the listing gives, the table is what it has to be

@@ -1,9 +1,11 @@
-// The lent table of rows: one thin function over what the reader says of a message's rows.
+// The lent table of rows: one thin function over the count of a message's rows and the walk from one to the next.
 use annex::Answer;
 use annex::Row;
 use reader::rows::check;
 use reader::rows::given;
-use reader::rows::row_at;
+use walk::cursor::first;
+use walk::cursor::next;
+use walk::cursor::row_here;
 ghost use Rattle.annex.specs.Promises.{SpansPromise};
 
 // The rows of a message, into the caller's table. Rows past the last stay, and a refusal leaves all.
@@ -13,8 +15,10 @@ pub fn spans(m: &[u8], rows: &mut [Row]) -> Answer
     let a = check(m, rows.len());
     let n = given(a);
     let mut i = 0;
+    let mut c = first();
     while i < n {
-        rows[i] = row_at(m, i);
+        rows[i] = row_here(m, c);
+        c = next(m, c);
         i += 1;
     }
     a

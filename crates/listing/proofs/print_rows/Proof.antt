@@ -6,10 +6,10 @@ use Rattle.listing.proofs.print_rows.Statement.{statement}
 use Rattle.listing.proofs.print_rows.Tie as tie
 
 abbrev Inv-loop : tie.InvT-loop
-Inv-loop m n k₀ k = k ≤ n
+Inv-loop m n c₀ k₀ c k = k ≤ n
 
 abbrev μ-loop : tie.MeasureT-loop
-μ-loop m n k₀ k = n - k
+μ-loop m n c₀ k₀ c k = n - k
 
 pub print-rows-spec : {M : Type 1} → statement M
 print-rows-spec =
@@ -19,7 +19,9 @@ print-rows-spec =
     μ-loop
     (λ c. search needs)
     (λ c κs. search needs)
+    (λ c κs. search needs)
     (λ c. omega arith)
+    (λ c κs. search needs)
     (λ c κs. search needs)
     (λ c κs. search needs)
     (λ c. search needs)

@@ -1,5 +1,6 @@
 -- `spans` meets its contract: after i turns the table has the first i rows of m in front and is otherwise as it was lent, so once all are stored that
--- `check` allows it is the promised one. A walk of the MIR by hand, which knows of `check`, `given` and `row_at` their contracts alone.
+-- `check` allows it is the promised one; the cursor then stands behind i rows. A walk of the MIR by hand, which knows of the five functions that
+-- are called their contracts alone.
 use mathlib.Core.Path.{_≡_, refl, sym, _∙_, ap, subst}
 use Prim.Native.Nat.{ℕ, zero, suc, _+_, _*_, _<_, _^_}
 use native.Mathlib.Numerals.{add-one}
@@ -22,7 +23,7 @@ use prog.Wp.{Heap, Out, Env, afterSeq, afterBlock, afterTurn, Calls, Loops, Wp, 
 use ghost.Atoms.{Atoms, sem}
 use contract.Monad.{Fun, fact}
 use contract.Running.{givenOf as given-of, tables, tablesOf}
-use types.Kit.{Given, Item, ‵, raw, _⊛_, ⋆, some, later, anyQ, atRet, _$_, _∵_, !, qed, by, move, keep, drop, use1, use2, split, split3, join, pick, rewrite, fsplit, fjoin, suffices, frame, await, done}
+use types.Kit.{Given, Item, ‵, raw, _⊛_, ⋆, some, later, anyQ, atRet, _$_, _∵_, !, qed, by, move, keep, drop, use0, use1, use2, split, split3, join, pick, rewrite, fsplit, fjoin, suffices, frame, await, done}
 use types.Part.{whole, sub, look-in}
 use types.Run.{look, init, store, store-raw, forget, stop, hop, fld, from, load, lit, of-opd, bin, and-then, no-more, assigns, assigns-last, land, stays, leaves-loop, returns, enter, alloc1, alloc0, params1, pass1, pass0, free1, free0, exec}
 use sound.Loop.{loop-rule}
@@ -50,13 +51,17 @@ use denote.Triple.Table.{entered, cited}
 use denote.Triple.Walked.{says, Stays, stay-none-slice, stay-slice, walkOf, goes-none-slice, goes-slice, Walks, ends-at, walked, walk-meets}
 use denote.Exit.{yes}
 use Rattle.annex.specs.Answers.{givenOf}
-use Rattle.annex.specs.Spans.{noRow, rowAt, spansOf}
+use Rattle.annex.specs.Spans.{noRow, spansOf}
 use Rattle.annex.specs.declared.Row.{Row}
 use Rattle.annex.specs.declared.Answer.{Answer}
 use Rattle.laws.specs.Listed.{Within, given-within}
+use Rattle.walk.specs.Cursors.{firstCursor, rowHere, nextOf, cursorAt, cursor-none, cursor-more}
+use Rattle.walk.specs.declared.cursor.Cursor.{Cursor}
 use Rattle.rows.specs.Rows.{filled, filled-none, length-filled, filled-more, filled-all}
 use Rattle.annex.proofs.Row as R
 use Rattle.annex.proofs.Row.Laws as R′
+use Rattle.walk.proofs.cursor.Cursor as K
+use Rattle.walk.proofs.cursor.Cursor.Laws as K′
 use Rattle.annex.proofs.Answer as S
 use Rattle.annex.proofs.Answer.Laws as S′
 use Rattle.reader.proofs.rows.check as check
@@ -67,10 +72,18 @@ use Rattle.reader.proofs.rows.given as given
 use Rattle.reader.proofs.rows.given.Symbol as given-def
 use Rattle.reader.proofs.rows.given.Symbol.{name as #given}
 use Rattle.reader.proofs.rows.given.Met as given-thm
-use Rattle.reader.proofs.rows.row_at as row-at
-use Rattle.reader.proofs.rows.row_at.Symbol as row-at-def
-use Rattle.reader.proofs.rows.row_at.Symbol.{name as #row-at}
-use Rattle.reader.proofs.rows.row_at.Met as row-at-thm
+use Rattle.walk.proofs.cursor.first as first
+use Rattle.walk.proofs.cursor.first.Symbol as first-def
+use Rattle.walk.proofs.cursor.first.Symbol.{name as #first}
+use Rattle.walk.proofs.cursor.first.Met as first-thm
+use Rattle.walk.proofs.cursor.row_here as row-here
+use Rattle.walk.proofs.cursor.row_here.Symbol as row-here-def
+use Rattle.walk.proofs.cursor.row_here.Symbol.{name as #row-here}
+use Rattle.walk.proofs.cursor.row_here.Met as row-here-thm
+use Rattle.walk.proofs.cursor.next as next
+use Rattle.walk.proofs.cursor.next.Symbol as next-def
+use Rattle.walk.proofs.cursor.next.Symbol.{name as #next}
+use Rattle.walk.proofs.cursor.next.Met as next-thm
 use Rattle.rows.proofs.spans.Key.{name as #spans}
 use Rattle.rows.proofs.spans as spans
 use Rattle.rows.proofs.spans.Statement as stated
@@ -96,8 +109,8 @@ function = record {
   lifetimes = 2;
   outlives = [];
   params = 2;
-  locals = local S′.mir valueLocal ∷ local sliceM valueLocal ∷ local sliceR valueLocal ∷ local S′.mir valueLocal ∷ local word valueLocal ∷ local word valueLocal ∷ local word valueLocal
-      ∷ local tyBool valueLocal ∷ local R′.mir valueLocal ∷ local word valueLocal ∷ local tyPtr valueLocal ∷ [];
+  locals = local S′.mir valueLocal ∷ local sliceM valueLocal ∷ local sliceR valueLocal ∷ local S′.mir valueLocal ∷ local word valueLocal ∷ local word valueLocal ∷ local K′.mir valueLocal
+      ∷ local word valueLocal ∷ local tyBool valueLocal ∷ local R′.mir valueLocal ∷ local word valueLocal ∷ local tyPtr valueLocal ∷ [];
   body = body.t-1;
 }
 
@@ -109,8 +122,14 @@ module _ {M : Type 1} (𝓤 : URA M) (H : Heap 𝓤) (A : Atoms 𝓤) (mem : Mem
   abbrev Count : Contract 𝓤
   Count = tripleOf 𝓤 H A given.signature (given.spec 𝓤 H A mem run)
 
-  abbrev RowAt : Contract 𝓤
-  RowAt = tripleOf 𝓤 H A row-at.signature (row-at.spec 𝓤 H A mem run)
+  abbrev First : Contract 𝓤
+  First = tripleOf 𝓤 H A first.signature (first.spec 𝓤 H A mem run)
+
+  abbrev RowHere : Contract 𝓤
+  RowHere = tripleOf 𝓤 H A row-here.signature (row-here.spec 𝓤 H A mem run)
+
+  abbrev Next : Contract 𝓤
+  Next = tripleOf 𝓤 H A next.signature (next.spec 𝓤 H A mem run)
 
 module _ {M : Type 1} (𝓤 : URA M) (H : Heap 𝓤) (A : Atoms 𝓤) (W : Given 𝓤 H A) (mem : Memory → SProp 𝓤) (run : Routine → Fun 𝓤)
     (κ κ′ : Lft) (q q′ : Share) (m : RefT (List ℕ)) (b o : ℕ) (γ : GName) (ys : List Row) where
@@ -146,7 +165,11 @@ module _ {M : Type 1} (𝓤 : URA M) (H : Heap 𝓤) (A : Atoms 𝓤) (W : Given
   abbrev count : ℕ
   count = givenOf (spansOf (m .now) (length ys))
 
-  -- the calls: what is passed, what is asked, and what is learnt of the result. `check` and `row_at` are passed m and a number
+  -- the cursor behind i rows
+  abbrev cur : ℕ → Cursor
+  cur i = cursorAt (m .now) i
+
+  -- the calls: what is passed, what is asked, and what is learnt of the result
   abbrev to-both : ℕ → Check 𝓤 H A mem run .Ghost
   to-both k = (((κ, tt), (q, tt), tt, (m, (k, tt)), (vm ∷ [], (vint w64 k ∷ [], tt))), tt)
 
@@ -167,8 +190,29 @@ module _ {M : Type 1} (𝓤 : URA M) (H : Heap 𝓤) (A : Atoms 𝓤) (W : Given
   given-said : (r : Answer) (n : ℕ) → ent 𝓤 (ensured 𝓤 H A given.ended (given.clauses 𝓤 H A mem run) tt (r, tt) tt n) (fact 𝓤 (n ≡ givenOf r))
   given-said r n = exE 𝓤 _ (λ ws. snd∗ 𝓤 (sem 𝓤 H A (lasts given.ended tt (r, tt) ws)) (fact 𝓤 (n ≡ givenOf r)))
 
-  row-said : (i : ℕ) (r : Row) → ent 𝓤 (ensured 𝓤 H A row-at.ended (row-at.clauses 𝓤 H A mem run) (κ, tt) (m, (i, tt)) tt r) (fact 𝓤 (r ≡ rowAt (m .now) i))
-  row-said i r = exE 𝓤 _ (λ ws. snd∗ 𝓤 (sem 𝓤 H A (lasts row-at.ended (κ, tt) (m, (i, tt)) ws)) (fact 𝓤 (r ≡ rowAt (m .now) i)))
+  abbrev to-first : First 𝓤 H A mem run .Ghost
+  to-first = ((tt, tt, tt, tt, tt), tt)
+
+  goes-first : ent 𝓤 (⋆ 𝓤 H A []) (First 𝓤 H A mem run .pre to-first)
+  goes-first = qed W [] ∵ nothing ! $ nothing ! $ join ! $ frame ! $ done !
+
+  first-said : (c : Cursor) → ent 𝓤 (ensured 𝓤 H A first.ended (first.clauses 𝓤 H A mem run) tt tt tt c) (fact 𝓤 (c ≡ firstCursor))
+  first-said c = exE 𝓤 _ (λ ws. snd∗ 𝓤 (sem 𝓤 H A (lasts first.ended tt tt ws)) (fact 𝓤 (c ≡ firstCursor)))
+
+  -- `row_here` and `next` are passed m and the cursor
+  abbrev to-cursor : Cursor → Val → RowHere 𝓤 H A mem run .Ghost
+  to-cursor c v = (((κ, tt), (q, tt), tt, (m, (c, tt)), (vm ∷ [], (v ∷ [], tt))), tt)
+
+  goes-cursor : (c : Cursor) (v : Val) → Is K.the-row c (v ∷ []) → ent 𝓤 (⋆ 𝓤 H A (‵ OwnM ∷ ‵ (flft κ q) ∷ [])) (RowHere 𝓤 H A mem run .pre (to-cursor c v))
+  goes-cursor c v is =
+      qed W (‵ OwnM ∷ ‵ (flft κ q) ∷ []) ∵ nothing ! $ owned ! K.the-row (Is K.the-row) (LL.makes K.the-type K′.the-plain 𝓤 H A) c (v ∷ []) is $ fjoin ! $ move ! (1 ∷ 0 ∷ []) $ fjoin ! $
+      nothing ! $ move ! (2 ∷ 0 ∷ []) $ join ! $ join ! $ frame ! $ done !
+
+  row-said : (c : Cursor) (r : Row) → ent 𝓤 (ensured 𝓤 H A row-here.ended (row-here.clauses 𝓤 H A mem run) (κ, tt) (m, (c, tt)) tt r) (fact 𝓤 (r ≡ rowHere (m .now) c))
+  row-said c r = exE 𝓤 _ (λ ws. snd∗ 𝓤 (sem 𝓤 H A (lasts row-here.ended (κ, tt) (m, (c, tt)) ws)) (fact 𝓤 (r ≡ rowHere (m .now) c)))
+
+  next-said : (c d : Cursor) → ent 𝓤 (ensured 𝓤 H A next.ended (next.clauses 𝓤 H A mem run) (κ, tt) (m, (c, tt)) tt d) (fact 𝓤 (d ≡ nextOf (m .now) c))
+  next-said c d = exE 𝓤 _ (λ ws. snd∗ 𝓤 (sem 𝓤 H A (lasts next.ended (κ, tt) (m, (c, tt)) ws)) (fact 𝓤 (d ≡ nextOf (m .now) c)))
 
   -- at the end: the borrow is shut at the table with n rows stored, which is what the promise says
   exits : Room R.the-row (length ys) → (r : Answer) (u : Val) → Is S.the-row r (u ∷ []) → r ≡ spansOf (m .now) (length ys) → (n : ℕ) → n ≡ count → Within (m .now) (length ys) n
@@ -183,7 +227,7 @@ module _ {M : Type 1} (𝓤 : URA M) (H : Heap 𝓤) (A : Atoms 𝓤) (W : Given
       owned ! S.the-row (Is S.the-row) (EL.makes S.the-type S′.the-plain 𝓤 H A) r (u ∷ []) is $ move ! (1 ∷ 0 ∷ []) $ done !
 
   module _ (𝓣 : Tables 𝓤 H) (known-check : Triple 𝓤 (𝓣 .C #check) (Check 𝓤 H A mem run)) (known-given : Triple 𝓤 (𝓣 .C #given) (Count 𝓤 H A mem run))
-      (known-row : Triple 𝓤 (𝓣 .C #row-at) (RowAt 𝓤 H A mem run)) where
+      (known-first : Triple 𝓤 (𝓣 .C #first) (First 𝓤 H A mem run)) (known-row : Triple 𝓤 (𝓣 .C #row-here) (RowHere 𝓤 H A mem run)) (known-next : Triple 𝓤 (𝓣 .C #next) (Next 𝓤 H A mem run)) where
     abbrev C : Calls 𝓤 H
     C = 𝓣 .C
 
@@ -191,113 +235,133 @@ module _ {M : Type 1} (𝓤 : URA M) (H : Heap 𝓤) (A : Atoms 𝓤) (W : Given
     Λ = 𝓣 .Λ
 
     -- where the locals stand
-    module _ (room : Room R.the-row (length ys)) (l₀ l₁ l₂ l₃ l₄ l₅ l₆ l₇ l₈ l₉ l₁₀ : ℕ) where
-      -- the locals: the result, m, rows, a, n, i, the length of the table, the test, the row, its place in bytes, and its pointer; _0 to _10 below
+    module _ (room : Room R.the-row (length ys)) (l₀ l₁ l₂ l₃ l₄ l₅ l₆ l₇ l₈ l₉ l₁₀ l₁₁ : ℕ) where
+      -- the locals: the result, m, rows, a, n, i, the cursor, the length of the table, the test, the row, its place in bytes, and its pointer; _0 to _11 below
       abbrev En : Env 𝓤 H
-      En = (S′.mir, l₀) ∷ (sliceM, l₁) ∷ (sliceR, l₂) ∷ (S′.mir, l₃) ∷ (word, l₄) ∷ (word, l₅) ∷ (word, l₆) ∷ (tyBool, l₇) ∷ (R′.mir, l₈) ∷ (word, l₉) ∷ (tyPtr, l₁₀) ∷ []
+      En = (S′.mir, l₀) ∷ (sliceM, l₁) ∷ (sliceR, l₂) ∷ (S′.mir, l₃) ∷ (word, l₄) ∷ (word, l₅) ∷ (K′.mir, l₆) ∷ (word, l₇) ∷ (tyBool, l₈) ∷ (R′.mir, l₉) ∷ (word, l₁₀) ∷ (tyPtr, l₁₁) ∷ []
 
       -- once `check` has returned r
       module _ (r : Answer) (u : Val) (is : Is S.the-row r (u ∷ [])) (e : r ≡ spansOf (m .now) (length ys)) where
         -- once `given` has returned n
         module _ (n : ℕ) (en : n ≡ count) (w : Within (m .now) (length ys) n) where
-          -- what no turn touches
-          abbrev Frame : List (Item 𝓤)
-          Frame = ‵ (fat fullShare sliceM l₁ 0 vm) ∷ ‵ (fat fullShare sliceR l₂ 0 vr) ∷ ‵ (fat fullShare S′.mir l₃ 0 u) ∷ ‵ (fat fullShare word l₄ 0 (vint w64 n)) ∷ ‵ (froom S′.mir l₀ 0) ∷ ‵ (froom word l₆ 0)
+          -- what no turn touches, but for the cursor, whose value is v
+          abbrev Frame : Val → List (Item 𝓤)
+          Frame v = ‵ (fat fullShare sliceM l₁ 0 vm) ∷ ‵ (fat fullShare sliceR l₂ 0 vr) ∷ ‵ (fat fullShare S′.mir l₃ 0 u) ∷ ‵ (fat fullShare word l₄ 0 (vint w64 n)) ∷ ‵ (froom S′.mir l₀ 0) ∷ ‵ (froom word l₇ 0) ∷ ‵ (fat fullShare K′.mir l₆ 0 v)
               ∷ ‵ (fobor κ′ q′ (Held R.the-row (length ys) b o γ)) ∷ ‵ (fobs γ (codedHoleys R.the-row .code (heres R.the-row ys))) ∷ ‵ (fauth γ (codedHoleys R.the-row .code (heres R.the-row ys)))
-              ∷ ‵ (fdies S′.mir l₀) ∷ ‵ (fdies sliceM l₁) ∷ ‵ (fdies sliceR l₂) ∷ ‵ (fdies S′.mir l₃) ∷ ‵ (fdies word l₄) ∷ ‵ (fdies word l₅) ∷ ‵ (fdies word l₆) ∷ ‵ (fdies tyBool l₇) ∷ ‵ (fdies R′.mir l₈) ∷ ‵ (fdies word l₉) ∷ ‵ (fdies tyPtr l₁₀) ∷ []
+              ∷ ‵ (fdies S′.mir l₀) ∷ ‵ (fdies sliceM l₁) ∷ ‵ (fdies sliceR l₂) ∷ ‵ (fdies S′.mir l₃) ∷ ‵ (fdies word l₄) ∷ ‵ (fdies word l₅) ∷ ‵ (fdies K′.mir l₆) ∷ ‵ (fdies word l₇) ∷ ‵ (fdies tyBool l₈) ∷ ‵ (fdies R′.mir l₉) ∷ ‵ (fdies word l₁₀) ∷ ‵ (fdies tyPtr l₁₁) ∷ []
 
           -- i rows are stored
-          abbrev At : ℕ → List (Item 𝓤)
-          At i = ‵ (row R.the-row fullShare (fl i) b o) ∷ ‵ (fat fullShare word l₅ 0 (vint w64 i)) ∷ ‵ (froom tyBool l₇ 0) ∷ ‵ (froom R′.mir l₈ 0) ∷ ‵ (froom word l₉ 0) ∷ ‵ (froom tyPtr l₁₀ 0) ∷ ‵ OwnM ∷ ‵ (flft κ q) ∷ Frame
+          abbrev At : ℕ → Val → List (Item 𝓤)
+          At i v = ‵ (row R.the-row fullShare (fl i) b o) ∷ ‵ (fat fullShare word l₅ 0 (vint w64 i)) ∷ ‵ (froom tyBool l₈ 0) ∷ ‵ (froom R′.mir l₉ 0) ∷ ‵ (froom word l₁₀ 0) ∷ ‵ (froom tyPtr l₁₁ 0) ∷ ‵ OwnM ∷ ‵ (flft κ q) ∷ Frame v
+
+          -- and the cursor stands behind them
+          abbrev Here : ℕ → SProp 𝓤
+          Here i = ex 𝓤 (λ (v : Val). guard 𝓤 (Is K.the-row (cur i) (v ∷ [])) (⋆ 𝓤 H A (At i v)))
 
           -- the invariant, where t rows are left
           abbrev Inv : ℕ → SProp 𝓤
-          Inv t = ex 𝓤 (λ (i : ℕ). guard 𝓤 (i + t ≡ n) (⋆ 𝓤 H A (At i)))
+          Inv t = ex 𝓤 (λ (i : ℕ). guard 𝓤 (i + t ≡ n) (Here i))
 
           abbrev Below : ℕ → SProp 𝓤
           Below t = ex 𝓤 (λ (t′ : ℕ). guard 𝓤 (t′ < t) (Inv t′))
 
           -- when the loop is left, the rest of the body runs
           abbrev Left : Out → SProp 𝓤
-          Left = afterBlock 𝓤 H (afterSeq 𝓤 H (Wp 𝓤 H C Λ En body.t-6 (atReturn 𝓤 H En Post)) (atReturn 𝓤 H En Post))
+          Left = afterBlock 𝓤 H (afterSeq 𝓤 H (Wp 𝓤 H C Λ En body.t-7 (atReturn 𝓤 H En Post)) (atReturn 𝓤 H En Post))
 
           -- a turn that stores one row
-          more : (i : ℕ) (X : SProp 𝓤) → i < n → ent 𝓤 (⋆ 𝓤 H A (At (suc i))) X → ent 𝓤 (⋆ 𝓤 H A (At i)) (Wp 𝓤 H C Λ En body.turn-1 (afterTurn 𝓤 H X Left))
+          more : (i : ℕ) (v : Val) → Is K.the-row (cur i) (v ∷ []) → (X : SProp 𝓤) → i < n → ((v : Val) → Is K.the-row (cur (suc i)) (v ∷ []) → ent 𝓤 (⋆ 𝓤 H A (At (suc i) v)) X)
+              → ent 𝓤 (⋆ 𝓤 H A (At i v)) (Wp 𝓤 H C Λ En body.turn-1 (afterTurn 𝓤 H X Left))
           unfolding afterTurn
-          more i X small k =
+          more i v isv X small k =
               let low : i < length ys = omega (arith, w) in
               let len : length (fl i) ≡ length ys = length-filled (m .now) ys i (omega (arith, w)) in
               let within : i < length (fl i) = omega arith in
-              let fits : i < 2 ^ 64 = omega (arith, room .0) in
               let scaled : i * 24 < 2 ^ 64 = omega (arith, room .1) in
-              qed W (At i) ∵ exec ! C Λ En body.turn-1 (anyQ (afterTurn 𝓤 H X Left)) $
+              qed W (At i v) ∵ exec ! C Λ En body.turn-1 (anyQ (afterTurn 𝓤 H X Left)) $
               assigns ! (bin ! (load ! (from ! (stop !)) (look ! 1 refl)) (load ! (from ! (stop !)) (look ! 11 refl)) tt) (from ! (stop !)) (init ! 2 refl (tt, tt)) $
-              rewrite ! 2 (λ (t : Bool). ‵ (fat fullShare tyBool l₇ 0 (vbool t))) (lt-ltb i n small) refl $
+              rewrite ! 2 (λ (t : Bool). ‵ (fat fullShare tyBool l₈ 0 (vbool t))) (lt-ltb i n small) refl $
               stays ! (load ! (from ! (stop !)) (look ! 2 refl)) $
-              -- `row_at` is called: what m owns is had twice, and one copy goes to the callee with the token
-              move ! (6 ∷ 7 ∷ []) $ use1 W (‵ OwnM ⊛ ‵ OwnM) (shr-slice-copy 𝓤 H A W (named 0) κ u8 .twice m (vm ∷ [])) $ split ! $ move ! (0 ∷ 2 ∷ []) $ use2 W (raw (RowAt 𝓤 H A mem run .pre (to-both i))) (goes-both i fits) $
-              calls-at ! (fmOf 𝓤 H (W .laws) 𝓣) (RowAt 𝓤 H A mem run) known-row (to-both i) (and-then ! (load ! (from ! (stop !)) (look ! 8 refl)) (and-then ! (load ! (from ! (stop !)) (look ! 3 refl)) (no-more !))) (λ v.
-              use1 W (later (some (λ (y : Row). ((‵ (flft κ q) ⊛ ‵ ftrue) ⊛ ‵ (R.the-row .own y (v ∷ []))) ⊛ raw (ensured 𝓤 H A row-at.ended (row-at.clauses 𝓤 H A mem run) (κ, tt) (m, (i, tt)) tt y)))) (id⊢ 𝓤 _) $ await ! tt $ pick ! (λ y.
-              split ! $ move ! (1 ∷ []) $ use1 W (raw (fact 𝓤 (y ≡ rowAt (m .now) i))) (row-said i y) $ heard ! (y ≡ rowAt (m .now) i) (λ ey. split ! $ move ! (1 ∷ []) $
-              peeks ! R.the-row (Is R.the-row) (shows 𝓤 H A R.the-row) y (v ∷ []) (λ isy.
+              -- `row_here` is called: what m owns is had twice, and one copy goes to the callee with the token
+              move ! (6 ∷ 7 ∷ []) $ use1 W (‵ OwnM ⊛ ‵ OwnM) (shr-slice-copy 𝓤 H A W (named 0) κ u8 .twice m (vm ∷ [])) $ split ! $ move ! (0 ∷ 2 ∷ []) $ use2 W (raw (RowHere 𝓤 H A mem run .pre (to-cursor (cur i) v))) (goes-cursor (cur i) v isv) $
+              calls-at ! (fmOf 𝓤 H (W .laws) 𝓣) (RowHere 𝓤 H A mem run) known-row (to-cursor (cur i) v) (and-then ! (load ! (from ! (stop !)) (look ! 8 refl)) (and-then ! (load ! (from ! (stop !)) (look ! 14 refl)) (no-more !))) (λ vy.
+              use1 W (later (some (λ (y : Row). ((‵ (flft κ q) ⊛ ‵ ftrue) ⊛ ‵ (R.the-row .own y (vy ∷ []))) ⊛ raw (ensured 𝓤 H A row-here.ended (row-here.clauses 𝓤 H A mem run) (κ, tt) (m, (cur i, tt)) tt y)))) (id⊢ 𝓤 _) $ await ! tt $ pick ! (λ y.
+              split ! $ move ! (1 ∷ []) $ use1 W (raw (fact 𝓤 (y ≡ rowHere (m .now) (cur i)))) (row-said (cur i) y) $ heard ! (y ≡ rowHere (m .now) (cur i)) (λ ey. split ! $ move ! (1 ∷ []) $
+              peeks ! R.the-row (Is R.the-row) (shows 𝓤 H A R.the-row) y (vy ∷ []) (λ isy.
               land ! (from ! (stop !)) (init ! 6 refl (LL.lawful R.the-type R′.the-laws 𝓤 H A W .typed y _ isy .0)) $
               drop ! $ split ! $ move ! (1 ∷ []) $ drop ! $
-              -- [the token; what m owns; the rows; _5; _7; _8; room for _9; room for _10; Frame]
+              -- [the token; what m owns; the rows; _5; _8; _9; room for _10; room for _11; Frame]
               assigns ! (bin ! (load ! (from ! (stop !)) (look ! 3 refl)) (lit ! tt) (record { fits = scaled })) (from ! (stop !)) (init ! 6 refl (tt, record { fits = scaled })) $
               assigns ! (bin ! (load ! (from ! (fld ! refl (stop !))) (look-in ! 9 (sub ! 0 refl (whole !)))) (load ! (from ! (stop !)) (look ! 6 refl)) tt) (from ! (stop !)) (init ! 7 refl (tt, tt)) $
-              rewrite ! 7 (λ (p : ℕ). ‵ (fat fullShare tyPtr l₁₀ 0 (vptr b p))) (sym (place-is 24 o i)) refl $
+              rewrite ! 7 (λ (p : ℕ). ‵ (fat fullShare tyPtr l₁₁ 0 (vptr b p))) (sym (place-is 24 o i)) refl $
               -- the row at i is taken out, stored to, and put back
               move ! (2 ∷ []) $ elem-out ! R.the-row (Is R.the-row) (shows 𝓤 H A R.the-row) (LL.vals R.the-type R′.the-laws) (LL.tells R.the-type R′.the-laws) fullShare (fl i) i noRow b o within (λ _.
               assigns ! (of-opd ! (load ! (from ! (stop !)) (look ! 7 refl))) (from ! (hop ! (look ! 9 refl) (stop !))) (store-raw ! 0 refl (LL.lawful R.the-type R′.the-laws 𝓤 H A W .typed y _ isy .0)) $
-              move ! (1 ∷ []) $ drop ! $ owned ! R.the-row (Is R.the-row) (LL.makes R.the-type R′.the-plain 𝓤 H A) y (v ∷ []) isy $ move ! (1 ∷ 0 ∷ []) $ elem-put ! R.the-row fullShare (fl i) i y (v ∷ []) b o within $
+              move ! (1 ∷ []) $ drop ! $ owned ! R.the-row (Is R.the-row) (LL.makes R.the-type R′.the-plain 𝓤 H A) y (vy ∷ []) isy $ move ! (1 ∷ 0 ∷ []) $ elem-put ! R.the-row fullShare (fl i) i y (vy ∷ []) b o within $
               rewrite ! 0 (λ (l : List Row). ‵ (row R.the-row fullShare l b o)) (ap (set (fl i) i) ey ∙ filled-more (m .now) ys i (omega (arith, w))) refl $
-              -- [the rows; the token; what m owns; _5; _7; _8; _9; _10; Frame]
+              -- [the rows; the token; what m owns; _5; _8; _9; _10; _11; Frame]. `next` is called in the same way
+              move ! (2 ∷ 1 ∷ []) $ use1 W (‵ OwnM ⊛ ‵ OwnM) (shr-slice-copy 𝓤 H A W (named 0) κ u8 .twice m (vm ∷ [])) $ split ! $ move ! (0 ∷ 2 ∷ []) $ use2 W (raw (Next 𝓤 H A mem run .pre (to-cursor (cur i) v))) (goes-cursor (cur i) v isv) $
+              calls-at ! (fmOf 𝓤 H (W .laws) 𝓣) (Next 𝓤 H A mem run) known-next (to-cursor (cur i) v) (and-then ! (load ! (from ! (stop !)) (look ! 8 refl)) (and-then ! (load ! (from ! (stop !)) (look ! 14 refl)) (no-more !))) (λ vz.
+              use1 W (later (some (λ (z : Cursor). ((‵ (flft κ q) ⊛ ‵ ftrue) ⊛ ‵ (K.the-row .own z (vz ∷ []))) ⊛ raw (ensured 𝓤 H A next.ended (next.clauses 𝓤 H A mem run) (κ, tt) (m, (cur i, tt)) tt z)))) (id⊢ 𝓤 _) $ await ! tt $ pick ! (λ z.
+              split ! $ move ! (1 ∷ []) $ use1 W (raw (fact 𝓤 (z ≡ nextOf (m .now) (cur i)))) (next-said (cur i) z) $ heard ! (z ≡ nextOf (m .now) (cur i)) (λ ez. split ! $ move ! (1 ∷ []) $
+              peeks ! K.the-row (Is K.the-row) (shows 𝓤 H A K.the-row) z (vz ∷ []) (λ isz.
+              land ! (from ! (stop !)) (store ! 15 refl (LL.lawful K.the-type K′.the-laws 𝓤 H A W .typed z _ isz .0)) $
+              drop ! $ split ! $ move ! (1 ∷ []) $ drop ! $
+              -- [the token; what m owns; the rows; _5; _8; _9; _10; _11; Frame]
               assigns-last ! (bin ! (load ! (from ! (stop !)) (look ! 3 refl)) (lit ! tt) (record { fits = omega (arith, room .1) })) (from ! (stop !)) (store ! 3 refl (tt, record { fits = omega (arith, room .1) })) $
               rewrite ! 3 (λ (j : ℕ). ‵ (fat fullShare word l₅ 0 (vint w64 j))) (add-one i) refl $
-              forget ! 4 refl $ forget ! 5 refl $ forget ! 6 refl $ forget ! 7 refl $ move ! (0 ∷ 3 ∷ 4 ∷ 5 ∷ 6 ∷ 7 ∷ 2 ∷ 1 ∷ []) $ by ! k)))))
+              forget ! 4 refl $ forget ! 5 refl $ forget ! 6 refl $ forget ! 7 refl $ move ! (2 ∷ 3 ∷ 4 ∷ 5 ∷ 6 ∷ 7 ∷ 1 ∷ 0 ∷ []) $
+              by ! (k vz (subst (λ (c : Cursor). Is K.the-row c (vz ∷ [])) (ez ∙ sym (cursor-more (m .now) i)) isz)))))))))))
 
           -- the turn that leaves the loop, and the rest of the body: the borrow is closed at the table as it then is
-          ends : (X : SProp 𝓤) → ent 𝓤 (⋆ 𝓤 H A (At n)) (Wp 𝓤 H C Λ En body.turn-1 (afterTurn 𝓤 H X Left))
+          ends : (v : Val) → Is K.the-row (cur n) (v ∷ []) → (X : SProp 𝓤) → ent 𝓤 (⋆ 𝓤 H A (At n v)) (Wp 𝓤 H C Λ En body.turn-1 (afterTurn 𝓤 H X Left))
           unfolding afterTurn
-          ends X =
-              qed W (At n) ∵ exec ! C Λ En body.turn-1 (anyQ (afterTurn 𝓤 H X Left)) $
+          ends v isv X =
+              qed W (At n v) ∵ exec ! C Λ En body.turn-1 (anyQ (afterTurn 𝓤 H X Left)) $
               assigns ! (bin ! (load ! (from ! (stop !)) (look ! 1 refl)) (load ! (from ! (stop !)) (look ! 11 refl)) tt) (from ! (stop !)) (init ! 2 refl (tt, tt)) $
-              rewrite ! 2 (λ (t : Bool). ‵ (fat fullShare tyBool l₇ 0 (vbool t))) (le-ltb n n (omega arith)) refl $
-              leaves-loop ! (load ! (from ! (stop !)) (look ! 2 refl)) $ exec ! C Λ En body.t-6 (atRet En Post) $
+              rewrite ! 2 (λ (t : Bool). ‵ (fat fullShare tyBool l₈ 0 (vbool t))) (le-ltb n n (omega arith)) refl $
+              leaves-loop ! (load ! (from ! (stop !)) (look ! 2 refl)) $ exec ! C Λ En body.t-7 (atRet En Post) $
               assigns ! (of-opd ! (load ! (from ! (stop !)) (look ! 10 refl))) (from ! (stop !)) (init ! 12 refl (EL.lawful S.the-type S′.the-laws 𝓤 H A W tt .typed r _ is .0)) $
-              move ! (0 ∷ 14 ∷ 15 ∷ 16 ∷ []) $ closes-slice ! tt R.the-row ys (fl n) (length-filled (m .now) ys n w) b o $
-              -- [obs; the borrow; its token; _5; _7; room for _8, _9, _10; what m owns; the token; _1; _2; _3; _4; _0; room for _6; and that each local dies]
-              returns ! (look ! 14 refl) $ forget ! 3 refl $ forget ! 4 refl $ forget ! 10 refl $ forget ! 11 refl $ forget ! 12 refl $ forget ! 13 refl $ forget ! 14 refl $
-              move ! (14 ∷ 16 ∷ []) $ free1 ! $ move ! (10 ∷ 15 ∷ []) $ free1 ! $ move ! (10 ∷ 14 ∷ []) $ free1 ! $ move ! (10 ∷ 13 ∷ []) $ free1 ! $ move ! (10 ∷ 12 ∷ []) $ free1 ! $
-              move ! (3 ∷ 11 ∷ []) $ free1 ! $ move ! (9 ∷ 10 ∷ []) $ free1 ! $ move ! (3 ∷ 9 ∷ []) $ free1 ! $ move ! (3 ∷ 8 ∷ []) $ free1 ! $ move ! (3 ∷ 7 ∷ []) $ free1 ! $ move ! (3 ∷ 6 ∷ []) $ free1 ! $ free0 ! $
+              move ! (0 ∷ 15 ∷ 16 ∷ 17 ∷ []) $ closes-slice ! tt R.the-row ys (fl n) (length-filled (m .now) ys n w) b o $
+              -- [obs; the borrow; its token; _5; _8; room for _9, _10, _11; what m owns; the token; _1; _2; _3; _4; _0; room for _7; _6; and that each local dies]
+              returns ! (look ! 14 refl) $ forget ! 3 refl $ forget ! 4 refl $ forget ! 10 refl $ forget ! 11 refl $ forget ! 12 refl $ forget ! 13 refl $ forget ! 14 refl $ forget ! 16 refl $
+              move ! (14 ∷ 17 ∷ []) $ free1 ! $ move ! (10 ∷ 16 ∷ []) $ free1 ! $ move ! (10 ∷ 15 ∷ []) $ free1 ! $ move ! (10 ∷ 14 ∷ []) $ free1 ! $ move ! (10 ∷ 13 ∷ []) $ free1 ! $ move ! (3 ∷ 12 ∷ []) $ free1 ! $
+              move ! (10 ∷ 11 ∷ []) $ free1 ! $ move ! (9 ∷ 10 ∷ []) $ free1 ! $ move ! (3 ∷ 9 ∷ []) $ free1 ! $ move ! (3 ∷ 8 ∷ []) $ free1 ! $ move ! (3 ∷ 7 ∷ []) $ free1 ! $ move ! (3 ∷ 6 ∷ []) $ free1 ! $ free0 ! $
               by ! (exits room r u is e n en w)
 
-          below : (t i : ℕ) → i + suc t ≡ n → ent 𝓤 (⋆ 𝓤 H A (At (suc i))) (Below (suc t))
-          below t i f =
-              via 𝓤 (Inv t)
-              (via 𝓤 (guard 𝓤 (suc i + t ≡ n) (⋆ 𝓤 H A (At (suc i)))) (guardI 𝓤 (suc i + t ≡ n) (⋆ 𝓤 H A (At (suc i))) (omega arith))
-              (exI 𝓤 (λ (j : ℕ). guard 𝓤 (j + t ≡ n) (⋆ 𝓤 H A (At j))) (suc i)))
+          here : (i : ℕ) (v : Val) → Is K.the-row (cur i) (v ∷ []) → ent 𝓤 (⋆ 𝓤 H A (At i v)) (Here i)
+          here i v isv =
+              via 𝓤 (guard 𝓤 (Is K.the-row (cur i) (v ∷ [])) (⋆ 𝓤 H A (At i v))) (guardI 𝓤 (Is K.the-row (cur i) (v ∷ [])) (⋆ 𝓤 H A (At i v)) isv)
+              (exI 𝓤 (λ (v : Val). guard 𝓤 (Is K.the-row (cur i) (v ∷ [])) (⋆ 𝓤 H A (At i v))) v)
+
+          begun : (t i : ℕ) → i + t ≡ n → (v : Val) → Is K.the-row (cur i) (v ∷ []) → ent 𝓤 (⋆ 𝓤 H A (At i v)) (Inv t)
+          begun t i f v isv = via 𝓤 (Here i) (here i v isv) (via 𝓤 (guard 𝓤 (i + t ≡ n) (Here i)) (guardI 𝓤 (i + t ≡ n) (Here i) f) (exI 𝓤 (λ (j : ℕ). guard 𝓤 (j + t ≡ n) (Here j)) i))
+
+          below : (t i : ℕ) → i + suc t ≡ n → (v : Val) → Is K.the-row (cur (suc i)) (v ∷ []) → ent 𝓤 (⋆ 𝓤 H A (At (suc i) v)) (Below (suc t))
+          below t i f v isv =
+              via 𝓤 (Inv t) (begun t (suc i) (omega arith) v isv)
               (via 𝓤 (guard 𝓤 (t < suc t) (Inv t)) (guardI 𝓤 (t < suc t) (Inv t) (omega arith)) (exI 𝓤 (λ (w : ℕ). guard 𝓤 (w < suc t) (Inv w)) t))
 
           -- a turn from the invariant at t leaves the loop, or ends in the invariant below t
-          turn-at : (t i : ℕ) → i + t ≡ n → ent 𝓤 (⋆ 𝓤 H A (At i)) (Wp 𝓤 H C Λ En body.turn-1 (afterTurn 𝓤 H (Below t) Left))
-          turn-at zero i f = let same : n ≡ i = omega arith in subst (λ (k : ℕ). ent 𝓤 (⋆ 𝓤 H A (At k)) (Wp 𝓤 H C Λ En body.turn-1 (afterTurn 𝓤 H (Below zero) Left))) same (ends (Below zero))
-          turn-at (suc t) i f = more i (Below (suc t)) (omega arith) (below t i f)
+          turn-at : (t i : ℕ) → i + t ≡ n → (v : Val) → Is K.the-row (cur i) (v ∷ []) → ent 𝓤 (⋆ 𝓤 H A (At i v)) (Wp 𝓤 H C Λ En body.turn-1 (afterTurn 𝓤 H (Below t) Left))
+          turn-at zero i f v =
+              let same : n ≡ i = omega arith in
+              subst (λ (k : ℕ). Is K.the-row (cur k) (v ∷ []) → ent 𝓤 (⋆ 𝓤 H A (At k v)) (Wp 𝓤 H C Λ En body.turn-1 (afterTurn 𝓤 H (Below zero) Left))) same (λ isv. ends v isv (Below zero))
+          turn-at (suc t) i f v = λ isv. more i v isv (Below (suc t)) (omega arith) (below t i f)
 
           turns : (t : ℕ) → ent 𝓤 (Inv t) (Wp 𝓤 H C Λ En body.turn-1 (afterTurn 𝓤 H (Below t) Left))
-          turns t = exE 𝓤 (λ (i : ℕ). guard 𝓤 (i + t ≡ n) (⋆ 𝓤 H A (At i))) (λ i. guardE 𝓤 (i + t ≡ n) (⋆ 𝓤 H A (At i)) (λ f. turn-at t i f))
+          turns t =
+              exE 𝓤 (λ (i : ℕ). guard 𝓤 (i + t ≡ n) (Here i)) (λ i. guardE 𝓤 (i + t ≡ n) (Here i) (λ f.
+              exE 𝓤 (λ (v : Val). guard 𝓤 (Is K.the-row (cur i) (v ∷ [])) (⋆ 𝓤 H A (At i v))) (λ v. guardE 𝓤 (Is K.the-row (cur i) (v ∷ [])) (⋆ 𝓤 H A (At i v)) (λ isv. turn-at t i f v isv))))
 
-          loops : ent 𝓤 (⋆ 𝓤 H A (At 0)) (Wp 𝓤 H C Λ En (loop body.turn-1) Left)
-          loops =
-              via 𝓤 (Inv n)
-              (via 𝓤 (guard 𝓤 (0 + n ≡ n) (⋆ 𝓤 H A (At 0))) (guardI 𝓤 (0 + n ≡ n) (⋆ 𝓤 H A (At 0)) (omega arith)) (exI 𝓤 (λ (j : ℕ). guard 𝓤 (j + n ≡ n) (⋆ 𝓤 H A (At j))) 0))
-              (loop-rule 𝓤 H (W .laws) 𝓣 _<_ (Nat·lt-wfRel .wf) En body.turn-1 Left Inv turns n)
+          loops : (v : Val) → Is K.the-row (cur 0) (v ∷ []) → ent 𝓤 (⋆ 𝓤 H A (At 0 v)) (Wp 𝓤 H C Λ En (loop body.turn-1) Left)
+          loops v isv = via 𝓤 (Inv n) (begun n 0 (omega arith) v isv) (loop-rule 𝓤 H (W .laws) 𝓣 _<_ (Nat·lt-wfRel .wf) En body.turn-1 Left Inv turns n)
 
         -- the locals once `check` has returned, and the borrow of the table
         abbrev Checked : List (Item 𝓤)
-        Checked = ‵ (froom tyPtr l₁₀ 0) ∷ ‵ (fdies tyPtr l₁₀) ∷ ‵ (froom word l₉ 0) ∷ ‵ (fdies word l₉) ∷ ‵ (froom R′.mir l₈ 0) ∷ ‵ (fdies R′.mir l₈) ∷ ‵ (froom tyBool l₇ 0) ∷ ‵ (fdies tyBool l₇)
-            ∷ ‵ (fat fullShare word l₆ 0 (vint w64 (length ys))) ∷ ‵ (fdies word l₆) ∷ ‵ (froom word l₅ 0) ∷ ‵ (fdies word l₅) ∷ ‵ (froom word l₄ 0) ∷ ‵ (fdies word l₄) ∷ ‵ (fat fullShare S′.mir l₃ 0 u) ∷ ‵ (fdies S′.mir l₃)
-            ∷ ‵ (fat fullShare sliceR l₂ 0 vr) ∷ ‵ (fdies sliceR l₂) ∷ ‵ (fat fullShare sliceM l₁ 0 vm) ∷ ‵ (fdies sliceM l₁) ∷ ‵ (froom S′.mir l₀ 0) ∷ ‵ (fdies S′.mir l₀)
+        Checked = ‵ (froom tyPtr l₁₁ 0) ∷ ‵ (fdies tyPtr l₁₁) ∷ ‵ (froom word l₁₀ 0) ∷ ‵ (fdies word l₁₀) ∷ ‵ (froom R′.mir l₉ 0) ∷ ‵ (fdies R′.mir l₉) ∷ ‵ (froom tyBool l₈ 0) ∷ ‵ (fdies tyBool l₈)
+            ∷ ‵ (fat fullShare word l₇ 0 (vint w64 (length ys))) ∷ ‵ (fdies word l₇) ∷ ‵ (froom K′.mir l₆ 0) ∷ ‵ (fdies K′.mir l₆) ∷ ‵ (froom word l₅ 0) ∷ ‵ (fdies word l₅) ∷ ‵ (froom word l₄ 0) ∷ ‵ (fdies word l₄)
+            ∷ ‵ (fat fullShare S′.mir l₃ 0 u) ∷ ‵ (fdies S′.mir l₃) ∷ ‵ (fat fullShare sliceR l₂ 0 vr) ∷ ‵ (fdies sliceR l₂) ∷ ‵ (fat fullShare sliceM l₁ 0 vm) ∷ ‵ (fdies sliceM l₁) ∷ ‵ (froom S′.mir l₀ 0) ∷ ‵ (fdies S′.mir l₀)
             ∷ ‵ (fobs γ (codedHoleys R.the-row .code (heres R.the-row ys))) ∷ ‵ (fbor κ′ (Held R.the-row (length ys) b o γ)) ∷ ‵ (flft κ′ q′) ∷ []
 
         -- from the call of `given` to the loop
@@ -305,24 +369,32 @@ module _ {M : Type 1} (𝓤 : URA M) (H : Heap 𝓤) (A : Atoms 𝓤) (W : Given
         counts =
             qed W (‵ (S.the-row .own r (u ∷ [])) ∷ (‵ (flft κ q) ⊛ ‵ ftrue) ∷ ‵ OwnM ∷ Checked) ∵ exec ! C Λ En body.t-3 (atRet En Post) $
             use1 W (raw (Count 𝓤 H A mem run .pre (to-given r u))) (goes-given r u) $
-            calls-at ! (fmOf 𝓤 H (W .laws) 𝓣) (Count 𝓤 H A mem run) known-given (to-given r u) (and-then ! (load ! (from ! (stop !)) (look ! 17 refl)) (no-more !)) (λ v.
+            calls-at ! (fmOf 𝓤 H (W .laws) 𝓣) (Count 𝓤 H A mem run) known-given (to-given r u) (and-then ! (load ! (from ! (stop !)) (look ! 19 refl)) (no-more !)) (λ v.
             use1 W (later (some (λ (n : ℕ). (‵ ftrue ⊛ ‵ (usize .own n (v ∷ []))) ⊛ raw (ensured 𝓤 H A given.ended (given.clauses 𝓤 H A mem run) tt (r, tt) tt n)))) (id⊢ 𝓤 _) $ await ! tt $ pick ! (λ n.
             split ! $ move ! (1 ∷ []) $ use1 W (raw (fact 𝓤 (n ≡ givenOf r))) (given-said r n) $ heard ! (n ≡ givenOf r) (λ en. split ! $ move ! (1 ∷ []) $
             peeks ! usize (Is usize) (shows 𝓤 H A usize) n (v ∷ []) (λ isn.
-            land ! (from ! (stop !)) (init ! 16 refl (uint-lawful 𝓤 H A W w64 .typed n _ isn .0)) $
-            rewrite ! 16 (λ (vs : List Val). ‵ (fat fullShare word l₄ 0 (only vs))) (isn .0) refl $
+            land ! (from ! (stop !)) (init ! 18 refl (uint-lawful 𝓤 H A W w64 .typed n _ isn .0)) $
+            rewrite ! 18 (λ (vs : List Val). ‵ (fat fullShare word l₄ 0 (only vs))) (isn .0) refl $
             drop ! $ drop ! $ split ! $ move ! (1 ∷ []) $ drop ! $
             -- [the token; what m owns; Checked, with n in _4]
-            assigns ! (of-opd ! (lit ! tt)) (from ! (stop !)) (init ! 12 refl (tt, record { fits = lit< tt })) $
-            move ! (24 ∷ 25 ∷ 26 ∷ []) $ opens-slice ! tt R.the-row ys b o $
+            assigns ! (of-opd ! (lit ! tt)) (from ! (stop !)) (init ! 14 refl (tt, record { fits = lit< tt })) $
+            use0 W (raw (First 𝓤 H A mem run .pre to-first)) goes-first $
+            calls-at ! (fmOf 𝓤 H (W .laws) 𝓣) (First 𝓤 H A mem run) known-first to-first (no-more !) (λ vc.
+            use1 W (later (some (λ (c : Cursor). (‵ ftrue ⊛ ‵ (K.the-row .own c (vc ∷ []))) ⊛ raw (ensured 𝓤 H A first.ended (first.clauses 𝓤 H A mem run) tt tt tt c)))) (id⊢ 𝓤 _) $ await ! tt $ pick ! (λ c.
+            split ! $ move ! (1 ∷ []) $ use1 W (raw (fact 𝓤 (c ≡ firstCursor))) (first-said c) $ heard ! (c ≡ firstCursor) (λ ec. split ! $ move ! (1 ∷ []) $
+            peeks ! K.the-row (Is K.the-row) (shows 𝓤 H A K.the-row) c (vc ∷ []) (λ isc.
+            land ! (from ! (stop !)) (init ! 14 refl (LL.lawful K.the-type K′.the-laws 𝓤 H A W .typed c _ isc .0)) $
+            drop ! $ drop ! $
+            move ! (26 ∷ 27 ∷ 28 ∷ []) $ opens-slice ! tt R.the-row ys b o $
             rewrite ! 0 (λ (l : List Row). ‵ (row R.the-row fullShare l b o)) (sym (filled-none (m .now) ys)) refl $ forget ! 14 refl $
-            keep ! (0 ∷ 16 ∷ 12 ∷ 10 ∷ 8 ∷ 6 ∷ 5 ∷ 4 ∷ 24 ∷ 22 ∷ 20 ∷ 18 ∷ 26 ∷ 14 ∷ 1 ∷ 2 ∷ 3 ∷ 27 ∷ 25 ∷ 23 ∷ 21 ∷ 19 ∷ 17 ∷ 15 ∷ 13 ∷ 11 ∷ 9 ∷ 7 ∷ []) $
-            by ! (loops n (en ∙ ap givenOf e) (subst (Within (m .now) (length ys)) (sym (en ∙ ap givenOf e)) (given-within (m .now) (length ys))))))))
+            keep ! (0 ∷ 18 ∷ 12 ∷ 10 ∷ 8 ∷ 6 ∷ 5 ∷ 4 ∷ 26 ∷ 24 ∷ 22 ∷ 20 ∷ 28 ∷ 14 ∷ 16 ∷ 1 ∷ 2 ∷ 3 ∷ 29 ∷ 27 ∷ 25 ∷ 23 ∷ 21 ∷ 19 ∷ 17 ∷ 15 ∷ 13 ∷ 11 ∷ 9 ∷ 7 ∷ []) $
+            by ! (loops n (en ∙ ap givenOf e) (subst (Within (m .now) (length ys)) (sym (en ∙ ap givenOf e)) (given-within (m .now) (length ys)))
+            vc (subst (λ (c : Cursor). Is K.the-row c (vc ∷ [])) (ec ∙ sym (cursor-none (m .now))) isc))))))))))
 
       -- the locals at the start of the body, what m owns with its token, and the borrow of the table with its token
       abbrev Entered : List (Item 𝓤)
-      Entered = ‵ (froom tyPtr l₁₀ 0) ∷ ‵ (fdies tyPtr l₁₀) ∷ ‵ (froom word l₉ 0) ∷ ‵ (fdies word l₉) ∷ ‵ (froom R′.mir l₈ 0) ∷ ‵ (fdies R′.mir l₈) ∷ ‵ (froom tyBool l₇ 0) ∷ ‵ (fdies tyBool l₇)
-          ∷ ‵ (froom word l₆ 0) ∷ ‵ (fdies word l₆) ∷ ‵ (froom word l₅ 0) ∷ ‵ (fdies word l₅) ∷ ‵ (froom word l₄ 0) ∷ ‵ (fdies word l₄) ∷ ‵ (froom S′.mir l₃ 0) ∷ ‵ (fdies S′.mir l₃)
+      Entered = ‵ (froom tyPtr l₁₁ 0) ∷ ‵ (fdies tyPtr l₁₁) ∷ ‵ (froom word l₁₀ 0) ∷ ‵ (fdies word l₁₀) ∷ ‵ (froom R′.mir l₉ 0) ∷ ‵ (fdies R′.mir l₉) ∷ ‵ (froom tyBool l₈ 0) ∷ ‵ (fdies tyBool l₈)
+          ∷ ‵ (froom word l₇ 0) ∷ ‵ (fdies word l₇) ∷ ‵ (froom K′.mir l₆ 0) ∷ ‵ (fdies K′.mir l₆) ∷ ‵ (froom word l₅ 0) ∷ ‵ (fdies word l₅) ∷ ‵ (froom word l₄ 0) ∷ ‵ (fdies word l₄) ∷ ‵ (froom S′.mir l₃ 0) ∷ ‵ (fdies S′.mir l₃)
           ∷ ‵ (fat fullShare sliceR l₂ 0 vr) ∷ ‵ (fdies sliceR l₂) ∷ ‵ (fat fullShare sliceM l₁ 0 vm) ∷ ‵ (fdies sliceM l₁) ∷ ‵ (froom S′.mir l₀ 0) ∷ ‵ (fdies S′.mir l₀)
           ∷ ‵ OwnM ∷ ‵ (flft κ q) ∷ ‵ (fobs γ (codedHoleys R.the-row .code (heres R.the-row ys))) ∷ ‵ (fbor κ′ (Held R.the-row (length ys) b o γ)) ∷ ‵ (flft κ′ q′) ∷ []
 
@@ -330,13 +402,13 @@ module _ {M : Type 1} (𝓤 : URA M) (H : Heap 𝓤) (A : Atoms 𝓤) (W : Given
       starts : ent 𝓤 (⋆ 𝓤 H A Entered) (Wp 𝓤 H C Λ En body.t-1 (atReturn 𝓤 H En Post))
       starts =
           qed W Entered ∵ exec ! C Λ En body.t-1 (atRet En Post) $
-          assigns ! (of-opd ! (load ! (from ! (fld ! refl (stop !))) (look-in ! 16 (sub ! 1 refl (whole !))))) (from ! (stop !)) (init ! 8 refl (tt, record { fits = room .0 })) $
-          move ! (22 ∷ 23 ∷ []) $ use1 W (‵ OwnM ⊛ ‵ OwnM) (shr-slice-copy 𝓤 H A W (named 0) κ u8 .twice m (vm ∷ [])) $ split ! $ move ! (0 ∷ 2 ∷ []) $ use2 W (raw (Check 𝓤 H A mem run .pre (to-both (length ys)))) (goes-both (length ys) (room .0)) $
-          calls-at ! (fmOf 𝓤 H (W .laws) 𝓣) (Check 𝓤 H A mem run) known-check (to-both (length ys)) (and-then ! (load ! (from ! (stop !)) (look ! 20 refl)) (and-then ! (load ! (from ! (stop !)) (look ! 10 refl)) (no-more !))) (λ u.
+          assigns ! (of-opd ! (load ! (from ! (fld ! refl (stop !))) (look-in ! 18 (sub ! 1 refl (whole !))))) (from ! (stop !)) (init ! 8 refl (tt, record { fits = room .0 })) $
+          move ! (24 ∷ 25 ∷ []) $ use1 W (‵ OwnM ⊛ ‵ OwnM) (shr-slice-copy 𝓤 H A W (named 0) κ u8 .twice m (vm ∷ [])) $ split ! $ move ! (0 ∷ 2 ∷ []) $ use2 W (raw (Check 𝓤 H A mem run .pre (to-both (length ys)))) (goes-both (length ys) (room .0)) $
+          calls-at ! (fmOf 𝓤 H (W .laws) 𝓣) (Check 𝓤 H A mem run) known-check (to-both (length ys)) (and-then ! (load ! (from ! (stop !)) (look ! 22 refl)) (and-then ! (load ! (from ! (stop !)) (look ! 10 refl)) (no-more !))) (λ u.
           use1 W (later (some (λ (r : Answer). ((‵ (flft κ q) ⊛ ‵ ftrue) ⊛ ‵ (S.the-row .own r (u ∷ []))) ⊛ raw (ensured 𝓤 H A check.ended (check.clauses 𝓤 H A mem run) (κ, tt) (m, (length ys, tt)) tt r)))) (id⊢ 𝓤 _) $ await ! tt $ pick ! (λ r.
           split ! $ move ! (1 ∷ []) $ use1 W (raw (fact 𝓤 (r ≡ spansOf (m .now) (length ys)))) (check-said r) $ heard ! (r ≡ spansOf (m .now) (length ys)) (λ e. split ! $ move ! (1 ∷ []) $
           peeks ! S.the-row (Is S.the-row) (shows 𝓤 H A S.the-row) r (u ∷ []) (λ is.
-          land ! (from ! (stop !)) (init ! 17 refl (EL.lawful S.the-type S′.the-laws 𝓤 H A W tt .typed r _ is .0)) $
+          land ! (from ! (stop !)) (init ! 19 refl (EL.lawful S.the-type S′.the-laws 𝓤 H A W tt .typed r _ is .0)) $
           by ! (counts r u is e)))))
 
     -- the whole function, from its entry
@@ -346,17 +418,18 @@ module _ {M : Type 1} (𝓤 : URA M) (H : Heap 𝓤) (A : Atoms 𝓤) (W : Given
         move ! (1 ∷ []) $ fsplit ! $ move ! (1 ∷ []) $ fsplit ! $ fsplit ! $ drop ! $ fsplit ! $ move ! (4 ∷ []) $ split3 ! $ keep ! (6 ∷ 0 ∷ 3 ∷ 4 ∷ 1 ∷ []) $
         -- [what m owns; its token; obs; the borrow; its token]
         enter ! C Λ function (vm ∷ vr ∷ []) _ $
-        alloc1 ! (λ l₀. alloc1 ! (λ l₁. alloc1 ! (λ l₂. alloc1 ! (λ l₃. alloc1 ! (λ l₄. alloc1 ! (λ l₅. alloc1 ! (λ l₆. alloc1 ! (λ l₇. alloc1 ! (λ l₈. alloc1 ! (λ l₉. alloc1 ! (λ l₁₀. alloc0 ! $ params1 ! $
-        pass1 ! (init ! 18 refl (shr-slice-lawful 𝓤 H A W (named 0) κ u8 .typed m (vm ∷ []) pm .0)) $ pass1 ! (init ! 16 refl (mut-slice-lawful 𝓤 H A W (named 1) κ′ R.the-row .typed (x ys) (vr ∷ []) pr .0)) $ pass0 ! $
-        by ! (starts (pr .0 .1) l₀ l₁ l₂ l₃ l₄ l₅ l₆ l₇ l₈ l₉ l₁₀))))))))))))
+        alloc1 ! (λ l₀. alloc1 ! (λ l₁. alloc1 ! (λ l₂. alloc1 ! (λ l₃. alloc1 ! (λ l₄. alloc1 ! (λ l₅. alloc1 ! (λ l₆. alloc1 ! (λ l₇. alloc1 ! (λ l₈. alloc1 ! (λ l₉. alloc1 ! (λ l₁₀. alloc1 ! (λ l₁₁. alloc0 ! $ params1 ! $
+        pass1 ! (init ! 20 refl (shr-slice-lawful 𝓤 H A W (named 0) κ u8 .typed m (vm ∷ []) pm .0)) $ pass1 ! (init ! 18 refl (mut-slice-lawful 𝓤 H A W (named 1) κ′ R.the-row .typed (x ys) (vr ∷ []) pr .0)) $ pass0 ! $
+        by ! (starts (pr .0 .1) l₀ l₁ l₂ l₃ l₄ l₅ l₆ l₇ l₈ l₉ l₁₀ l₁₁)))))))))))))
 
 module _ {M : Type 1} (𝓤 : URA M) (H : Heap 𝓤) (A : Atoms 𝓤) (W : Given 𝓤 H A) (mem : Memory → SProp 𝓤) (run : Routine → Fun 𝓤) (𝓣 : Tables 𝓤 H)
-    (known-check : Triple 𝓤 (𝓣 .C #check) (Check 𝓤 H A mem run)) (known-given : Triple 𝓤 (𝓣 .C #given) (Count 𝓤 H A mem run)) (known-row : Triple 𝓤 (𝓣 .C #row-at) (RowAt 𝓤 H A mem run)) where
+    (known-check : Triple 𝓤 (𝓣 .C #check) (Check 𝓤 H A mem run)) (known-given : Triple 𝓤 (𝓣 .C #given) (Count 𝓤 H A mem run))
+    (known-first : Triple 𝓤 (𝓣 .C #first) (First 𝓤 H A mem run)) (known-row : Triple 𝓤 (𝓣 .C #row-here) (RowHere 𝓤 H A mem run)) (known-next : Triple 𝓤 (𝓣 .C #next) (Next 𝓤 H A mem run)) where
   spans-walks : Walks 𝓤 H A spans.ended stayed (WpFn 𝓤 H (𝓣 .C) (𝓣 .Λ) code.function) (spans.clauses 𝓤 H A mem run)
   spans-walks = walked 𝓤 H A spans.ended stayed (spans.clauses 𝓤 H A mem run) (WpFn 𝓤 H (𝓣 .C) (𝓣 .Λ) code.function)
       (λ κs. (slice-vals, (slice-vals, tt))) (λ κs. (shr-slice-tells (named 0) (κs .0) u8, (mut-slice-tells (named 1) (κs .1 .0) R.the-row, tt)))
       (λ κs qs bounds a g are. via 𝓤 _ (fst∗ 𝓤 _ (emp 𝓤))
-      (walk 𝓤 H A W mem run (κs .0) (κs .1 .0) (qs .0) (qs .1 .0) (a .0) (a .1 .0 .ptr .0) (a .1 .0 .ptr .1) (a .1 .0 .name) (a .1 .0 .now) 𝓣 known-check known-given known-row (are .0) (are .1 .0)))
+      (walk 𝓤 H A W mem run (κs .0) (κs .1 .0) (qs .0) (qs .1 .0) (a .0) (a .1 .0 .ptr .0) (a .1 .0 .ptr .1) (a .1 .0 .name) (a .1 .0 .now) 𝓣 known-check known-given known-first known-row known-next (are .0) (are .1 .0)))
 
   spans-meets : Meets 𝓤 H A spans.signature (WpFn 𝓤 H (𝓣 .C) (𝓣 .Λ) code.function) (spans.spec 𝓤 H A mem run)
   spans-meets =
@@ -371,4 +444,6 @@ spans-spec 𝓤 H 𝓜 𝓖 𝓡 =
     (spans-meets 𝓤 H (𝓖 .A) (given-of 𝓤 H 𝓜 𝓖) (𝓜 .mem) (𝓡 .run) (tablesOf 𝓤 H 𝓜 (tables 𝓤 H 𝓜 𝓡 code.env))
     (cited 𝓤 H (Check 𝓤 H (𝓖 .A) (𝓜 .mem) (𝓡 .run)) 𝓜 𝓡 code.env #check check-def.routine code.calls-reader·rows·check (check-thm.met 𝓤 H 𝓜 𝓖 𝓡))
     (cited 𝓤 H (Count 𝓤 H (𝓖 .A) (𝓜 .mem) (𝓡 .run)) 𝓜 𝓡 code.env #given given-def.routine code.calls-reader·rows·given (given-thm.met 𝓤 H 𝓜 𝓖 𝓡))
-    (cited 𝓤 H (RowAt 𝓤 H (𝓖 .A) (𝓜 .mem) (𝓡 .run)) 𝓜 𝓡 code.env #row-at row-at-def.routine code.calls-reader·rows·row-at (row-at-thm.met 𝓤 H 𝓜 𝓖 𝓡)))
+    (cited 𝓤 H (First 𝓤 H (𝓖 .A) (𝓜 .mem) (𝓡 .run)) 𝓜 𝓡 code.env #first first-def.routine code.calls-walk·cursor·first (first-thm.met 𝓤 H 𝓜 𝓖 𝓡))
+    (cited 𝓤 H (RowHere 𝓤 H (𝓖 .A) (𝓜 .mem) (𝓡 .run)) 𝓜 𝓡 code.env #row-here row-here-def.routine code.calls-walk·cursor·row-here (row-here-thm.met 𝓤 H 𝓜 𝓖 𝓡))
+    (cited 𝓤 H (Next 𝓤 H (𝓖 .A) (𝓜 .mem) (𝓡 .run)) 𝓜 𝓡 code.env #next next-def.routine code.calls-walk·cursor·next (next-thm.met 𝓤 H 𝓜 𝓖 𝓡)))
