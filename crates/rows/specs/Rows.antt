@@ -1,10 +1,11 @@
 -- The caller's table with the first rows of a message stored, from none of them to all that the listing gives.
-use Prim.Native.Nat.{ℕ, suc, _<_}
+use Prim.Native.Nat.{ℕ, suc, _+_, _<_}
 use native.Mathlib.Omega.{arith}
 use mathlib.Core.Path.{_≡_, refl, sym, ap, _∙_}
 use mathlib.Core.Bool.{Bool, true, false}
 use mathlib.Core.List.{List, _++_}
-use lib.Dec.{ltb}
+use borrow.Author.Tests.{eqb-true}
+use lib.Dec.{eqb, ltb}
 use lib.ListN.{length, getD, set, take, drop, length-append, length-drop}
 use lib.Seq.{take-suc, take-all, length-take-le, drop-cons, set-at, append-snoc}
 use Rattle.annex.specs.Answers.{givenOf, roomAfter}
@@ -20,6 +21,13 @@ use Rattle.walk.specs.Ahead.{row-behind}
 -- the table with the first i rows of m stored
 unfoldable pub filled : List ℕ → List Row → ℕ → List Row
 filled m table i = take i (listed m) ++ drop i table
+
+-- what the code counts from, and by: the walk takes both numbers from the code, and here they are the right ones
+pub counts-from : (k : ℕ) → eqb k 0 ≡ true → k ≡ 0
+counts-from k e = eqb-true k 0 e
+
+pub counts-by : (i k : ℕ) → eqb k 1 ≡ true → i + k ≡ suc i
+counts-by i k e = let o : k ≡ 1 = eqb-true k 1 e in omega arith
 
 pub filled-none : (m : List ℕ) (table : List Row) → filled m table 0 ≡ table
 unfolding filled

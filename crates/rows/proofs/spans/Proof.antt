@@ -3,7 +3,6 @@
 -- are called their contracts alone.
 use mathlib.Core.Path.{_≡_, refl, sym, _∙_, ap, subst}
 use Prim.Native.Nat.{ℕ, zero, suc, _+_, _*_, _<_, _^_}
-use native.Mathlib.Numerals.{add-one}
 use native.Mathlib.Omega.{arith}
 use mathlib.Core.Bool.{Bool}
 use mathlib.Core.List.{List, [], _∷_}
@@ -57,7 +56,7 @@ use Rattle.annex.specs.declared.Answer.{Answer}
 use Rattle.laws.specs.Listed.{Within, given-within}
 use Rattle.walk.specs.Cursors.{firstCursor, rowHere, nextOf, cursorAt, cursor-none, cursor-more}
 use Rattle.walk.specs.declared.cursor.Cursor.{Cursor}
-use Rattle.rows.specs.Rows.{filled, filled-none, length-filled, filled-more, filled-all}
+use Rattle.rows.specs.Rows.{counts-from, counts-by, filled, filled-none, length-filled, filled-more, filled-all}
 use Rattle.annex.proofs.Row as R
 use Rattle.annex.proofs.Row.Laws as R′
 use Rattle.walk.proofs.cursor.Cursor as K
@@ -309,7 +308,7 @@ module _ {M : Type 1} (𝓤 : URA M) (H : Heap 𝓤) (A : Atoms 𝓤) (W : Given
               drop ! $ split ! $ move ! (1 ∷ []) $ drop ! $
               -- [the token; what m owns; the rows; _5; _8; _9; _10; _11; Frame]
               assigns-last ! (bin ! (load ! (from ! (stop !)) (look ! 3 refl)) (lit ! tt) (record { fits = omega (arith, room .1) })) (from ! (stop !)) (store ! 3 refl (tt, record { fits = omega (arith, room .1) })) $
-              rewrite ! 3 (λ (j : ℕ). ‵ (fat fullShare word l₅ 0 (vint w64 j))) (add-one i) refl $
+              rewrite ! 3 (λ (j : ℕ). ‵ (fat fullShare word l₅ 0 (vint w64 j))) (counts-by i _ refl) refl $
               forget ! 4 refl $ forget ! 5 refl $ forget ! 6 refl $ forget ! 7 refl $ move ! (2 ∷ 3 ∷ 4 ∷ 5 ∷ 6 ∷ 7 ∷ 1 ∷ 0 ∷ []) $
               by ! (k vz (subst (λ (c : Cursor). Is K.the-row c (vz ∷ [])) (ez ∙ sym (cursor-more (m .now) i)) isz)))))))))))
 
@@ -378,6 +377,7 @@ module _ {M : Type 1} (𝓤 : URA M) (H : Heap 𝓤) (A : Atoms 𝓤) (W : Given
             drop ! $ drop ! $ split ! $ move ! (1 ∷ []) $ drop ! $
             -- [the token; what m owns; Checked, with n in _4]
             assigns ! (of-opd ! (lit ! tt)) (from ! (stop !)) (init ! 14 refl (tt, record { fits = lit< tt })) $
+            rewrite ! 14 (λ (j : ℕ). ‵ (fat fullShare word l₅ 0 (vint w64 j))) (counts-from _ refl) refl $
             use0 W (raw (First 𝓤 H A mem run .pre to-first)) goes-first $
             calls-at ! (fmOf 𝓤 H (W .laws) 𝓣) (First 𝓤 H A mem run) known-first to-first (no-more !) (λ vc.
             use1 W (later (some (λ (c : Cursor). (‵ ftrue ⊛ ‵ (K.the-row .own c (vc ∷ []))) ⊛ raw (ensured 𝓤 H A first.ended (first.clauses 𝓤 H A mem run) tt tt tt c)))) (id⊢ 𝓤 _) $ await ! tt $ pick ! (λ c.
