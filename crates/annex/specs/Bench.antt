@@ -11,7 +11,7 @@ use Rattle.annex.specs.Items.{Part, plainItem, markedItem, numberItem, v
 use Rattle.annex.specs.Layout.{layoutItem, layoutItems, layoutPart, layout}
 use Rattle.annex.specs.Walk.{walk}
 use Rattle.annex.specs.Reading.{octetAllowed, commonForm, endOf, verdictOf, recordOf, transferBy, transfersVerdictBy, dataBy, commonBy, messageVerdictBy, verdictBy, commonsBy, transfersBy, openCommonBy, recordBy}
-use Rattle.annex.specs.Editing.{Edit, editRefusal, replaced, removed, editedItems, edited, recordEditing, editingOf, bufferOf}
+use Rattle.annex.specs.Editing.{Edit, editRefusal, instead, editedItems, edited, recordEditing, editingOf, bufferOf}
 use Rattle.annex.specs.Editing.Edit.{Replacing}
 use Rattle.annex.specs.declared.Answer.{Answer}
 use Rattle.annex.specs.declared.Answer.the-variants.{Accepted, Refused}
@@ -72,11 +72,11 @@ cases =
     Read (K ++ (0xC5 ∷ 0x03 ∷ 0x90 ∷ 0x01 ∷ 0x00 ∷ 0x00 ∷ [])) (Refused 13 6) [] ∷
     Read (K ++ (0xC5 ∷ 0x05 ∷ 0xD7 ∷ 0x03 ∷ 0x83 ∷ 0x11 ∷ 0x00 ∷ 0x00 ∷ [])) (Accepted 12)
     (valuePart 0x01 0x01 ∷ valuePart 0x06 0x11 ∷ dataPart (numberItem 0xD7 0x03 0x11 (0 ∷ []) ∷ []) ∷ []) ∷
-    Edited (Replacing (0x98 ∷ 0x02 ∷ 0x21 ∷ [])) M (Accepted 22)
+    Edited (Replacing (0x98 ∷ 0x02 ∷ 0x21 ∷ []) 0) M (Accepted 22)
     (0x01 ∷ 0x01 ∷ 0x83 ∷ 0x39 ∷ 0x30 ∷ 0x00 ∷ 0x04 ∷ 0x01 ∷ 0x06 ∷ 0x11 ∷ 0xC5 ∷ 0x09 ∷
     0x90 ∷ 0x04 ∷ 0x21 ∷ 0x3A ∷ 0x52 ∷ 0x81 ∷ 0x98 ∷ 0x02 ∷ 0x21 ∷ 0x00 ∷ 0x00 ∷ []) ∷ []
 
 -- what the definitions say of each case is what the table says
 pub bench : map asDefined cases ≡ cases
-unfolding afterOf leadOf commonExtentOf extentOf nameUsed pliRight oftenOf zeroesOf formOf halves joined digitOf codeOf isCode halvesFault digitsFault digitsOf packed numberFault callingFault genericFault dialledFault twoFault faultOf holdingOf itemOf contentsOf layoutItem layoutItems layoutPart layout walk transferBy transfersVerdictBy octetAllowed commonForm endOf dataBy commonBy messageVerdictBy verdictBy commonsBy transfersBy openCommonBy recordBy editRefusal replaced removed editedItems edited recordEditing editingOf bufferOf
+unfolding afterOf leadOf commonExtentOf extentOf nameUsed pliRight oftenOf zeroesOf formOf halves joined digitOf codeOf isCode halvesFault digitsFault digitsOf packed numberFault callingFault genericFault dialledFault twoFault faultOf holdingOf itemOf contentsOf layoutItem layoutItems layoutPart layout walk transferBy transfersVerdictBy octetAllowed commonForm endOf dataBy commonBy messageVerdictBy verdictBy commonsBy transfersBy openCommonBy recordBy editRefusal instead editedItems edited recordEditing editingOf bufferOf
 bench = refl

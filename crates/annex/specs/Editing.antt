@@ -1,6 +1,6 @@
 -- Editing in place: document 01, "Editing": the refusals in their order, the record so edited, and what the buffer then holds.
 use Prim.Native.Nat.{ℕ, _-_}
-use mathlib.Core.Bool.{Bool, cond, not}
+use mathlib.Core.Bool.{cond, not}
 use mathlib.Core.List.{List, [], _∷_, _++_, map}
 use lib.Dec.{eqb, ltb, leb}
 use lib.ListN.{length, getD, take, drop, replicate}
@@ -16,7 +16,7 @@ use Rattle.annex.specs.Answers.{
   andThen,
 }
 use Rattle.annex.specs.Units.{nameOf, afterOf, extentOf, contentsIn}
-use Rattle.annex.specs.Heads.{among, transfer-data, most-transfer-octets, oftenOf}
+use Rattle.annex.specs.Heads.{among, transfer-data, most-transfer-octets, oftenOf, kth}
 use Rattle.annex.specs.Contents.{faultOf}
 use Rattle.annex.specs.Items.{Item, Part, partWith, itemOf}
 use Rattle.annex.specs.Layout.{layoutItems, layout}
@@ -26,10 +26,12 @@ use Rattle.annex.specs.Writing.{headWriting}
 use Rattle.annex.specs.declared.Answer.{Answer}
 use Rattle.annex.specs.declared.Answer.the-variants.{Accepted, Refused}
 
--- an edit: a new parameter as octets, header first, in the place of the one of its name, or last in C5; or a name taken out
+-- an edit: a new parameter as octets, header first, in the place of one of its name, or last in C5; or one of a name taken out. Which of
+-- those with the name, counted from 0, is told behind it
 pub data Edit : Type 0 where
-  Replacing Appending : List ℕ → Edit
-  Removing : ℕ → Edit
+  Replacing : List ℕ → ℕ → Edit
+  Appending : List ℕ → Edit
+  Removing : ℕ → ℕ → Edit
 
 -- the header of new octets, and the octets after it
 abbrev pub newHeader : List ℕ → ℕ
@@ -40,10 +42,6 @@ newAfter new = drop 1 new
 
 abbrev pub newItem : List ℕ → Item
 newItem new = itemOf (newHeader new) (contentsIn (extentOf (newHeader new)) (newAfter new))
-
--- a name among the parameters
-abbrev pub present : ℕ → List Item → Bool
-present x is = among x (namesOf is)
 
 -- 11, 8 and 9 of the new octets' header
 abbrev pub newHead : List ℕ → Answer → Answer
@@ -60,29 +58,25 @@ newContents new =
 
 -- what the edit itself is refused for; the parameters are those of C5
 unfoldable pub editRefusal : Edit → List Item → Answer
-editRefusal (Replacing new) is =
-    newHead new (refuse (not (present (nameOf (newHeader new)) is)) absent 0 (newContents new))
+editRefusal (Replacing new which) is =
+    newHead new (refuse (leb (timesIn (nameOf (newHeader new)) (namesOf is)) which) absent 0 (newContents new))
 editRefusal (Appending new) is =
     newHead new
     (refuse (leb (oftenOf (nameOf (newHeader new))) (timesIn (nameOf (newHeader new)) (namesOf is))) repeated-name 0
     (newContents new))
-editRefusal (Removing x) is = refuse (not (present x is)) absent 0 (Accepted 0)
+editRefusal (Removing x which) is = refuse (leb (timesIn x (namesOf is)) which) absent 0 (Accepted 0)
 
--- the new parameter in the place of the one with its name
-unfoldable pub replaced : Item → List Item → List Item
-replaced new [] = []
-replaced new (i ∷ is) = cond (eqb (nameOf (i .header)) (nameOf (new .header))) (new ∷ is) (i ∷ replaced new is)
-
--- without the one that has the name x
-unfoldable pub removed : ℕ → List Item → List Item
-removed x [] = []
-removed x (i ∷ is) = cond (eqb (nameOf (i .header)) x) is (i ∷ removed x is)
+-- the parameters new in the place of the one with the number `which`, counted from 0, of those with the name x
+unfoldable pub instead : ℕ → ℕ → List Item → List Item → List Item
+instead x which new [] = []
+instead x which new (i ∷ is) =
+    cond (eqb x (nameOf (i .header))) (kth which (new ++ is) (λ k. i ∷ instead x k new is)) (i ∷ instead x which new is)
 
 -- the parameters so edited; an appended one comes last
 unfoldable pub editedItems : Edit → List Item → List Item
-editedItems (Replacing new) is = replaced (newItem new) is
+editedItems (Replacing new which) is = instead (nameOf (newHeader new)) which (newItem new ∷ []) is
 editedItems (Appending new) is = is ++ (newItem new ∷ [])
-editedItems (Removing x) is = removed x is
+editedItems (Removing x which) is = instead x which [] is
 
 abbrev pub editedPart : Edit → Part → Part
 editedPart e p = cond (eqb (p .header) transfer-data) (partWith (editedItems e (p .items)) p) p

@@ -7,7 +7,7 @@ use lib.Dec.{eqb}
 use lib.ListN.{length, take, drop}
 use Rattle.annex.specs.Answers.{startOf, stopOf, absent, andThen}
 use Rattle.annex.specs.Units.{nameOf, leadOf, extentOf, commonExtentOf}
-use Rattle.annex.specs.Heads.{end-mark, transfer-data}
+use Rattle.annex.specs.Heads.{end-mark, transfer-data, kth}
 use Rattle.annex.specs.Walk.{Par}
 use Rattle.annex.specs.Reading.{verdictOf, commonsOf, transfersOf, dataIn}
 use Rattle.annex.specs.declared.Extent.{Extent}
@@ -28,19 +28,21 @@ commonIn h (q ∷ qs) = cond (eqb (q .head) h) (stretchOf (commonExtentOf h) 0 q
 unfoldable pub commonFound : ℕ → List ℕ → Found
 commonFound h m = cond (eqb h end-mark) Nowhere (commonIn h (commonsOf m))
 
--- of the transfer parameter with the name x, in transfer data that starts at s
-unfoldable pub transferIn : ℕ → ℕ → List Par → Found
-transferIn x s [] = Nowhere
-transferIn x s (q ∷ qs) = cond (eqb (nameOf (q .head)) x) (stretchOf (extentOf (q .head)) s q) (transferIn x s qs)
+-- of a transfer parameter with the name x, the one with the number `which` of those, counted from 0, in transfer data that starts at s
+unfoldable pub transferIn : ℕ → ℕ → ℕ → List Par → Found
+transferIn x which s [] = Nowhere
+transferIn x which s (q ∷ qs) =
+    cond (eqb x (nameOf (q .head))) (kth which (stretchOf (extentOf (q .head)) s q) (λ k. transferIn x k s qs))
+    (transferIn x which s qs)
 
 -- in the parameters of a message: in those of its C5
-unfoldable pub transferAmong : ℕ → List Par → Found
-transferAmong x [] = Nowhere
-transferAmong x (q ∷ qs) =
-    cond (eqb (q .head) transfer-data) (transferIn x (q .place + 2) (transfersOf (dataIn q))) (transferAmong x qs)
+unfoldable pub transferAmong : ℕ → ℕ → List Par → Found
+transferAmong x which [] = Nowhere
+transferAmong x which (q ∷ qs) =
+    cond (eqb (q .head) transfer-data) (transferIn x which (q .place + 2) (transfersOf (dataIn q))) (transferAmong x which qs)
 
-unfoldable pub transferFound : ℕ → List ℕ → Found
-transferFound x m = transferAmong x (commonsOf m)
+unfoldable pub transferFound : ℕ → ℕ → List ℕ → Found
+transferFound x which m = transferAmong x which (commonsOf m)
 
 -- the second question: accepted, with where the contents start, or number and place
 abbrev pub foundAnswer : Found → Answer

@@ -1,6 +1,6 @@
 -- The headers and limits: document 01, "Common part" (the table of headers, the signal kinds) and "Transfer data" (the lists under
 -- PLI 01, PLI 10 and PLI 11, the names with no layout, the unused names).
-use Prim.Native.Nat.{ℕ, _+_, _*_, _%_}
+use Prim.Native.Nat.{ℕ, zero, suc, _+_, _*_, _%_}
 use mathlib.Core.Bool.{Bool, false, cond, not, _&&_, _||_}
 use mathlib.Core.List.{List, [], _∷_, map}
 use lib.Dec.{eqb}
@@ -76,6 +76,10 @@ most-commons = 6
 
 abbrev pub most-transfers : ℕ
 most-transfers = 52
+
+-- the rows of a message: its common parameters, the end mark and its transfer parameters
+abbrev pub most-rows : ℕ
+most-rows = most-commons + 1 + most-transfers
 
 abbrev pub most-transfer-octets : ℕ
 most-transfer-octets = 255
@@ -190,6 +194,11 @@ pliRight h = isFree h || among h (map headerOf heads)
 -- refusal 10: how often the name x may stand in the transfer data (house)
 unfoldable pub oftenOf : ℕ → ℕ
 oftenOf x = 1
+
+-- at one of those asked for, so many of which are still to be passed over: a where none is, else what comes with one fewer
+abbrev pub kth : {A : Type 0} → ℕ → A → (ℕ → A) → A
+kth zero a f = a
+kth (suc k) a f = f k
 
 -- a header in no list: no bits asked; digits under PLI 10, unless the name has no layout; else carried
 abbrev unlistedHead : ℕ → Head

@@ -47,13 +47,13 @@ FindCommonPromise m h r = r ≡ findPart m (commonFound h m)
 abbrev pub FindCommonAnswerPromise : List ℕ → ℕ → Answer → Type 0
 FindCommonAnswerPromise m h r = r ≡ findAnswer m (commonFound h m)
 
--- reader::finding::find_transfer
+-- reader::finding::find_transfer, of the first with the name
 abbrev pub FindTransferPromise : List ℕ → ℕ → List ℕ → Type 0
-FindTransferPromise m x r = r ≡ findPart m (transferFound x m)
+FindTransferPromise m x r = r ≡ findPart m (transferFound x 0 m)
 
 -- reader::finding::find_transfer_answer
 abbrev pub FindTransferAnswerPromise : List ℕ → ℕ → Answer → Type 0
-FindTransferAnswerPromise m x r = r ≡ findAnswer m (transferFound x m)
+FindTransferAnswerPromise m x r = r ≡ findAnswer m (transferFound x 0 m)
 
 -- reader::rows::check, listing::list
 abbrev pub SpansCheckPromise : List ℕ → ℕ → Answer → Type 0
@@ -113,7 +113,7 @@ TkFindCommonPromise m h r = r ≡ packedStretch (findAnswer m (commonFound h m))
 
 -- tk_find_transfer
 abbrev pub TkFindTransferPromise : List ℕ → ℕ → ℕ → Type 0
-TkFindTransferPromise m x r = r ≡ packedStretch (findAnswer m (transferFound x m)) (findPart m (transferFound x m))
+TkFindTransferPromise m x r = r ≡ packedStretch (findAnswer m (transferFound x 0 m)) (findPart m (transferFound x 0 m))
 
 -- tk_class
 abbrev pub TkClassPromise : ℕ → ℕ → ℕ → Type 0

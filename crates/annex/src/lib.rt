@@ -89,7 +89,7 @@ pub struct Message;
 impl Message {
     pub const MOST_OCTETS: usize = 272;
 
-    pub const MOST_ROWS: usize = 59;
+    pub const MOST_ROWS: usize = Common::MOST + 1 + Transfer::MOST;
 }
 
 // A common parameter. value: the octet of 01, 04 and 06, the number of 82 and 83. transfers: how many parameters a C5 holds.
@@ -439,10 +439,10 @@ impl Imaged {
     pub const TRANSFER_HEAD: usize = 11;
 }
 
-// What a parameter is found by: a common one by its header, a transfer one by its name.
+// What a parameter is found by: a common one by its header, a transfer one by its name and which of those with the name, counted from 0.
 pub enum Key {
     Header(u8),
-    Name(u8),
+    Name(u8, usize),
 }
 
 // Where a parameter or its contents stand: from an octet to before another.

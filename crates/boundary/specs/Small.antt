@@ -47,7 +47,7 @@ use Rattle.annex.specs.Reading.{transferStep, transfersVerdict, octetAllowed, w
 use Rattle.annex.specs.Packed.{oneNumber, packedAnswer, row-octets, octetSpans}
 use Rattle.annex.specs.Finding.{foundAnswer, foundPart, findAnswer, findPart}
 use Rattle.annex.specs.Spans.{rowsOf, spansOf}
-use Rattle.annex.specs.Editing.{Edit, newHeader, newAfter, newContents, present, editRefusal, edited, recordEditing, editingOf}
+use Rattle.annex.specs.Editing.{Edit, newHeader, newAfter, newContents, editRefusal, edited, recordEditing, editingOf}
 use Rattle.annex.specs.Editing.Edit.{Replacing, Appending, Removing}
 use Rattle.annex.specs.Classes.{ClassList, classLists, classBy, classIn, classOf}
 use Rattle.annex.specs.declared.Answer.{Answer}
@@ -230,13 +230,13 @@ new-place new =
 
 edit-place : (e : Edit) (is : List Item) → placeOf (editRefusal e is) ≤ 274
 unfolding editRefusal
-edit-place (Replacing new) is =
+edit-place (Replacing new which) is =
     let h = newHeader new in
-    place-four (eqb (length new) 0) (not (nameUsed h)) (not (pliRight h)) (not (present (nameOf h) is)) cut-contents unused-name other-pli absent 274 (newContents new) (new-place new)
+    place-four (eqb (length new) 0) (not (nameUsed h)) (not (pliRight h)) (leb (timesIn (nameOf h) (namesOf is)) which) cut-contents unused-name other-pli absent 274 (newContents new) (new-place new)
 edit-place (Appending new) is =
     let h = newHeader new in
     place-four (eqb (length new) 0) (not (nameUsed h)) (not (pliRight h)) (leb (oftenOf (nameOf h)) (timesIn (nameOf h) (namesOf is))) cut-contents unused-name other-pli repeated-name 274 (newContents new) (new-place new)
-edit-place (Removing x) is = place-refuse (not (present x is)) absent 0 274 (Accepted 0) (omega arith) (omega arith)
+edit-place (Removing x which) is = place-refuse (leb (timesIn x (namesOf is)) which) absent 0 274 (Accepted 0) (omega arith) (omega arith)
 
 record-place : (e : Edit) (r : List Part) (room : ℕ) → placeOf (recordEditing e r room) ≤ 274
 unfolding recordEditing

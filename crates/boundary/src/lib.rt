@@ -197,7 +197,7 @@ pub extern "C" fn tk_find_common(message: &[u8], header: u8) -> u64
 pub extern "C" fn tk_find_transfer(message: &[u8], name: u8) -> u64
     ensures { λ r. ⌜ TkFindTransferPromise (now (message .entry)) name r ⌝ }
 {
-    let found = find_both(message, Key::Name(name));
+    let found = find_both(message, Key::Name(name, 0));
     let a = found.answer;
     pack_stretch(a, found.len)
 }
@@ -217,7 +217,7 @@ pub extern "C" fn tk_class(header: u8, octet: u8) -> u64
 // The parameter of the new octets in the place of the one with its name, in the message that the buffer's first n octets hold.
 #[no_mangle]
 pub extern "C" fn tk_replace(buffer: &mut [u8], n: usize, new: &[u8]) -> u64
-    ensures { λ r. ⌜ TkEditPromise (Replacing (now (new .entry))) (now (buffer .entry)) n r (now (buffer .exit)) ⌝ }
+    ensures { λ r. ⌜ TkEditPromise (Replacing (now (new .entry)) 0) (now (buffer .entry)) n r (now (buffer .exit)) ⌝ }
 {
     pack_answer(replace(buffer, n, new))
 }
@@ -233,7 +233,7 @@ pub extern "C" fn tk_append(buffer: &mut [u8], n: usize, new: &[u8]) -> u64
 // The parameter with this name taken out.
 #[no_mangle]
 pub extern "C" fn tk_remove(buffer: &mut [u8], n: usize, name: u8) -> u64
-    ensures { λ r. ⌜ TkEditPromise (Removing name) (now (buffer .entry)) n r (now (buffer .exit)) ⌝ }
+    ensures { λ r. ⌜ TkEditPromise (Removing name 0) (now (buffer .entry)) n r (now (buffer .exit)) ⌝ }
 {
     pack_answer(remove(buffer, n, name))
 }

@@ -8,7 +8,7 @@ use mathlib.Core.List.{List, [], _∷_, _++_, append-assoc}
 use lib.ListN.{length, take, drop, length-append}
 use lib.Seq.{take-at, drop-at}
 use Rattle.annex.specs.Units.{nameOf}
-use Rattle.annex.specs.Heads.{among, transfer-data}
+use Rattle.annex.specs.Heads.{among, transfer-data, oftenOf}
 use Rattle.annex.specs.Allowed.{every, isOctet, headersOf, itemsIn}
 use Rattle.annex.specs.Reading.{transfersVerdict, recordOf}
 use Rattle.annex.specs.Editing.{newHeader}
@@ -41,25 +41,27 @@ free-end l Nowhere from to g = (cc, cc)
 
 -- where the edit is made and what it brings, by what its theorem tells: the parameter old is taken out, or old is empty and the last
 module _ (m front old put back : List ℕ) (s j from to : ℕ) (v : transfersVerdict (front ++ (old ++ back)) ≡ Accepted j) where
-  stood : (x : ℕ) → Stands x m (front ++ (old ++ back)) s (length front) old → wholeSearch x (front ++ (old ++ back)) ≡ At from to → (from ≡ length front) × (to ≡ length front + length old)
-  stood x w f =
-      let g : At (length front) (length front + length old) ≡ At from to = sym (whole-stands x m (front ++ (old ++ back)) s (length front) old j v w) ∙ f in
+  stood : (x which : ℕ) → Stands x which m (front ++ (old ++ back)) s (length front) old
+      → wholeSearch x which (front ++ (old ++ back)) ≡ At from to → (from ≡ length front) × (to ≡ length front + length old)
+  stood x which w f =
+      let g : At (length front) (length front + length old) ≡ At from to = sym (whole-stands x which m (front ++ (old ++ back)) s (length front) old j v w) ∙ f in
       (cc, cc)
 
   spot-is : (k : Kind) (new : List ℕ) → Brings k new → Told (editOf k new) m (front ++ (old ++ back)) s (length front) old put back → spotIn k new (front ++ (old ++ back)) ≡ At from to → (from ≡ length front) × (to ≡ length front + length old) × (new ≡ put)
-  spot-is kind.Replacing new b w f = let q = stood (nameOf (newHeader new)) (w .1) f in (q .0, q .1, sym (w .0))
+  spot-is (kind.Replacing which) new b w f = let q = stood (nameOf (newHeader new)) which (w .1) f in (q .0, q .1, sym (w .0))
   spot-is kind.Appending new b w f =
-      let g = free-end (length (front ++ (old ++ back))) (wholeSearch (nameOf (newHeader new)) (front ++ (old ++ back))) from to f in
+      let x = nameOf (newHeader new) in
+      let g = free-end (length (front ++ (old ++ back))) (wholeSearch x (oftenOf x - 1) (front ++ (old ++ back))) from to f in
       let o = ap length (w .1) in
       let r = ap length (w .2) in
       let l : length (front ++ (old ++ back)) ≡ length front + length old + length back = simp length-append (omega arith) in
       (omega (arith, g .0), omega (arith, g .1), sym (w .0))
-  spot-is (kind.Removing x) new b w f = let q = stood x (w .1) f in (q .0, q .1, b ∙ sym (w .0))
+  spot-is (kind.Removing x which) new b w f = let q = stood x which (w .1) f in (q .0, q .1, b ∙ sym (w .0))
 
 of-octets : (k : Kind) (new : List ℕ) → every isOctet new ≡ true → OfOctets (editOf k new)
-of-octets kind.Replacing new o = o
+of-octets (kind.Replacing which) new o = o
 of-octets kind.Appending new o = o
-of-octets (kind.Removing x) new o = tt
+of-octets (kind.Removing x which) new o = tt
 
 -- every step but the last is accepted; the transfer data was found from s to before t, and the spot in it from a to before z
 pub cut : (k : Kind) (new d : List ℕ) (n s t a z j : ℕ) → Brings k new → every isOctet new ≡ true → Data d n s t → spotIn k new (take (t - s) (drop s d)) ≡ At a z → ownAnswer k new (take (t - s) (drop s d)) ≡ Accepted j → Cut (editOf k new) d n s t a z new

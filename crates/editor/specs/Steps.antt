@@ -2,17 +2,17 @@
 use Prim.Native.Nat.{ℕ, _-_, _≤_}
 use native.Mathlib.Omega.{arith}
 use mathlib.Core.Path.{_≡_, refl, sym, ap, _∙_}
-use mathlib.Core.Bool.{true, cond, not}
+use mathlib.Core.Bool.{Bool, true, false, cond, not}
 use mathlib.Core.List.{List, [], _∷_}
-use lib.Dec.{eqb, ltb}
+use lib.Dec.{eqb, leb, ltb}
 use lib.ListN.{length, take, drop, length-take}
 use lib.Seq.{take-take}
-use borrow.Author.Tests.{le-ltb, ne-eqb}
+use borrow.Author.Tests.{leb-true, leb-false, lt-ltb, le-ltb, ne-eqb}
 use Rattle.annex.specs.Answers.{repeated-name, transfer-over, no-room, absent, refuse, andThen}
 use Rattle.annex.specs.Units.{nameOf}
-use Rattle.annex.specs.Heads.{among, transfer-data, most-transfer-octets}
+use Rattle.annex.specs.Heads.{among, transfer-data, most-transfer-octets, oftenOf}
 use Rattle.annex.specs.Layout.{layoutItems, layout}
-use Rattle.annex.specs.Allowed.{every, isOctet, headersOf, itemsIn}
+use Rattle.annex.specs.Allowed.{every, timesIn, isOctet, headersOf, itemsIn, namesOf}
 use Rattle.annex.specs.Reading.{verdictOf, recordOf}
 use Rattle.annex.specs.Finding.{transferFound}
 use Rattle.annex.specs.Editing.{Edit, newHeader, newHead, newContents, editRefusal, recordEditing, editingOf}
@@ -37,38 +37,39 @@ use Rattle.editor.specs.Whole.{wholeSearch, whole-there}
 
 -- the edit of a kind that brings these octets; a removal brings none
 abbrev pub editOf : Kind → List ℕ → Edit
-editOf kind.Replacing new = Replacing new
+editOf (kind.Replacing which) new = Replacing new which
 editOf kind.Appending new = Appending new
-editOf (kind.Removing x) new = Removing x
+editOf (kind.Removing x which) new = Removing x which
 
 abbrev pub Brings : Kind → List ℕ → Type 0
-Brings kind.Replacing new = Unit {0}
+Brings (kind.Replacing which) new = Unit {0}
 Brings kind.Appending new = Unit {0}
-Brings (kind.Removing x) new = new ≡ []
+Brings (kind.Removing x which) new = new ≡ []
 
 -- ---- the steps
 
 -- what is brought has a header, in use, under its PLI: 11, 8, 9
 abbrev pub headAnswer : Kind → List ℕ → Answer
-headAnswer kind.Replacing new = newHead new (Accepted 0)
+headAnswer (kind.Replacing which) new = newHead new (Accepted 0)
 headAnswer kind.Appending new = newHead new (Accepted 0)
-headAnswer (kind.Removing x) new = Accepted 0
+headAnswer (kind.Removing x which) new = Accepted 0
 
--- where in the transfer data t an edit is made: at the whole parameter of its name; if it appends, at the end, unless the name stands in t
+-- where in the transfer data t an edit is made: at the whole parameter that it is told; if it appends, at the end, unless the last of the
+-- name that may stand in t does
 abbrev pub freeEnd : ℕ → Found → Found
 freeEnd l (At s e) = Nowhere
 freeEnd l Nowhere = At l l
 
 abbrev pub spotIn : Kind → List ℕ → List ℕ → Found
-spotIn kind.Replacing new t = wholeSearch (nameOf (newHeader new)) t
-spotIn kind.Appending new t = freeEnd (length t) (wholeSearch (nameOf (newHeader new)) t)
-spotIn (kind.Removing x) new t = wholeSearch x t
+spotIn (kind.Replacing which) new t = wholeSearch (nameOf (newHeader new)) which t
+spotIn kind.Appending new t = freeEnd (length t) (wholeSearch (nameOf (newHeader new)) (oftenOf (nameOf (newHeader new)) - 1) t)
+spotIn (kind.Removing x which) new t = wholeSearch x which t
 
--- nowhere to make the edit: the name of a replacement or removal does not stand there, that of an addition does
+-- nowhere to make the edit: what is to be replaced or removed does not stand there, the last that may have the name of an addition does
 abbrev pub noSpot : Kind → ℕ
-noSpot kind.Replacing = absent
+noSpot (kind.Replacing which) = absent
 noSpot kind.Appending = repeated-name
-noSpot (kind.Removing x) = absent
+noSpot (kind.Removing x which) = absent
 
 abbrev pub spotAnswer : Kind → Found → Answer → Answer
 spotAnswer k (At s e) a = a
@@ -117,6 +118,14 @@ head-then : (new : List ℕ) (f : Answer → Answer) → newHead new (f (newCont
 head-then [] f = refl
 head-then (h ∷ xs) f = rw (ne-eqb (length (h ∷ xs)) 0 (λ e. omega arith)) (simp refuse-then)
 
+-- a name stands no oftener than so many times, or it stands oftener
+times-test : (a b : ℕ) → leb a b ≡ not (ltb b a)
+times-test a b = go (leb a b) refl
+  where
+    go : (t : Bool) → leb a b ≡ t → t ≡ not (ltb b a)
+    go true e = rw (le-ltb b a (leb-true a b e))
+    go false e = rw (lt-ltb b a (leb-false a b e))
+
 found-moved : (s : ℕ) (f : Found) → isFound (moved s f) ≡ isFound f
 found-moved s (At a e) = refl
 found-moved s Nowhere = refl
@@ -137,28 +146,33 @@ module _ (d : List ℕ) (n j : ℕ) (o : every isOctet d ≡ true) (v : verdictO
         let l : t ≤ n = omega (arith, common-inside transfer-data (take n d) .at s t f .1, length-take n d) in
         from-to s t (take n d) ∙ ap (drop s) (take-take t n d l) ∙ sym (from-to s t d)
 
-    -- a name is found whole in it where finding finds its contents
-    name-held : (x : ℕ) → isFound (transferFound x (take n d)) ≡ isFound (wholeSearch x (take (t - s) (drop s d)))
-    name-held x =
-        rw (transfer-plain x (take n d) j v, f, found-moved s (transferSearch x (take (t - s) (drop s (take n d)))), data-part)
-        (whole-there x (take (t - s) (drop s d)))
+    -- a parameter is found whole in it where finding finds its contents
+    name-held : (x which : ℕ) → isFound (transferFound x which (take n d)) ≡ isFound (wholeSearch x which (take (t - s) (drop s d)))
+    name-held x which =
+        rw (transfer-plain x which (take n d) j v, f, found-moved s (transferSearch x which (take (t - s) (drop s (take n d)))), data-part)
+        (whole-there x which (take (t - s) (drop s d)))
+
+    -- and not where the name stands no oftener
+    name-lacks : (x which : ℕ)
+        → leb (timesIn x (namesOf (itemsIn (recordOf (take n d))))) which ≡ not (isFound (wholeSearch x which (take (t - s) (drop s d))))
+    name-lacks x which = times-test _ which ∙ ap not (sym (name-there x which (take n d) octets-held j v) ∙ name-held x which)
 
     pub own-steps : (k : Kind) (new : List ℕ) → Brings k new → editRefusal (editOf k new) (itemsIn (recordOf (take n d))) ≡ ownAnswer k new (take (t - s) (drop s d))
     unfolding editRefusal
-    own-steps kind.Replacing new b =
+    own-steps (kind.Replacing which) new b =
         let x = nameOf (newHeader new) in
-        let w = wholeSearch x (take (t - s) (drop s d)) in
-        let p = sym (name-there x (take n d) octets-held j v) ∙ name-held x in
-        rw (p, found-refuse kind.Replacing w (newContents new) refl) (head-then new (spotAnswer kind.Replacing w))
+        let k = kind.Replacing which in
+        let w = wholeSearch x which (take (t - s) (drop s d)) in
+        rw (name-lacks x which, found-refuse k w (newContents new) refl) (head-then new (spotAnswer k w))
     own-steps kind.Appending new b =
         let x = nameOf (newHeader new) in
-        let w = wholeSearch x (take (t - s) (drop s d)) in
+        let last = oftenOf x - 1 in
+        let w = wholeSearch x last (take (t - s) (drop s d)) in
         let l = length (take (t - s) (drop s d)) in
-        let p = sym (often-there x (take n d) octets-held j v) ∙ name-held x in
+        let p = sym (often-there x (take n d) octets-held j v) ∙ name-held x last in
         rw (p, free-refuse l w (newContents new)) (head-then new (spotAnswer kind.Appending (freeEnd l w)))
-    own-steps (kind.Removing x) new b =
-        let p = sym (name-there x (take n d) octets-held j v) ∙ name-held x in
-        rw (p, b) (found-refuse (kind.Removing x) (wholeSearch x (take (t - s) (drop s d))) (Accepted 0) refl)
+    own-steps (kind.Removing x which) new b =
+        rw (name-lacks x which, b) (found-refuse (kind.Removing x which) (wholeSearch x which (take (t - s) (drop s d))) (Accepted 0) refl)
 
 module _ (k : Kind) (new : List ℕ) (b : Brings k new) (d : List ℕ) (n : ℕ) where
   record-steps : (j : ℕ) → every isOctet d ≡ true → verdictOf (take n d) ≡ Accepted j → recordEditing (editOf k new) (recordOf (take n d)) (length d) ≡ dataAnswer k new d n (commonPlain transfer-data (take n d))

@@ -6,6 +6,7 @@ use annex::Key;
 use parameter::contents::contents_fault;
 use parameter::contents::octet_at;
 use parameter::heads::name_used;
+use parameter::heads::often_of;
 use parameter::heads::pli_right;
 use parameter::units::extent_of;
 use parameter::units::lead;
@@ -17,11 +18,12 @@ ghost use Rattle.annex.specs.Promises.{Gives};
 ghost use Rattle.annex.specs.declared.Answer.the-variants.{Accepted};
 ghost use Rattle.editor.specs.Steps.{headAnswer, spotIn, noSpot, contentsAnswer};
 
-// The kinds of edit. One that removes is told the name, the others have it in the octets that they bring.
+// The kinds of edit. One that removes is told the name, the others have it in the octets that they bring; one that replaces or removes is
+// told which of those with the name, counted from 0.
 pub enum Kind {
-    Replacing,
+    Replacing(usize),
     Appending,
-    Removing(u8),
+    Removing(u8, usize),
 }
 
 // A new parameter's header: 11 if there is none, 8, 9.
@@ -46,9 +48,9 @@ pub fn head_answer(kind: Kind, new: &[u8]) -> Answer
     ensures { λ r. ⌜ Gives (headAnswer kind (now (new .entry))) r ⌝ }
 {
     match kind {
-        Kind::Replacing => new_head(new),
+        Kind::Replacing(_) => new_head(new),
         Kind::Appending => new_head(new),
-        Kind::Removing(_) => Answer::Accepted(0),
+        Kind::Removing(_, _) => Answer::Accepted(0),
     }
 }
 
@@ -73,21 +75,23 @@ pub fn contents_answer(new: &[u8]) -> Answer
     }
 }
 
-// Where in the transfer data t an edit is made: at the whole parameter of its name; if it appends, at the end, unless the name stands in t.
+// Where in the transfer data t an edit is made: at the whole parameter that it is told; if it appends, at the end, unless the last of the
+// name that may stand in t does.
 pub fn spot_in(t: &[u8], kind: Kind, new: &[u8]) -> Found
     ensures { λ r. ⌜ Gives (spotIn kind (now (new .entry)) (now (t .entry))) r ⌝ }
 {
     let name = octet_at(new, 0) % 64;
     match kind {
-        Kind::Replacing => search(t, Key::Name(name)),
+        Kind::Replacing(which) => search(t, Key::Name(name, which)),
         Kind::Appending => {
-            let Found::Nowhere = search(t, Key::Name(name)) else {
+            let last = (often_of(name) - 1) as usize;
+            let Found::Nowhere = search(t, Key::Name(name, last)) else {
                 return Found::Nowhere;
             };
             let end = t.len();
             Found::At(end, end)
         }
-        Kind::Removing(x) => search(t, Key::Name(x)),
+        Kind::Removing(x, which) => search(t, Key::Name(x, which)),
     }
 }
 
@@ -96,8 +100,8 @@ pub fn no_spot(kind: Kind) -> u8
     ensures { λ r. ⌜ Gives (noSpot kind) r ⌝ }
 {
     match kind {
-        Kind::Replacing => Answer::ABSENT,
+        Kind::Replacing(_) => Answer::ABSENT,
         Kind::Appending => Answer::REPEATED_NAME,
-        Kind::Removing(_) => Answer::ABSENT,
+        Kind::Removing(_, _) => Answer::ABSENT,
     }
 }

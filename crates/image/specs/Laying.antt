@@ -9,7 +9,7 @@ use lib.Dec.{eqb}
 use lib.ListN.{length, take, drop, length-drop}
 use lib.Seq.{length-take-le}
 use Rattle.annex.specs.Answers.{over-limits, no-room, refuse}
-use Rattle.annex.specs.Heads.{transfer-data}
+use Rattle.annex.specs.Heads.{transfer-data, most-transfers}
 use Rattle.annex.specs.Items.{Item, part, valuePart}
 use Rattle.annex.specs.Allowed.{Each, every, isOctet}
 use Rattle.annex.specs.Records.{headOf, transferCount, transfersSum, commonsIn, isWhole, view, commonHead}
@@ -95,7 +95,7 @@ pub record PartTurn (q : Record) (k j : ℕ) : Type 0 where
   pub within : Within q (j + ownCommon (commonAt q k) .transfers)
   pub octets : imageParts (partsAt q k j) ≡ partOctets (ownCommon (commonAt q k)) (itemsAt q j (ownCommon (commonAt q k) .transfers)) ++ imageParts (partsAt q (k + 1) (j + ownCommon (commonAt q k) .transfers))
 
-pub part-turn : (q : Record) (k j : ℕ) → k < q .commons → q .commons ≤ length (q .common) → length (q .transfer) ≡ 52 → Whole q → j + transfersAt q k ≡ transfersSum (commonsIn q) → PartTurn q k j
+pub part-turn : (q : Record) (k j : ℕ) → k < q .commons → q .commons ≤ length (q .common) → length (q .transfer) ≡ most-transfers → Whole q → j + transfersAt q k ≡ transfersSum (commonsIn q) → PartTurn q k j
 unfolding imageParts
 part-turn q k j h l t w e =
     let c = commonAt q k in

@@ -8,7 +8,7 @@ use borrow.Author.Tests.{lt-ltb}
 use lib.Dec.{eqb}
 use lib.ListN.{length, take, drop, length-append, length-take, length-drop}
 use lib.Seq.{length-take-le}
-use Rattle.annex.specs.Heads.{transfer-data}
+use Rattle.annex.specs.Heads.{transfer-data, most-transfers}
 use Rattle.annex.specs.Heads.Marks.{Unmarked, Notified, Verified, Typed}
 use Rattle.annex.specs.Items.{Item, Part, Holding, heldAs, ownBy, ownOf, part, valuePart}
 use Rattle.annex.specs.Items.Holding.{AsContents, AsDigits, AsNumber, AsGeneric}
@@ -60,7 +60,7 @@ values-view (t ∷ ts) vs h =
     rw (own-values (rawItem t own), length-append own (valuesOf rest))
     (omega (arith, l, values-view ts (drop (t .len) vs) (rw (length-drop (t .len) vs) (omega arith))))
 
-pub image-length : (q : Record) → Whole q → length (q .common) ≡ 6 → length (q .transfer) ≡ 52 → length (q .values) ≡ 512 →
+pub image-length : (q : Record) → Whole q → length (q .common) ≡ 6 → length (q .transfer) ≡ most-transfers → length (q .values) ≡ 512 →
     let n = transfersSum (commonsIn q) in
     length (imageOf (view q)) ≡ 1 + (6 * q .commons + 11 * n) + usedAt q n
 unfolding imageOf lengthsOf
@@ -134,7 +134,7 @@ parts-octets (p ∷ r) h =
 -- what the struct has by its types, as far as its image needs it
 pub record FitsImage (q : Record) : Type 0 where
   pub commons-long : length (q .common) ≡ 6
-  pub transfers-long : length (q .transfer) ≡ 52
+  pub transfers-long : length (q .transfer) ≡ most-transfers
   pub values-long : length (q .values) ≡ 512
   pub common-counts : Each OctetCounts (q .common)
   pub transfer-heads : Each OctetHead (q .transfer)

@@ -9,6 +9,7 @@ use reader::reading::empty;
 ghost use mathlib.Core.Path.{_≡_};
 ghost use Prim.Native.Nat.{_≤_};
 ghost use lib.ListN.{length};
+ghost use Rattle.annex.specs.Heads.{most-transfers};
 ghost use Rattle.annex.specs.Image.{headFront, itemsFront, commonFront, partsFront, noImage, imagedBy};
 ghost use Rattle.annex.specs.Promises.{FromImagePromise};
 ghost use Rattle.image.specs.Filling.{fitsAt, unfilled, filledBy};
@@ -93,7 +94,7 @@ fn takes(s: &[u8], k: usize, used: usize) -> bool
 
 // So many transfer parameters at the front, put into the struct behind those that it has.
 fn with_transfers(begun: Record, s: &[u8], count: usize, transfers: usize, taken: usize) -> Filled
-    requires { ⌜ (transfers ≤ 52) × (taken ≤ 512) ⌝ }
+    requires { ⌜ (transfers ≤ most-transfers) × (taken ≤ 512) ⌝ }
     ensures { λ r. ⌜ r ≡ filledBy begun transfers taken 0 (itemsFront count (now (s .entry))) ⌝ }
 {
     let mut q = begun;

@@ -1,24 +1,26 @@
--- Laws of how many there are: a name that may stand only so often bounds what is listed. Hence at most 52 parameters in transfer data,
--- and at most 59 rows of a message.
+-- Laws of how many there are: a name that may stand only so often bounds what is listed. Hence so many parameters in transfer data,
+-- and so many rows of a message.
 use mathlib.Core.Path.{_≡_, refl, _∙_}
 use mathlib.Core.Bool.{Bool, true, false, cond}
 use mathlib.Core.List.{List, [], _∷_}
 use Prim.Native.Nat.{ℕ, zero, suc, _+_, _-_, _%_, _≤_, _<_}
+use native.Mathlib.Nat.{sub-zero}
 use native.Mathlib.Omega.{arith}
 use borrow.Author.Tests.{eqb-true, leb-true}
 use lib.Dec.{eqb, leb}
 use lib.ListN.{length, getD, set, take, length-set, length-append, length-map}
 use Rattle.annex.specs.Units.{nameOf}
-use Rattle.annex.specs.Heads.{among, listedHeaders, transfer-data, nameUsed, oftenOf, most-transfers}
+use Rattle.annex.specs.Heads.{among, listedHeaders, transfer-data, nameUsed, oftenOf, most-transfers, most-rows}
 use Rattle.annex.specs.Walk.{Seen, unseen, timesSeen, counted, Par, Step, byStep, walk, listing}
 use Rattle.annex.specs.Reading.{transferStep, transfersOf, commonStep, commonsOf, dataIn, commonsBy, transfersBy}
 use Rattle.annex.specs.Spans.{transferRows, innerRows, commonRows, rowsOf}
 use Rattle.annex.specs.declared.Answer.{Answer}
 use Rattle.annex.specs.declared.Answer.the-variants.{Accepted, Refused}
 use Rattle.annex.specs.Contents.{faultOf}
-use Rattle.laws.specs.Members.{among-every}
+use Rattle.laws.specs.Members.{among-every, sumOf, count}
+use Rattle.laws.specs.Often.{often-sum}
 use Rattle.laws.specs.Steps.{transfer-taken, common-taken}
-use Rattle.laws.specs.Rows.{sumOf, parAt, transfer-rows}
+use Rattle.laws.specs.Rows.{parAt, transfer-rows}
 
 -- ---- a listing spends what its names allow
 
@@ -73,14 +75,15 @@ transfer-spends seen p h xs n e =
     let t = transfer-taken faultOf _ h xs n e in
     rw (name-used h, t .used) (omega (arith, t .often))
 
-count : {A : Type 0} (xs : List A) → sumOf (λ x. 1) xs ≡ length xs
-count [] = refl
-count (x ∷ xs) = omega (arith, count xs)
+-- at the start all names in use allow as often as they may stand together
+all-allowed : allowance transferAllows 0 unseen ≤ most-transfers
+unfolding transferAllows allowance nameUsed
+all-allowed = simp sub-zero (omega (arith, often-sum))
 
 pub transfers-few : (t : List ℕ) → length (transfersOf t) ≤ most-transfers
-unfolding transfersBy transferAllows allowance nameUsed oftenOf
+unfolding transfersBy
 transfers-few t =
-    omega (arith, count (transfersOf t), spent transferAllows transferStep (λ q. 1) transfer-spends t unseen 0 0 refl)
+    omega (arith, count (transfersOf t), spent transferAllows transferStep (λ q. 1) transfer-spends t unseen 0 0 refl, all-allowed)
 
 -- ---- the rows of a message
 
@@ -116,7 +119,7 @@ unfolding commonRows
 length-rows [] = refl
 length-rows (q ∷ qs) = rw (length-append (innerRows q) (commonRows qs)) (omega (arith, length-rows qs))
 
--- no more than 59 of them
-pub rows-few : (m : List ℕ) → length (rowsOf m) ≤ 59
+-- no more of them
+pub rows-few : (m : List ℕ) → length (rowsOf m) ≤ most-rows
 unfolding rowsOf commonsBy commonAllows allowance
 rows-few m = omega (arith, length-rows (commonsOf m), spent commonAllows commonStep rowsIn common-spends m unseen 0 0 refl)

@@ -3,14 +3,14 @@
 use mathlib.Core.Path.{_≡_, refl, ap, _∙_}
 use mathlib.Core.Bool.{Bool, true, false, cond}
 use mathlib.Core.List.{List, [], _∷_}
-use Prim.Native.Nat.{ℕ, _+_, _-_, _≤_, _<_}
+use Prim.Native.Nat.{ℕ, zero, suc, _+_, _-_, _≤_, _<_}
 use native.Mathlib.Omega.{arith}
 use borrow.Author.Tests.{eqb-true}
 use lib.Dec.{eqb}
 use lib.ListN.{length, getD, take, drop, length-drop, length-take}
 use lib.Seq.{drop-drop, length-take-le}
 use Rattle.annex.specs.Units.{nameOf, afterOf, leadOf, extentOf, commonExtentOf}
-use Rattle.annex.specs.Heads.{end-mark, transfer-data}
+use Rattle.annex.specs.Heads.{end-mark, transfer-data, kth}
 use Rattle.annex.specs.Allowed.{Each}
 use Rattle.annex.specs.Walk.{Par}
 use Rattle.annex.specs.Reading.{transfersOf, verdictOf, dataIn}
@@ -40,28 +40,36 @@ use Rattle.laws.specs.Plain.{
   commons-inner,
 }
 
--- ---- the first parameter that a key asks for
+-- ---- the parameter that a key asks for
 
--- whether it asks for the header x, and what the PLI of x says
+-- whether it asks for the header x, which of those it asks for, and what the PLI of x says
 abbrev pub isSought : Key → ℕ → Bool
 isSought (Header h) x = eqb x h
-isSought (Name n) x = eqb (nameOf x) n
+isSought (Name n which) x = eqb n (nameOf x)
+
+abbrev pub whichOf : Key → ℕ
+whichOf (Header h) = 0
+whichOf (Name n which) = which
 
 abbrev pub extentBy : Key → ℕ → Extent
 extentBy (Header h) x = commonExtentOf x
-extentBy (Name n) x = extentOf x
+extentBy (Name n which) x = extentOf x
 
 -- a parameter from its header to its end
 abbrev wholeOf : Par → Found
 wholeOf q = At (q .place) (q .place + 1 + length (q .own))
 
-unfoldable pub firstIn : Key → List Par → Found
-firstIn k [] = Nowhere
-firstIn k (q ∷ qs) = cond (isSought k (q .head)) (wholeOf q) (firstIn k qs)
+-- behind so many that it asks for
+unfoldable pub soughtIn : Key → ℕ → List Par → Found
+soughtIn k which [] = Nowhere
+soughtIn k which (q ∷ qs) = cond (isSought k (q .head)) (kth which (wholeOf q) (λ w. soughtIn k w qs)) (soughtIn k which qs)
 
 -- in the octets t from the octet i on, by the length rule alone
-abbrev pub searchFrom : Key → ℕ → List ℕ → Found
-searchFrom k i t = firstIn k (pars (sizeBy (extentBy k)) 0 i (drop i t))
+abbrev pub searchFrom : Key → ℕ → ℕ → List ℕ → Found
+searchFrom k which i t = soughtIn k which (pars (sizeBy (extentBy k)) 0 i (drop i t))
+
+abbrev pub searchIn : Key → List ℕ → Found
+searchIn k t = searchFrom k (whichOf k) 0 t
 
 -- the contents of a parameter of t
 abbrev pub contentsAt : Key → List ℕ → Found → Found
@@ -69,22 +77,24 @@ contentsAt k t (At i e) = At (i + 1 + leadOf (extentBy k (getD t i 0))) e
 contentsAt k t Nowhere = Nowhere
 
 abbrev pub contentsFound : Key → List ℕ → Found
-contentsFound k t = contentsAt k t (searchFrom k 0 t)
+contentsFound k t = contentsAt k t (searchIn k t)
 
 -- ---- one turn of the search
 
-module _ (k : Key) (t : List ℕ) (i : ℕ) where
-  pub search-end : length t ≤ i → searchFrom k i t ≡ Nowhere
-  unfolding firstIn
+module _ (k : Key) (which : ℕ) (t : List ℕ) (i : ℕ) where
+  pub search-end : length t ≤ i → searchFrom k which i t ≡ Nowhere
+  unfolding soughtIn
   search-end h = rw (pars-end (sizeBy (extentBy k)) i i t h)
 
   module _ (x n : ℕ) (inside : i < length t) (next : x ≡ getD t (i + 1) 0) (told : n ≡ afterOf (extentBy k (getD t i 0)) x) where
-    pub search-cut : length t - (i + 1) < n → searchFrom k i t ≡ Nowhere
-    unfolding firstIn
+    pub search-cut : length t - (i + 1) < n → searchFrom k which i t ≡ Nowhere
+    unfolding soughtIn
     search-cut h = rw (pars-short (extentBy k) t i x n inside next told h)
 
-    pub search-turn : n ≤ length t - (i + 1) → searchFrom k i t ≡ cond (isSought k (getD t i 0)) (At i (i + 1 + n)) (searchFrom k (i + 1 + n) t)
-    unfolding firstIn
+    pub search-turn : n ≤ length t - (i + 1)
+        → searchFrom k which i t
+        ≡ cond (isSought k (getD t i 0)) (kth which (At i (i + 1 + n)) (λ w. searchFrom k w (i + 1 + n) t)) (searchFrom k which (i + 1 + n) t)
+    unfolding soughtIn
     search-turn h = rw (pars-next (extentBy k) t i x n inside next told h, length-take-le n (drop (i + 1) t) (rw length-drop h))
 
 -- ---- what is found lies within n octets
@@ -98,19 +108,22 @@ nowhere-inside n = record { at = λ s e f. absurd (let z : _≡_ {A = ℕ} 0 1 =
 at-inside : (n s e : ℕ) → s ≤ e → e ≤ n → Inside n (At s e)
 at-inside n s e h l = record { at = λ a b f. let p : s ≡ a = cc in let q : e ≡ b = cc in (omega arith, omega arith) }
 
-first-inside : (k : Key) (t : List ℕ) (qs : List Par) → Each (Lies (sizeBy (extentBy k)) t) qs → Inside (length t) (contentsAt k t (firstIn k qs))
-unfolding firstIn
-first-inside k t [] l = nowhere-inside (length t)
-first-inside k t (q ∷ qs) l = go (isSought k (q .head)) (first-inside k t qs (l .1))
+sought-inside : (k : Key) (which : ℕ) (t : List ℕ) (qs : List Par) → Each (Lies (sizeBy (extentBy k)) t) qs
+    → Inside (length t) (contentsAt k t (soughtIn k which qs))
+unfolding soughtIn
+sought-inside k which t [] l = nowhere-inside (length t)
+sought-inside k which t (q ∷ qs) l = go (isSought k (q .head)) which (λ w. sought-inside k w t qs (l .1))
   where
-    go : (b : Bool) → Inside (length t) (contentsAt k t (firstIn k qs)) → Inside (length t) (contentsAt k t (cond b (wholeOf q) (firstIn k qs)))
-    go true ih =
+    go : (b : Bool) (which : ℕ) → ((w : ℕ) → Inside (length t) (contentsAt k t (soughtIn k w qs)))
+        → Inside (length t) (contentsAt k t (cond b (kth which (wholeOf q) (λ w. soughtIn k w qs)) (soughtIn k which qs)))
+    go true zero ih =
         let w = lead-within (extentBy k (q .head)) (getD (drop (q .place + 1) t) 0 0) in
         rw (← l .0 .head) (at-inside (length t) _ _ (omega (arith, l .0 .long)) (l .0 .within))
-    go false ih = ih
+    go true (suc which) ih = ih which
+    go false which ih = ih which
 
 pub search-inside : (k : Key) (t : List ℕ) → Inside (length t) (contentsFound k t)
-search-inside k t = first-inside k t _ (pars-lie (sizeBy (extentBy k)) t t 0 0 refl)
+search-inside k t = sought-inside k (whichOf k) t _ (pars-lie (sizeBy (extentBy k)) t t 0 0 refl)
 
 -- ---- in a message, by the length rule alone
 
@@ -118,9 +131,9 @@ search-inside k t = first-inside k t _ (pars-lie (sizeBy (extentBy k)) t t 0 0 r
 abbrev pub commonPlain : ℕ → List ℕ → Found
 commonPlain h m = cond (eqb h end-mark) Nowhere (contentsFound (Header h) m)
 
--- of the transfer parameter with the name x, in the transfer data t
-abbrev pub transferSearch : ℕ → List ℕ → Found
-transferSearch x t = contentsFound (Name x) t
+-- of a transfer parameter with the name x, in the transfer data t
+abbrev pub transferSearch : ℕ → ℕ → List ℕ → Found
+transferSearch x which t = contentsFound (Name x which) t
 
 -- what is found in a part that starts at s, told of the whole
 abbrev pub moved : ℕ → Found → Found
@@ -128,16 +141,16 @@ moved s (At a e) = At (s + a) (s + e)
 moved s Nowhere = Nowhere
 
 -- in the transfer data that was found in m
-abbrev inData : ℕ → List ℕ → Found → Found
-inData x m (At s e) = moved s (transferSearch x (take (e - s) (drop s m)))
-inData x m Nowhere = Nowhere
+abbrev inData : ℕ → ℕ → List ℕ → Found → Found
+inData x which m (At s e) = moved s (transferSearch x which (take (e - s) (drop s m)))
+inData x which m Nowhere = Nowhere
 
-abbrev pub transferPlain : ℕ → List ℕ → Found
-transferPlain x m = inData x m (contentsFound (Header transfer-data) m)
+abbrev pub transferPlain : ℕ → ℕ → List ℕ → Found
+transferPlain x which m = inData x which m (contentsFound (Header transfer-data) m)
 
 abbrev pub plainBy : Key → List ℕ → Found
 plainBy (Header h) m = commonPlain h m
-plainBy (Name x) m = transferPlain x m
+plainBy (Name x which) m = transferPlain x which m
 
 pub common-inside : (h : ℕ) (m : List ℕ) → Inside (length m) (commonPlain h m)
 common-inside h m = go (eqb h end-mark)
@@ -150,34 +163,40 @@ moved-inside : (k n s : ℕ) (f : Found) → s + k ≤ n → Inside k f → Insi
 moved-inside k n s (At a e) h i = let w = i .at a e refl in at-inside n (s + a) (s + e) (omega arith) (omega arith)
 moved-inside k n s Nowhere h i = nowhere-inside n
 
-transfer-inside : (x : ℕ) (m : List ℕ) → Inside (length m) (transferPlain x m)
-transfer-inside x m = go (contentsFound (Header transfer-data) m) (search-inside (Header transfer-data) m)
+transfer-inside : (x which : ℕ) (m : List ℕ) → Inside (length m) (transferPlain x which m)
+transfer-inside x which m = go (contentsFound (Header transfer-data) m) (search-inside (Header transfer-data) m)
   where
-    go : (f : Found) → Inside (length m) f → Inside (length m) (inData x m f)
+    go : (f : Found) → Inside (length m) f → Inside (length m) (inData x which m f)
     go (At s e) i =
         let w = i .at s e refl in
         let t = take (e - s) (drop s m) in
         let l : length t ≤ e - s = simp length-take (omega arith) in
-        moved-inside (length t) (length m) s _ (omega arith) (search-inside (Name x) t)
+        moved-inside (length t) (length m) s _ (omega arith) (search-inside (Name x which) t)
     go Nowhere i = nowhere-inside (length m)
 
 pub plain-inside : (k : Key) (m : List ℕ) → Inside (length m) (plainBy k m)
 plain-inside (Header h) m = common-inside h m
-plain-inside (Name x) m = transfer-inside x m
+plain-inside (Name x which) m = transfer-inside x which m
 
 -- ---- in an accepted message it is what the definition finds
 
 abbrev pub foundBy : Key → List ℕ → Found
 foundBy (Header h) m = commonFound h m
-foundBy (Name x) m = transferFound x m
+foundBy (Name x which) m = transferFound x which m
 
 -- the first of some parameters by g
 first-by : (b : Bool) (g : Found → Found) (f f′ r r′ : Found) → (b ≡ true → f ≡ g f′) → r ≡ g r′ → cond b f r ≡ g (cond b f′ r′)
 first-by true g f f′ r r′ p q = p refl
 first-by false g f f′ r r′ p q = q
 
-common-first : (h : ℕ) (m : List ℕ) (qs : List Par) → Each (Lies commonSize m) qs → commonIn h qs ≡ contentsAt (Header h) m (firstIn (Header h) qs)
-unfolding commonIn firstIn
+kth-by : (which : ℕ) (g : Found → Found) (f f′ : Found) (r r′ : ℕ → Found) → f ≡ g f′ → ((w : ℕ) → r w ≡ g (r′ w))
+    → kth which f r ≡ g (kth which f′ r′)
+kth-by zero g f f′ r r′ p q = p
+kth-by (suc w) g f f′ r r′ p q = q w
+
+common-first : (h : ℕ) (m : List ℕ) (qs : List Par) → Each (Lies commonSize m) qs
+    → commonIn h qs ≡ contentsAt (Header h) m (soughtIn (Header h) 0 qs)
+unfolding commonIn soughtIn
 common-first h m [] l = refl
 common-first h m (q ∷ qs) l = first-by (eqb (q .head) h) (contentsAt (Header h) m) _ _ _ _ first (common-first h m qs (l .1))
   where
@@ -186,13 +205,20 @@ common-first h m (q ∷ qs) l = first-by (eqb (q .head) h) (contentsAt (Header h
         let z : 0 + q .place ≡ q .place = omega arith in
         rw (← l .0 .head, eqb-true (q .head) h e, z)
 
-transfer-first : (x s : ℕ) (t : List ℕ) (qs : List Par) → Each (Lies transferSize t) qs → transferIn x s qs ≡ moved s (contentsAt (Name x) t (firstIn (Name x) qs))
-unfolding transferIn firstIn
-transfer-first x s t [] l = refl
-transfer-first x s t (q ∷ qs) l = first-by (eqb (nameOf (q .head)) x) (λ f. moved s (contentsAt (Name x) t f)) _ _ _ _ first (transfer-first x s t qs (l .1))
+-- the name alone says which are passed over
+transfer-sought : (x k which s : ℕ) (t : List ℕ) (qs : List Par) → Each (Lies transferSize t) qs
+    → transferIn x which s qs ≡ moved s (contentsAt (Name x k) t (soughtIn (Name x k) which qs))
+unfolding transferIn soughtIn
+transfer-sought x k which s t [] l = refl
+transfer-sought x k which s t (q ∷ qs) l =
+    first-by (eqb x (nameOf (q .head))) (λ f. moved s (contentsAt (Name x k) t f)) _ _ _ _
+    (λ e.
+    kth-by which (λ f. moved s (contentsAt (Name x k) t f)) _ _ (λ w. transferIn x w s qs) (λ w. soughtIn (Name x k) w qs) first
+    (λ w. transfer-sought x k w s t qs (l .1)))
+    (transfer-sought x k which s t qs (l .1))
   where
-    first : eqb (nameOf (q .head)) x ≡ true → stretchOf (extentOf (q .head)) s q ≡ moved s (contentsAt (Name x) t (wholeOf q))
-    first e =
+    first : stretchOf (extentOf (q .head)) s q ≡ moved s (contentsAt (Name x k) t (wholeOf q))
+    first =
         let p : s + q .place + 1 + leadOf (extentOf (q .head)) ≡ s + (q .place + 1 + leadOf (extentOf (q .head))) = omega arith in
         let r : s + q .place + 1 + length (q .own) ≡ s + (q .place + 1 + length (q .own)) = omega arith in
         rw (← l .0 .head, p, r)
@@ -202,29 +228,31 @@ unfolding commonFound
 common-plain h m n e = rw (commons-plain faultOf m n e, common-first h m _ (pars-lie commonSize m m 0 0 refl))
 
 -- C5's contents are its transfer data
-data-first : (x : ℕ) (m : List ℕ) (q : Par) → Lies commonSize m q → InnerSound q → q .head ≡ transfer-data → transferIn x (q .place + 2) (transfersOf (dataIn q)) ≡ inData x m (contentsAt (Header transfer-data) m (wholeOf q))
+data-first : (x which : ℕ) (m : List ℕ) (q : Par) → Lies commonSize m q → InnerSound q → q .head ≡ transfer-data
+    → transferIn x which (q .place + 2) (transfersOf (dataIn q)) ≡ inData x which m (contentsAt (Header transfer-data) m (wholeOf q))
 unfolding InnerSound commonExtentOf leadOf
-data-first x m q l d f =
+data-first x which m q l d f =
     let n = length (q .own) in
     let j : q .place + 1 + 1 ≡ q .place + 2 = omega arith in
     let k : q .place + 1 + n - (q .place + 2) ≡ n - 1 = omega arith in
     let t : drop 1 (q .own) ≡ take (n - 1) (drop (q .place + 2) m) = ap (λ (r : List ℕ). drop 1 r) (l .own) ∙ rw (← from-to 1 n (drop (q .place + 1) m), drop-drop, j) in
-    rw (transfers-plain faultOf (dataIn q) _ (d f .1), transfer-first x (q .place + 2) (dataIn q) _ (pars-lie transferSize (dataIn q) (dataIn q) 0 0 refl), ← l .head, f, j, k, ← t)
+    rw (transfers-plain faultOf (dataIn q) _ (d f .1), transfer-sought x which which (q .place + 2) (dataIn q) _ (pars-lie transferSize (dataIn q) (dataIn q) 0 0 refl), ← l .head, f, j, k, ← t)
 
-among-first : (x : ℕ) (m : List ℕ) (qs : List Par) → Each (Lies commonSize m) qs → Each InnerSound qs → transferAmong x qs ≡ inData x m (contentsAt (Header transfer-data) m (firstIn (Header transfer-data) qs))
-unfolding transferAmong firstIn
-among-first x m [] l i = refl
-among-first x m (q ∷ qs) l i =
-    first-by (eqb (q .head) transfer-data) (λ f. inData x m (contentsAt (Header transfer-data) m f)) _ _ _ _
-    (λ e. data-first x m q (l .0) (i .0) (eqb-true (q .head) transfer-data e))
-    (among-first x m qs (l .1) (i .1))
+among-first : (x which : ℕ) (m : List ℕ) (qs : List Par) → Each (Lies commonSize m) qs → Each InnerSound qs
+    → transferAmong x which qs ≡ inData x which m (contentsAt (Header transfer-data) m (soughtIn (Header transfer-data) 0 qs))
+unfolding transferAmong soughtIn
+among-first x which m [] l i = refl
+among-first x which m (q ∷ qs) l i =
+    first-by (eqb (q .head) transfer-data) (λ f. inData x which m (contentsAt (Header transfer-data) m f)) _ _ _ _
+    (λ e. data-first x which m q (l .0) (i .0) (eqb-true (q .head) transfer-data e))
+    (among-first x which m qs (l .1) (i .1))
 
-pub transfer-plain : (x : ℕ) (m : List ℕ) (n : ℕ) → verdictOf m ≡ Accepted n → transferFound x m ≡ transferPlain x m
+pub transfer-plain : (x which : ℕ) (m : List ℕ) (n : ℕ) → verdictOf m ≡ Accepted n → transferFound x which m ≡ transferPlain x which m
 unfolding transferFound
-transfer-plain x m n e =
+transfer-plain x which m n e =
     let p = commons-plain faultOf m n e in
-    rw p (among-first x m _ (pars-lie commonSize m m 0 0 refl) (rw p at (commons-inner m)))
+    rw p (among-first x which m _ (pars-lie commonSize m m 0 0 refl) (rw p at (commons-inner m)))
 
 pub plain-found : (k : Key) (m : List ℕ) (n : ℕ) → verdictOf m ≡ Accepted n → foundBy k m ≡ plainBy k m
 plain-found (Header h) m n e = common-plain h m n e
-plain-found (Name x) m n e = transfer-plain x m n e
+plain-found (Name x which) m n e = transfer-plain x which m n e

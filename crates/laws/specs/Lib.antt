@@ -19,6 +19,7 @@ pub mod Leaves
 pub mod Offsets
 pub mod Laid
 -- of the walk over a message, and what is made of it:
+pub mod Often
 pub mod Walks
 pub mod Steps
 pub mod Plain

@@ -23,16 +23,12 @@ use Rattle.annex.specs.declared.Answer.the-variants.{Accepted, Refused}
 use Rattle.annex.specs.declared.Row.{Row}
 use Rattle.annex.specs.declared.Extent.{Extent}
 use Rattle.annex.specs.Contents.{faultOf}
+use Rattle.laws.specs.Members.{sumOf}
 use Rattle.laws.specs.Extents.{lead-within}
 use Rattle.laws.specs.Steps.{passed, transfer-taken, common-within}
 use Rattle.laws.specs.Plain.{Size, commonSize, transferSize, pars, pars-turn, Lies, pars-lie, commons-plain, transfers-plain, InnerSound, commons-inner}
 
 -- ---- sums
-
--- f of each, added up
-abbrev pub sumOf : {A : Type 0} → (A → ℕ) → List A → ℕ
-sumOf f [] = 0
-sumOf f (x ∷ xs) = f x + sumOf f xs
 
 abbrev pub parAt : ℕ → ℕ → List ℕ → Par
 parAt p h own = record { place = p; head = h; own = own }

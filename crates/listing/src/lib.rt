@@ -12,6 +12,7 @@ use reader::rows::check;
 use walk::cursor::first;
 use walk::cursor::next;
 use walk::cursor::row_here;
+ghost use Rattle.annex.specs.Heads.{most-rows};
 ghost use Rattle.annex.specs.Promises.{SpansCheckPromise};
 
 fn print(text: &[u8]) {
@@ -120,7 +121,7 @@ fn print_answer(m: &[u8], a: Answer) {
 
 // Prints the listing, and answers with its row count, or number and place.
 pub fn list(m: &[u8]) -> Answer
-    ensures { λ r. ⌜ SpansCheckPromise (now (m .entry)) 59 r ⌝ }
+    ensures { λ r. ⌜ SpansCheckPromise (now (m .entry)) most-rows r ⌝ }
 {
     let a = check(m, Message::MOST_ROWS);
     print_answer(m, a);

@@ -5,7 +5,7 @@ use mathlib.Core.Path.{_≡_, sym, ap, _∙_}
 use mathlib.Core.List.{List, [], _∷_, map}
 use lib.ListN.{length, getD, set, length-append}
 use Rattle.annex.specs.Units.{afterOf, commonExtentOf}
-use Rattle.annex.specs.Heads.{end-mark}
+use Rattle.annex.specs.Heads.{end-mark, most-transfers}
 use Rattle.annex.specs.Items.{Part}
 use Rattle.annex.specs.Allowed.{Each, every, isOctet, itemsIn}
 use Rattle.annex.specs.Walk.{Par}
@@ -25,7 +25,7 @@ pub record Filling (m : List ℕ) (q : Record) (transfers used i : ℕ) : Type 0
   pub inside : i ≤ length m
   pub becomes : pack (recordOf m) ≡ withParts q (partsLeft m i) transfers used
   pub commons : q .commons + length (partsLeft m i) ≤ 6
-  pub places : transfers + length (itemsIn (partsLeft m i)) ≤ 52
+  pub places : transfers + length (itemsIn (partsLeft m i)) ≤ most-transfers
   pub values : used + length (valuesOf (itemsIn (partsLeft m i))) ≤ 512
   pub sound : Each InnerSound (parsAt m i)
 
@@ -66,7 +66,7 @@ module _ {m : List ℕ} {q : Record} {transfers used i : ℕ} (f : Filling m q t
 pub record Next (m : List ℕ) (q : Record) (transfers used i n : ℕ) (p : Part) (rest : List Part) : Type 0 where
   pub becomes : pack (recordOf m) ≡ withParts q (p ∷ rest) transfers used
   pub commons : q .commons + 1 + length rest ≤ 6
-  pub places : transfers + length (p .items) + length (itemsIn rest) ≤ 52
+  pub places : transfers + length (p .items) + length (itemsIn rest) ≤ most-transfers
   pub values : used + length (valuesOf (p .items)) + length (valuesOf (itemsIn rest)) ≤ 512
   pub here : InnerSound (parIn m i n)
   pub sound : Each InnerSound (parsAt m (i + 1 + n))

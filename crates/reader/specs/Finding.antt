@@ -18,14 +18,12 @@ pub record Tells (m : List ℕ) (f : Found) (r : Finding) : Type 0 where
   pub part : take (r .2 - r .1) (drop (r .1) m) ≡ findPart m f
 
 -- the answer, and the part's length
-pub record Stretched (m : List ℕ) (f : Found) (r : Stretch) : Type 0 where
-  pub answer : r .answer ≡ findAnswer m f
-  pub len : r .len ≡ length (findPart m f)
+abbrev pub bothOf : List ℕ → Found → Stretch
+bothOf m f = record { answer = findAnswer m f; len = length (findPart m f) }
 
-pub stretched : (m : List ℕ) (f : Found) (r : Finding) (s : Stretch) → Tells m f r → s .answer ≡ r .0 → s .len ≡ r .2 - r .1 → Stretched m f s
-stretched m f r s t a l =
+pub both-told : (m : List ℕ) (f : Found) (r : Finding) → Tells m f r → record { answer = r .0; len = r .2 - r .1 } ≡ bothOf m f
+both-told m f r t =
     let k : r .2 - r .1 ≤ length (drop (r .1) m) = rw (length-drop (r .1) m) (omega (arith, t .within)) in
-    record {
-      answer = a ∙ t .answer;
-      len = l ∙ sym (length-take-le (r .2 - r .1) (drop (r .1) m) k) ∙ ap (λ (p : List ℕ). length p) (t .part);
-    }
+    let long = length-take-le (r .2 - r .1) (drop (r .1) m) k in
+    let len : r .2 - r .1 ≡ length (findPart m f) = sym long ∙ ap (λ (p : List ℕ). length p) (t .part) in
+    rw (t .answer, len)

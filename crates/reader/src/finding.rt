@@ -19,8 +19,8 @@ ghost use Rattle.annex.specs.Promises.{
   FindTransferAnswerPromise,
   Gives,
 };
-ghost use Rattle.laws.specs.Finding.{isSought, extentBy, searchFrom, contentsFound, commonPlain, transferPlain, plainBy, foundBy};
-ghost use Rattle.reader.specs.Finding.{Tells, Stretched};
+ghost use Rattle.laws.specs.Finding.{isSought, whichOf, extentBy, searchIn, contentsFound, commonPlain, transferPlain, plainBy, foundBy};
+ghost use Rattle.reader.specs.Finding.{Tells, bothOf};
 
 // What finding gives: the answer to the second question, and where the contents start and end, 0 and 0 if refused.
 struct Finding(Answer, usize, usize);
@@ -31,7 +31,17 @@ fn is_sought(k: Key, h: u8) -> bool
 {
     match k {
         Key::Header(header) => h == header,
-        Key::Name(name) => h % 64 == name,
+        Key::Name(name, _) => name == h % 64,
+    }
+}
+
+// How many of those are to be passed over.
+fn which_of(k: Key) -> usize
+    ensures { λ r. ⌜ r ≡ whichOf k ⌝ }
+{
+    match k {
+        Key::Header(_) => 0,
+        Key::Name(_, which) => which,
     }
 }
 
@@ -41,14 +51,15 @@ fn extent_by(k: Key, h: u8) -> Extent
 {
     match k {
         Key::Header(_) => common_extent_of(h),
-        Key::Name(_) => extent_of(h),
+        Key::Name(_, _) => extent_of(h),
     }
 }
 
-// The first parameter sought among those of t, from its header to its end, by the length rule alone.
+// The parameter sought among those of t, from its header to its end, by the length rule alone.
 pub fn search(t: &[u8], k: Key) -> Found
-    ensures { λ r. ⌜ Gives (searchFrom k 0 (now (t .entry))) r ⌝ }
+    ensures { λ r. ⌜ Gives (searchIn k (now (t .entry))) r ⌝ }
 {
+    let mut left = which_of(k);
     let mut i = 0;
     while i < t.len() {
         let h = t[i];
@@ -59,7 +70,11 @@ pub fn search(t: &[u8], k: Key) -> Found
         }
         let end = from + n;
         if is_sought(k, h) {
-            return Found::At(i, end);
+            if left == 0 {
+                return Found::At(i, end);
+            } else {
+                left -= 1;
+            }
         }
         i = end;
     }
@@ -89,13 +104,13 @@ pub fn common_plain(m: &[u8], header: u8) -> Found
 }
 
 // In a message that is accepted: where the contents of a transfer parameter stand, in those of its C5.
-fn transfer_plain(m: &[u8], name: u8) -> Found
-    ensures { λ r. ⌜ r ≡ transferPlain name (now (m .entry)) ⌝ }
+fn transfer_plain(m: &[u8], name: u8, which: usize) -> Found
+    ensures { λ r. ⌜ r ≡ transferPlain name which (now (m .entry)) ⌝ }
 {
     let Found::At(s, e) = contents(m, Key::Header(Common::TRANSFER_DATA)) else {
         return Found::Nowhere;
     };
-    let Found::At(a, b) = contents(&m[s..e], Key::Name(name)) else {
+    let Found::At(a, b) = contents(&m[s..e], Key::Name(name, which)) else {
         return Found::Nowhere;
     };
     let start = s + a;
@@ -109,7 +124,7 @@ fn plain(m: &[u8], k: Key) -> Found
 {
     match k {
         Key::Header(header) => common_plain(m, header),
-        Key::Name(name) => transfer_plain(m, name),
+        Key::Name(name, which) => transfer_plain(m, name, which),
     }
 }
 
@@ -135,7 +150,7 @@ pub struct Stretch {
 
 // Both answers of one finding.
 pub fn find_both(m: &[u8], k: Key) -> Stretch
-    ensures { λ r. ⌜ Stretched (now (m .entry)) (foundBy k (now (m .entry))) r ⌝ }
+    ensures { λ r. ⌜ Gives (bothOf (now (m .entry)) (foundBy k (now (m .entry)))) r ⌝ }
 {
     let f = find(m, k);
     let answer = f.0;
@@ -169,16 +184,16 @@ pub fn find_common_answer(m: &[u8], header: u8) -> Answer
     find(m, Key::Header(header)).0
 }
 
-// The contents of the transfer parameter with this name, the empty part if refused.
+// The contents of the first transfer parameter with this name, the empty part if refused.
 pub fn find_transfer(m: &[u8], name: u8) -> &[u8]
     ensures { λ r. ⌜ FindTransferPromise (now (m .entry)) name (now r) ⌝ }
 {
-    part(m, Key::Name(name))
+    part(m, Key::Name(name, 0))
 }
 
 // The second question: accepted, with where those contents start, or number and place.
 pub fn find_transfer_answer(m: &[u8], name: u8) -> Answer
     ensures { λ r. ⌜ FindTransferAnswerPromise (now (m .entry)) name r ⌝ }
 {
-    find(m, Key::Name(name)).0
+    find(m, Key::Name(name, 0)).0
 }

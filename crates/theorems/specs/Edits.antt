@@ -15,32 +15,28 @@ use Rattle.annex.specs.Layout.{layoutItem, layoutItems, layout}
 use Rattle.annex.specs.Allowed.{every, Each, timesIn, isOctet, itemsIn, namesOf, Allowed}
 use Rattle.annex.specs.Walk.{Par}
 use Rattle.annex.specs.Reading.{verdictOf, recordOf}
-use Rattle.annex.specs.Editing.{Edit, newHeader, newItem, replaced, removed, editedItems, edited, editingOf}
+use Rattle.annex.specs.Editing.{Edit, newHeader, newItem, instead, editedItems, edited, editingOf}
 use Rattle.annex.specs.Editing.Edit.{Replacing, Appending, Removing}
 use Rattle.annex.specs.declared.Answer.the-variants.{Accepted}
 use Rattle.laws.specs.Bools.{and-left, and-right}
+use Rattle.laws.specs.Often.{some-often}
 use Rattle.theorems.specs.Lists.{each-append, each-left, each-right, every-take, times-append}
 use Rattle.theorems.specs.Steps.{TransferOwn}
 use Rattle.theorems.specs.Transfers.{AllowedItem, AllowedItems, item-read}
 use Rattle.theorems.specs.Commons.{AllowedPart, data-allowed}
 use Rattle.theorems.specs.Records.{Once, Plain, allowed, allowed-items, allowed-parts, allowed-once, names-append}
 use Rattle.theorems.specs.Messages.{read-then-laid}
-use Rattle.theorems.specs.Named.{Other, Chosen, choose}
+use Rattle.theorems.specs.Named.{passed-over, Chosen, choose}
 use Rattle.theorems.specs.Parted.{Parted, one-data, items-instead}
 use Rattle.theorems.specs.Reasons.{NewRight, EditRight, editedIn, NoReason, edit-taken}
 
 -- the new octets of an edit are octets
 abbrev pub OfOctets : Edit → Type 0
-OfOctets (Replacing new) = every isOctet new ≡ true
+OfOctets (Replacing new which) = every isOctet new ≡ true
 OfOctets (Appending new) = every isOctet new ≡ true
-OfOctets (Removing x) = Unit {0}
+OfOctets (Removing x which) = Unit {0}
 
 -- ---- a new parameter
-
--- every name may stand
-some-often : (x : ℕ) → 0 < oftenOf x
-unfolding oftenOf
-some-often x = omega arith
 
 -- what new octets that are right open to: an allowed parameter that lays out to them
 pub record NewRead (new : List ℕ) : Type 0 where
@@ -58,23 +54,23 @@ new-read (h ∷ xs) r o =
 
 -- ---- the parameters of C5: those in front of the edited one, it, and those behind it
 
--- the first of the name x
-pub record First (x : ℕ) (front old : List Item) : Type 0 where
+-- the one of the name x with the number `which`
+pub record Picked (x which : ℕ) (front old : List Item) : Type 0 where
   pub one : Item
   pub alone : old ≡ one ∷ []
   pub named : nameOf (one .header) ≡ x
-  pub others : Each (Other x) front
+  pub before : timesIn x (namesOf front) ≡ which
 
 -- what an edit puts in, and what it takes out
 abbrev pub newItems : Edit → List Item
-newItems (Replacing new) = newItem new ∷ []
+newItems (Replacing new which) = newItem new ∷ []
 newItems (Appending new) = newItem new ∷ []
-newItems (Removing x) = []
+newItems (Removing x which) = []
 
 abbrev pub Taken : Edit → List Item → List Item → List Item → Type 0
-Taken (Replacing new) front old back = First (nameOf (newHeader new)) front old
+Taken (Replacing new which) front old back = Picked (nameOf (newHeader new)) which front old
 Taken (Appending new) front old back = (old ≡ []) × (back ≡ [])
-Taken (Removing x) front old back = First x front old
+Taken (Removing x which) front old back = Picked x which front old
 
 -- how an edit changes the parameters
 pub record Changed (e : Edit) (is : List Item) : Type 0 where
@@ -85,56 +81,58 @@ pub record Changed (e : Edit) (is : List Item) : Type 0 where
   pub becomes : editedItems e is ≡ front ++ (newItems e ++ back)
   pub taken : Taken e front old back
 
--- the first of the name replaced, and taken out
-replaced-first : (new one : Item) (x : ℕ) (front back : List Item) → nameOf (new .header) ≡ x → nameOf (one .header) ≡ x → Each (Other x) front → replaced new (front ++ (one ∷ back)) ≡ front ++ (new ∷ back)
-unfolding replaced
-replaced-first new one x [] back n o a = rw (n, eq-eqb _ x o)
-replaced-first new one x (i ∷ front) back n o a =
-    let rest = replaced-first new one x front back n o (a .1) in
-    rw (n, a .0) (ap (λ (l : List Item). i ∷ l) rest)
+-- some in the place of one, behind as many of its name as stand in front
+pub instead-behind : (new : List Item) (one : Item) (x : ℕ) (front back : List Item) → nameOf (one .header) ≡ x
+    → instead x (timesIn x (namesOf front)) new (front ++ (one ∷ back)) ≡ front ++ (new ++ back)
+unfolding instead
+instead-behind new one x [] back n = rw (eq-eqb x _ (sym n))
+instead-behind new one x (i ∷ front) back n =
+    passed-over (eqb x (nameOf (i .header))) (timesIn x (namesOf front)) _ (λ w. i ∷ instead x w new (front ++ (one ∷ back)))
+    ∙ ap (λ (l : List Item). i ∷ l) (instead-behind new one x front back n)
 
-pub removed-first : (one : Item) (x : ℕ) (front back : List Item) → nameOf (one .header) ≡ x → Each (Other x) front → removed x (front ++ (one ∷ back)) ≡ front ++ back
-unfolding removed
-removed-first one x [] back o a = rw (eq-eqb _ x o)
-removed-first one x (i ∷ front) back o a = rw (a .0) (ap (λ (l : List Item). i ∷ l) (removed-first one x front back o (a .1)))
+module _ (x which : ℕ) (is : List Item) (c : Chosen x which is) where
+  instead-chosen : (new : List Item) → instead x which new is ≡ c .front ++ (new ++ c .back)
+  instead-chosen new =
+      ap (instead x which new) (c .whole)
+      ∙ ap (λ (k : ℕ). instead x k new (c .front ++ (c .one ∷ c .back))) (sym (c .before))
+      ∙ instead-behind new (c .one) x (c .front) (c .back) (c .named)
 
-first-of : (x : ℕ) (is : List Item) (c : Chosen x is) → First x (c .front) (c .one ∷ [])
-first-of x is c = record { one = c .one; alone = refl; named = c .named; others = c .others }
+  picked : Picked x which (c .front) (c .one ∷ [])
+  picked = record { one = c .one; alone = refl; named = c .named; before = c .before }
 
 pub changed : (e : Edit) (is : List Item) → EditRight e is → OfOctets e → Changed e is
 unfolding editedItems
-changed (Replacing new) is r o =
+changed (Replacing new which) is r o =
     let x = nameOf (newHeader new) in
-    let c = choose x is (r .1) in
-    let n : nameOf (newItem new .header) ≡ x = ap nameOf (new-read new (r .0) o .header) in
+    let c = choose x which is (r .1) in
     record {
       front = c .front;
       old = c .one ∷ [];
       back = c .back;
       was = c .whole;
-      becomes = ap (replaced (newItem new)) (c .whole) ∙ replaced-first (newItem new) (c .one) x (c .front) (c .back) n (c .named) (c .others);
-      taken = first-of x is c;
+      becomes = instead-chosen x which is c (newItem new ∷ []);
+      taken = picked x which is c;
     }
 changed (Appending new) is r o =
     record { front = is; old = []; back = []; was = sym (append-nil is); becomes = refl; taken = (refl, refl) }
-changed (Removing x) is r o =
-    let c = choose x is r in
+changed (Removing x which) is r o =
+    let c = choose x which is r in
     record {
       front = c .front;
       old = c .one ∷ [];
       back = c .back;
       was = c .whole;
-      becomes = ap (removed x) (c .whole) ∙ removed-first (c .one) x (c .front) (c .back) (c .named) (c .others);
-      taken = first-of x is c;
+      becomes = instead-chosen x which is c [];
+      taken = picked x which is c;
     }
 
 -- ---- so edited, they are allowed
 
 -- each that an edit puts in
 new-each : (e : Edit) (is : List Item) → EditRight e is → OfOctets e → Each AllowedItem (newItems e)
-new-each (Replacing new) is r o = (new-read new (r .0) o .allowed, tt)
+new-each (Replacing new which) is r o = (new-read new (r .0) o .allowed, tt)
 new-each (Appending new) is r o = (new-read new (r .0) o .allowed, tt)
-new-each (Removing x) is r o = tt
+new-each (Removing x which) is r o = tt
 
 -- how often the name u then stands
 module _ (u : ℕ) where
@@ -155,7 +153,7 @@ module _ (u : ℕ) where
 
   items-often : (e : Edit) (is : List Item) → EditRight e is → OfOctets e → timesIn u (namesOf is) ≤ oftenOf u → Changed e is → timesIn u (namesOf (editedItems e is)) ≤ oftenOf u
   unfolding editedItems
-  items-often (Replacing new) is r o a c =
+  items-often (Replacing new which) is r o a c =
       let t = c .taken in
       let n : nameOf (newItem new .header) ≡ nameOf (t .one .header) = ap nameOf (new-read new (r .0) o .header) ∙ sym (t .named) in
       let old : timesIn u (namesOf (c .old)) ≡ timesIn u (namesOf (t .one ∷ [])) = ap (λ (l : List Item). timesIn u (namesOf l)) (t .alone) in
@@ -163,7 +161,7 @@ module _ (u : ℕ) where
       (omega (arith, names-three (c .front) (newItem new ∷ []) (c .back), names-three (c .front) (c .old) (c .back), ap (λ (l : List Item). timesIn u (namesOf l)) (c .was), same-times (newItem new) (t .one) n))
   items-often (Appending new) is r o a c =
       rw (names-append is (newItem new ∷ []), times-append, new-read new (r .0) o .header) (one-more (nameOf (newHeader new)) is (r .1) a)
-  items-often (Removing x) is r o a c =
+  items-often (Removing x which) is r o a c =
       rw (c .becomes)
       (omega (arith, names-three (c .front) [] (c .back), names-three (c .front) (c .old) (c .back), ap (λ (l : List Item). timesIn u (namesOf l)) (c .was)))
 

@@ -1,5 +1,5 @@
--- Demand 3: finding a replaced or appended parameter afterwards gives the new contents. It is the first of its name in the edited record,
--- and what is found there is what it was laid out to.
+-- Demand 3: finding a replaced or appended parameter afterwards gives the new contents. In the edited record it stands behind as many of its
+-- name as the edit says, and what is found there is what it was laid out to.
 use Prim.Native.Nat.{ℕ, _+_}
 use native.Mathlib.Omega.{arith}
 use mathlib.Core.Path.{_≡_, refl, sym, ap, _∙_}
@@ -11,7 +11,7 @@ use Rattle.annex.specs.Units.{nameOf, leadOf, extentOf, contentsIn}
 use Rattle.annex.specs.Heads.{transfer-data}
 use Rattle.annex.specs.Items.{Item, Part}
 use Rattle.annex.specs.Layout.{layoutItem, layoutItems, layout}
-use Rattle.annex.specs.Allowed.{every, Each, isOctet, itemsIn, Allowed}
+use Rattle.annex.specs.Allowed.{every, timesIn, isOctet, itemsIn, namesOf, Allowed}
 use Rattle.annex.specs.Reading.{recordOf}
 use Rattle.annex.specs.Finding.{transferFound, foundPart, findPart}
 use Rattle.annex.specs.Editing.{Edit, newHeader, newAfter, newItem, editedItems, edited, editingOf, bufferOf}
@@ -20,14 +20,13 @@ use Rattle.annex.specs.declared.Answer.the-variants.{Accepted}
 use Rattle.annex.specs.declared.Found.the-variants.{At}
 use Rattle.laws.specs.Parts.{from-to}
 use Rattle.theorems.specs.Layouts.{laid-then-read}
-use Rattle.theorems.specs.Named.{Other}
 use Rattle.theorems.specs.Parted.{Parted, one-data, layoutParts}
 use Rattle.theorems.specs.Places.{transfer-found}
 use Rattle.theorems.specs.Reasons.{NewRight, edit-taken}
 use Rattle.theorems.specs.Edits.{OfOctets, new-read, changed, items-edited, data-edited, message-allowed, edited-allowed}
 use Rattle.theorems.specs.Buffers.{buffer-edited}
 use Rattle.theorems.specs.Splices.{layout-one, layout-with}
-use Rattle.theorems.specs.Undone.{new-others}
+use Rattle.theorems.specs.Undone.{timesOf}
 
 -- ---- in any allowed record
 
@@ -37,9 +36,11 @@ stretch before xs rest j =
     from-to (length before + j) (length before + length xs) (before ++ (xs ++ rest))
     ∙ rw (take-append-add before (xs ++ rest) (length xs), take-append-seam xs rest) (drop-append-add before xs j)
 
--- what is found of the first of a name are its contents
-pub contents-found : (r : List Part) → Allowed r → (d : Parted r) (x : ℕ) (front : List Item) (one : Item) (back : List Item) → itemsIn r ≡ front ++ (one ∷ back) → nameOf (one .header) ≡ x → Each (Other x) front → findPart (layout r) (transferFound x (layout r)) ≡ contentsIn (extentOf (one .header)) (drop 1 (layoutItem one))
-contents-found r a d x front one back w n o =
+-- what is found of one of a name are its contents
+pub contents-found : (r : List Part) → Allowed r → (d : Parted r) (x which : ℕ) (front : List Item) (one : Item) (back : List Item)
+    → itemsIn r ≡ front ++ (one ∷ back) → nameOf (one .header) ≡ x → timesIn x (namesOf front) ≡ which
+    → findPart (layout r) (transferFound x which (layout r)) ≡ contentsIn (extentOf (one .header)) (drop 1 (layoutItem one))
+contents-found r a d x which front one back w n b =
     let lead = leadOf (extentOf (one .header)) in
     let xs = layoutItem one in
     let t = layoutItems front ++ (layoutItems (one ∷ []) ++ layoutItems back) in
@@ -49,33 +50,39 @@ contents-found r a d x front one back w n o =
     let long : length p ≡ s = simp length-append (omega arith) in
     let start : s + 1 + lead ≡ length p + (1 + lead) = omega arith in
     let whole : layout r ≡ p ++ (xs ++ rest) = rw (append-assoc, ← layout-one one) (layout-with r d front (one ∷ []) back w) in
-    let found : findPart (layout r) (transferFound x (layout r)) ≡ foundPart (layout r) (At (s + 1 + lead) (s + length xs)) = rw (laid-then-read r a .0, transfer-found r a d x front one back w n o) in
+    let found : findPart (layout r) (transferFound x which (layout r)) ≡ foundPart (layout r) (At (s + 1 + lead) (s + length xs)) = rw (laid-then-read r a .0, transfer-found r a d x which front one back w n b) in
     found ∙ rw (whole, start, ← long) (stretch p xs rest (1 + lead)) ∙ sym (drop-drop lead 1 xs)
 
 -- ---- after an edit
 
 module _ (new d : List ℕ) (n k : ℕ) (o : every isOctet d ≡ true) (p : every isOctet new ≡ true) where
-  -- where the new parameter is the first of its name in the edited record
-  new-found : (e : Edit) → OfOctets e → editingOf e d n ≡ Accepted k → NewRight new → (front back : List Item) → editedItems e (itemsIn (recordOf (take n d))) ≡ front ++ (newItem new ∷ back) → Each (Other (nameOf (newHeader new))) front → findPart (take k (bufferOf e d n)) (transferFound (nameOf (newHeader new)) (take k (bufferOf e d n))) ≡ contentsIn (extentOf (newHeader new)) (newAfter new)
-  new-found e q a w front back c others =
+  -- where these stand in front of the new parameter in the edited record
+  new-found : (e : Edit) → OfOctets e → editingOf e d n ≡ Accepted k → NewRight new → (which : ℕ) (front back : List Item)
+      → editedItems e (itemsIn (recordOf (take n d))) ≡ front ++ (newItem new ∷ back) → timesOf new front ≡ which
+      → findPart (take k (bufferOf e d n)) (transferFound (nameOf (newHeader new)) which (take k (bufferOf e d n))) ≡ contentsIn (extentOf (newHeader new)) (newAfter new)
+  new-found e q a w which front back c b =
       let x = nameOf (newHeader new) in
       let r = recordOf (take n d) in
       let t = edit-taken e d n k a .0 in
       let m = message-allowed d n n o (t .message) .0 in
       let parted = one-data r m (t .has-data) in
       let i = new-read new w p in
-      let f = contents-found (edited e r) (edited-allowed e d n k o q a .0) (data-edited e r m parted) x front (newItem new) back (items-edited e r m parted ∙ c) (ap nameOf (i .header)) others in
+      let f = contents-found (edited e r) (edited-allowed e d n k o q a .0) (data-edited e r m parted) x which front (newItem new) back (items-edited e r m parted ∙ c) (ap nameOf (i .header)) b in
       rw (buffer-edited e d n k o q a .message) (rw (i .laid, i .header) at f)
 
-  pub replaced-found : editingOf (Replacing new) d n ≡ Accepted k → findPart (take k (bufferOf (Replacing new) d n)) (transferFound (nameOf (newHeader new)) (take k (bufferOf (Replacing new) d n))) ≡ contentsIn (extentOf (newHeader new)) (newAfter new)
-  replaced-found a =
-      let right = edit-taken (Replacing new) d n k a .0 .right in
-      let c = changed (Replacing new) (itemsIn (recordOf (take n d))) right p in
-      new-found (Replacing new) p a (right .0) (c .front) (c .back) (c .becomes) (c .taken .others)
+  pub replaced-found : (which : ℕ) → editingOf (Replacing new which) d n ≡ Accepted k
+      → findPart (take k (bufferOf (Replacing new which) d n)) (transferFound (nameOf (newHeader new)) which (take k (bufferOf (Replacing new which) d n))) ≡ contentsIn (extentOf (newHeader new)) (newAfter new)
+  replaced-found which a =
+      let e = Replacing new which in
+      let right = edit-taken e d n k a .0 .right in
+      let c = changed e (itemsIn (recordOf (take n d))) right p in
+      new-found e p a (right .0) which (c .front) (c .back) (c .becomes) (c .taken .before)
 
-  pub appended-found : editingOf (Appending new) d n ≡ Accepted k → findPart (take k (bufferOf (Appending new) d n)) (transferFound (nameOf (newHeader new)) (take k (bufferOf (Appending new) d n))) ≡ contentsIn (extentOf (newHeader new)) (newAfter new)
+  -- it is the last of its name, behind as many as stood there before
+  pub appended-found : editingOf (Appending new) d n ≡ Accepted k
+      → findPart (take k (bufferOf (Appending new) d n)) (transferFound (nameOf (newHeader new)) (timesOf new (itemsIn (recordOf (take n d)))) (take k (bufferOf (Appending new) d n))) ≡ contentsIn (extentOf (newHeader new)) (newAfter new)
   unfolding editedItems
   appended-found a =
       let is = itemsIn (recordOf (take n d)) in
       let right = edit-taken (Appending new) d n k a .0 .right in
-      new-found (Appending new) p a (right .0) is [] refl (new-others (nameOf (newHeader new)) is (right .1))
+      new-found (Appending new) p a (right .0) (timesOf new is) is [] refl refl

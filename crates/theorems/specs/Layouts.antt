@@ -16,7 +16,8 @@ use Rattle.annex.specs.Walk.{Seen, unseen, timesSeen, counted, Par, judging, li
 use Rattle.annex.specs.Reading.{wholeIn, commonStep, commonClose, messageVerdict, verdictOf, commonsOf, openCommon, withoutEnd, recordOf, messageVerdictBy, verdictBy, commonsBy, recordBy}
 use Rattle.annex.specs.declared.Answer.the-variants.{Accepted}
 use Rattle.laws.specs.Bools.{and-both}
-use Rattle.theorems.specs.Lists.{every-append, each-so, stands, times-rest, total, pigeons}
+use Rattle.laws.specs.Members.{sumOf}
+use Rattle.theorems.specs.Lists.{every-append, each-so, stands, times-rest, pigeons}
 use Rattle.theorems.specs.Trails.{laidOut, seenBy, Trail, built, made-list, made-answer}
 use Rattle.theorems.specs.Counts.{namesIn, Full, full-unseen, full-counted, none-seen, moved, seen-times, Sparing, sparing-first}
 use Rattle.theorems.specs.Steps.{not-end, CommonOwn, common-accepts, end-accepts}
@@ -44,13 +45,12 @@ each-octets (p ∷ r) a b =
     every-append isOctet (layoutPart p) (layout r) one (each-octets r (a .1) (b .1))
 
 -- each common parameter at its longest, once, and the end mark: 272
-each-most : (r : List Part) → Each Built r → length (layout r) ≤ 1 + total mostOf (partNamesOf r)
-unfolding layout total
+each-most : (r : List Part) → Each Built r → length (layout r) ≤ 1 + sumOf mostOf (partNamesOf r)
+unfolding layout
 each-most [] b = omega arith
 each-most (p ∷ r) b = simp length-append (omega (arith, ap length (b .0 .laid), b .0 .most, each-most r (b .1)))
 
 pub layout-most : (r : List Part) → Each AllowedPart r → Once r → Each Built r → length (layout r) ≤ most-octets
-unfolding total
 layout-most r a o b = omega (arith, each-most r b, pigeons mostOf (λ x. 1) commonNames (partNamesOf r) (common-names r a) o)
 
 each-opens : (r : List Part) (at : ℕ) → Each AllowedPart r → Each Built r → map openCommon (withoutEnd (partPars at r)) ≡ r

@@ -7,10 +7,11 @@ use mathlib.Core.Bool.{Bool, true, false, cond, _||_}
 use mathlib.Core.List.{List, [], _∷_, _++_, map}
 use borrow.Author.Tests.{eqb-true, eq-eqb, leb-true, le-leb}
 use lib.Dec.{eqb, leb}
-use lib.ListN.{length, take, drop}
+use lib.ListN.{take, drop}
 use Rattle.annex.specs.Heads.{among}
 use Rattle.annex.specs.Allowed.{every, Each, timesIn, atMost}
 use Rattle.laws.specs.Bools.{and-left, and-right, and-both}
+use Rattle.laws.specs.Members.{sumOf}
 
 module _ {A : Type 0} (f : A → Bool) where
   pub every-append : (xs ys : List A) → every f xs ≡ true → every f ys ≡ true → every f (xs ++ ys) ≡ true
@@ -105,15 +106,6 @@ times-rest u x xs = go (eqb u x)
     go true = omega arith
     go false = omega arith
 
--- one is among the list if it stands there at all
-pub among-times : (x : ℕ) (ys : List ℕ) → leb 1 (timesIn x ys) ≡ among x ys
-among-times x [] = refl
-among-times x (y ∷ ys) = go (eqb x y) (among-times x ys)
-  where
-    go : (b : Bool) → leb 1 (timesIn x ys) ≡ among x ys → leb 1 (cond b (suc (timesIn x ys)) (timesIn x ys)) ≡ b || among x ys
-    go true e = le-leb 1 (suc (timesIn x ys)) (omega arith)
-    go false e = e
-
 -- what is tested of each is so of one that stands there
 pub stands : (f : ℕ → Bool) (xs : List ℕ) (u : ℕ) → every f xs ≡ true → 0 < timesIn u xs → f u ≡ true
 stands f [] u p h = absurd (omega arith)
@@ -143,14 +135,9 @@ among-append x (y ∷ xs) ys = go (eqb x y) (among-append x xs ys)
 
 -- ---- pigeonhole: what is weighed of a list is at most the weights of all that may stand in it, as often as they may
 
-unfoldable pub total : (ℕ → ℕ) → List ℕ → ℕ
-total w [] = 0
-total w (x ∷ xs) = w x + total w xs
-
-total-more : (f g : ℕ → ℕ) (us : List ℕ) → ((u : ℕ) → f u ≤ g u) → total f us ≤ total g us
-unfolding total
-total-more f g [] h = omega arith
-total-more f g (u ∷ us) h = omega (arith, h u, total-more f g us h)
+sum-more : (f g : ℕ → ℕ) (us : List ℕ) → ((u : ℕ) → f u ≤ g u) → sumOf f us ≤ sumOf g us
+sum-more f g [] h = omega arith
+sum-more f g (u ∷ us) h = omega (arith, h u, sum-more f g us h)
 
 module _ (w : ℕ → ℕ) where
   abbrev weighed : List ℕ → ℕ → ℕ
@@ -162,30 +149,25 @@ module _ (w : ℕ → ℕ) where
   weighed-one : (x : ℕ) (xs : List ℕ) → weighed (x ∷ xs) x ≡ w x + weighed xs x
   weighed-one x xs = rw (times-here x xs) (omega (arith, mul-suc (w x) (timesIn x xs)))
 
-  one-more : (x : ℕ) (xs us : List ℕ) → among x us ≡ true → w x + total (weighed xs) us ≤ total (weighed (x ∷ xs)) us
-  unfolding total
+  one-more : (x : ℕ) (xs us : List ℕ) → among x us ≡ true → w x + sumOf (weighed xs) us ≤ sumOf (weighed (x ∷ xs)) us
   one-more x xs [] e = absurd (let z : _≡_ {A = ℕ} 0 1 = cc in omega arith)
   one-more x xs (u ∷ us) e = go (eqb x u) refl e (one-more x xs us)
     where
-      rest : total (weighed xs) us ≤ total (weighed (x ∷ xs)) us
-      rest = total-more (weighed xs) (weighed (x ∷ xs)) us (weighed-more x xs)
+      rest : sumOf (weighed xs) us ≤ sumOf (weighed (x ∷ xs)) us
+      rest = sum-more (weighed xs) (weighed (x ∷ xs)) us (weighed-more x xs)
 
-      go : (b : Bool) → eqb x u ≡ b → b || among x us ≡ true → (among x us ≡ true → w x + total (weighed xs) us ≤ total (weighed (x ∷ xs)) us) → w x + (weighed xs u + total (weighed xs) us) ≤ weighed (x ∷ xs) u + total (weighed (x ∷ xs)) us
+      go : (b : Bool) → eqb x u ≡ b → b || among x us ≡ true
+          → (among x us ≡ true → w x + sumOf (weighed xs) us ≤ sumOf (weighed (x ∷ xs)) us)
+          → w x + (weighed xs u + sumOf (weighed xs) us) ≤ weighed (x ∷ xs) u + sumOf (weighed (x ∷ xs)) us
       go true p q r = rw (← eqb-true x u p) (omega (arith, weighed-one x xs, rest))
       go false p q r = omega (arith, weighed-more x xs u, r q)
 
-  weighed-all : (us xs : List ℕ) → every (λ x. among x us) xs ≡ true → total w xs ≤ total (weighed xs) us
-  unfolding total
+  weighed-all : (us xs : List ℕ) → every (λ x. among x us) xs ≡ true → sumOf w xs ≤ sumOf (weighed xs) us
   weighed-all us [] e = omega arith
   weighed-all us (x ∷ xs) e =
       omega (arith, weighed-all us xs (and-right (among x us) _ e), one-more x xs us (and-left (among x us) _ e))
 
-  pub pigeons : (often : ℕ → ℕ) (us xs : List ℕ) → every (λ x. among x us) xs ≡ true → ((u : ℕ) → timesIn u xs ≤ often u) → total w xs ≤ total (λ u. w u * often u) us
+  pub pigeons : (often : ℕ → ℕ) (us xs : List ℕ) → every (λ x. among x us) xs ≡ true → ((u : ℕ) → timesIn u xs ≤ often u)
+      → sumOf w xs ≤ sumOf (λ u. w u * often u) us
   pigeons often us xs e h =
-      omega (arith, weighed-all us xs e, total-more (weighed xs) (λ u. w u * often u) us (λ u. mul-le-mul-left (w u) (h u)))
-
--- with the weight 1 for each: the length
-pub total-length : {A : Type 0} (g : A → ℕ) (xs : List A) → total (λ x. 1) (map g xs) ≡ length xs
-unfolding total
-total-length g [] = refl
-total-length g (x ∷ xs) = omega (arith, total-length g xs)
+      omega (arith, weighed-all us xs e, sum-more (weighed xs) (λ u. w u * often u) us (λ u. mul-le-mul-left (w u) (h u)))

@@ -1,66 +1,49 @@
--- The first transfer parameter of a name, if one is present, and those in front of it, which have other names.
-use Prim.Native.Nat.{ℕ}
+-- The transfer parameter of a name with the number k of those, counted from 0, if the name stands oftener than k times: k of the name stand
+-- in front of it.
+use Prim.Native.Nat.{ℕ, zero, suc, _<_}
 use native.Mathlib.Omega.{arith}
 use mathlib.Core.Path.{_≡_, refl, sym, ap}
-use mathlib.Core.Bool.{Bool, true, false}
+use mathlib.Core.Bool.{Bool, true, false, cond}
 use mathlib.Core.List.{List, [], _∷_, _++_}
-use borrow.Author.Tests.{eqb-true, eqb-false, ne-eqb}
+use borrow.Author.Tests.{eqb-true}
 use lib.Dec.{eqb}
 use Rattle.annex.specs.Units.{nameOf}
+use Rattle.annex.specs.Heads.{kth}
 use Rattle.annex.specs.Items.{Item}
-use Rattle.annex.specs.Allowed.{Each, timesIn, namesOf}
-use Rattle.annex.specs.Heads.{among}
-use Rattle.annex.specs.Editing.{present}
-use Rattle.laws.specs.Bools.{or-left, or-right}
-use Rattle.theorems.specs.Lists.{times-here, times-rest}
+use Rattle.annex.specs.Allowed.{timesIn, namesOf}
 
--- this parameter has another name
-abbrev pub Other : ℕ → Item → Type 0
-Other x i = eqb (nameOf (i .header)) x ≡ false
+-- one more to be passed over where this one has the name (b), and this one is passed over
+pub passed-over : {A : Type 0} (b : Bool) (n : ℕ) (a : A) (f : ℕ → A) → cond b (kth (cond b (suc n) n) a f) (f (cond b (suc n) n)) ≡ f n
+passed-over true n a f = refl
+passed-over false n a f = refl
 
--- the first of the name x
-pub record Chosen (x : ℕ) (is : List Item) : Type 0 where
+-- the one of the name x with the number `which`
+pub record Chosen (x which : ℕ) (is : List Item) : Type 0 where
   pub front : List Item
   pub one : Item
   pub back : List Item
   pub whole : is ≡ front ++ (one ∷ back)
   pub named : nameOf (one .header) ≡ x
-  pub others : Each (Other x) front
+  pub before : timesIn x (namesOf front) ≡ which
 
-pub choose : (x : ℕ) (is : List Item) → present x is ≡ true → Chosen x is
-choose x [] p = absurd (let z : _≡_ {A = ℕ} 0 1 = cc in omega arith)
-choose x (i ∷ is) p = go (eqb (nameOf (i .header)) x) refl (choose x is)
+pub choose : (x which : ℕ) (is : List Item) → which < timesIn x (namesOf is) → Chosen x which is
+choose x which [] l = absurd (omega arith)
+choose x which (i ∷ is) l = go (eqb x (nameOf (i .header))) refl which l (λ w. choose x w is)
   where
-    y : ℕ
-    y = nameOf (i .header)
-
-    go : (b : Bool) → eqb y x ≡ b → (present x is ≡ true → Chosen x is) → Chosen x (i ∷ is)
-    go true e f = record { front = []; one = i; back = is; whole = refl; named = eqb-true y x e; others = tt }
-    go false e f =
-        let c = f (rw (ne-eqb x y (λ q. eqb-false y x e (sym q))) at p) in
+    behind : (w : ℕ) (c : Chosen x w is) (v : ℕ) → timesIn x (namesOf (i ∷ c .front)) ≡ v → Chosen x v (i ∷ is)
+    behind w c v e =
         record {
           front = i ∷ c .front;
           one = c .one;
           back = c .back;
           whole = ap (λ (l : List Item). i ∷ l) (c .whole);
           named = c .named;
-          others = (e, c .others);
+          before = e;
         }
 
--- where none is present, all have other names
-pub absent-others : (x : ℕ) (is : List Item) → present x is ≡ false → Each (Other x) is
-absent-others x [] p = tt
-absent-others x (i ∷ is) p =
-    let y = nameOf (i .header) in
-    let b = eqb x y in
-    let c = among x (namesOf is) in
-    (ne-eqb y x (λ q. eqb-false x y (or-left b c p) (sym q)), absent-others x is (or-right b c p))
-
--- the same of how often it stands
-pub none-others : (x : ℕ) (is : List Item) → timesIn x (namesOf is) ≡ 0 → Each (Other x) is
-none-others x [] t = tt
-none-others x (i ∷ is) t = (go (eqb (nameOf (i .header)) x) refl, none-others x is (omega (arith, times-rest x (nameOf (i .header)) (namesOf is))))
-  where
-    go : (b : Bool) → eqb (nameOf (i .header)) x ≡ b → b ≡ false
-    go true e = absurd (omega (arith, times-here x (namesOf is), rw (eqb-true (nameOf (i .header)) x e) at t))
-    go false e = refl
+    go : (b : Bool) → eqb x (nameOf (i .header)) ≡ b → (v : ℕ) → v < cond b (suc (timesIn x (namesOf is))) (timesIn x (namesOf is))
+        → ((w : ℕ) → w < timesIn x (namesOf is) → Chosen x w is) → Chosen x v (i ∷ is)
+    go true e zero l f =
+        record { front = []; one = i; back = is; whole = refl; named = sym (eqb-true x (nameOf (i .header)) e); before = refl }
+    go true e (suc w) l f = let c = f w (omega arith) in behind w c (suc w) (rw e (ap suc (c .before)))
+    go false e w l f = let c = f w l in behind w c w (rw e (c .before))

@@ -1,31 +1,31 @@
 -- Where C5 and a transfer parameter of it stand in an allowed record, laid out: right behind what is laid out before them. Finding gives
 -- those places.
-use Prim.Native.Nat.{ℕ, _+_}
+use Prim.Native.Nat.{ℕ, zero, suc, _+_, _-_, _≤_}
 use native.Mathlib.Omega.{arith}
 use native.Mathlib.Nat.{add-zero, zero-add}
 use mathlib.Core.Path.{_≡_, refl, sym, ap, _∙_}
-use mathlib.Core.Bool.{Bool, true, false}
+use mathlib.Core.Bool.{Bool, true, false, cond}
 use mathlib.Core.List.{List, [], _∷_, _++_, append-nil}
-use borrow.Author.Tests.{eq-eqb}
-use lib.Dec.{eqb, leb}
+use borrow.Author.Tests.{eq-eqb, ltb-true, ltb-false, le-ltb}
+use lib.Dec.{eqb, leb, ltb}
 use lib.ListN.{length, drop, length-append}
 use Rattle.annex.specs.Units.{nameOf, leadOf, extentOf, commonExtentOf}
-use Rattle.annex.specs.Heads.{among, transfer-data, oftenOf}
+use Rattle.annex.specs.Heads.{among, transfer-data, oftenOf, kth}
 use Rattle.annex.specs.Items.{Item, Part, contentsOf, dataPart}
 use Rattle.annex.specs.Layout.{ledBy, layoutItem, layoutItems, layoutPart, layout}
 use Rattle.annex.specs.Allowed.{every, Each, timesIn, isOctet, itemsIn, headersOf, namesOf, Allowed}
 use Rattle.annex.specs.Walk.{Par}
 use Rattle.annex.specs.Reading.{verdictOf, transfersOf, recordOf}
-use Rattle.annex.specs.Finding.{commonIn, commonFound, transferIn, transferAmong, transferFound}
-use Rattle.annex.specs.Editing.{present}
+use Rattle.annex.specs.Finding.{stretchOf, commonIn, commonFound, transferIn, transferAmong, transferFound}
 use Rattle.annex.specs.declared.Answer.the-variants.{Accepted}
 use Rattle.annex.specs.declared.Found.{Found}
 use Rattle.annex.specs.declared.Found.the-variants.{At, Nowhere}
-use Rattle.theorems.specs.Lists.{among-times}
+use Rattle.laws.specs.Often.{some-often}
+use Rattle.theorems.specs.Counts.{namesIn}
 use Rattle.theorems.specs.Transfers.{itemPar, itemPars, transfers-built}
 use Rattle.theorems.specs.Commons.{partPar}
 use Rattle.theorems.specs.Records.{Plain, plain-none, allowed-items}
-use Rattle.theorems.specs.Named.{Other, choose, absent-others}
+use Rattle.theorems.specs.Named.{passed-over, choose}
 use Rattle.theorems.specs.Parted.{Parted, one-data, no-data, layoutParts}
 use Rattle.theorems.specs.Messages.{read-then-laid}
 use Rattle.theorems.specs.Layouts.{partPars, laid-then-listed}
@@ -51,29 +51,31 @@ common-behind [] r at p = unfold layoutParts in rw add-zero
 common-behind (q ∷ ahead) r at p =
     rw (p .0, ← behind-part at q ahead) (common-behind ahead r (at + 1 + length (partPar at q .own)) (p .1))
 
-among-behind : (x : ℕ) (ahead : List Part) (r : List Part) (at : ℕ) → Each Plain ahead → transferAmong x (partPars at (ahead ++ r)) ≡ transferAmong x (partPars (at + length (layoutParts ahead)) r)
+among-behind : (x which : ℕ) (ahead : List Part) (r : List Part) (at : ℕ) → Each Plain ahead
+    → transferAmong x which (partPars at (ahead ++ r)) ≡ transferAmong x which (partPars (at + length (layoutParts ahead)) r)
 unfolding partPars transferAmong
-among-behind x [] r at p = unfold layoutParts in rw add-zero
-among-behind x (q ∷ ahead) r at p =
-    rw (p .0, ← behind-part at q ahead) (among-behind x ahead r (at + 1 + length (partPar at q .own)) (p .1))
+among-behind x which [] r at p = unfold layoutParts in rw add-zero
+among-behind x which (q ∷ ahead) r at p =
+    rw (p .0, ← behind-part at q ahead) (among-behind x which ahead r (at + 1 + length (partPar at q .own)) (p .1))
 
 -- at C5
 common-here : (is : List Item) (behind : List Part) (at : ℕ) → commonIn transfer-data (partPars at (dataPart is ∷ behind)) ≡ At (at + 2) (at + 2 + length (layoutItems is))
 unfolding partPars commonIn layoutPart leadOf commonExtentOf
 common-here is behind at = same-at _ _ _ _ (omega arith) (omega arith)
 
-among-here : (x : ℕ) (is : List Item) (behind : List Part) (at : ℕ) → transferAmong x (partPars at (dataPart is ∷ behind)) ≡ transferIn x (at + 2) (transfersOf (layoutItems is))
+among-here : (x which : ℕ) (is : List Item) (behind : List Part) (at : ℕ)
+    → transferAmong x which (partPars at (dataPart is ∷ behind)) ≡ transferIn x which (at + 2) (transfersOf (layoutItems is))
 unfolding partPars transferAmong layoutPart leadOf commonExtentOf
-among-here x is behind at = refl
+among-here x which is behind at = refl
 
 -- at the end mark
 common-end : (at : ℕ) → commonIn transfer-data (partPars at []) ≡ Nowhere
 unfolding partPars commonIn
 common-end at = refl
 
-among-end : (x at : ℕ) → transferAmong x (partPars at []) ≡ Nowhere
+among-end : (x which at : ℕ) → transferAmong x which (partPars at []) ≡ Nowhere
 unfolding partPars transferAmong
-among-end x at = refl
+among-end x which at = refl
 
 -- ---- the transfer parameters, from the place p on
 
@@ -81,18 +83,19 @@ item-length : (i : Item) → length (layoutItem i) ≡ 1 + length (ledBy (extent
 unfolding layoutItem
 item-length i = omega arith
 
-transfer-here : (x s : ℕ) (one : Item) (front back : List Item) (p : ℕ) → nameOf (one .header) ≡ x → Each (Other x) front → transferIn x s (itemPars p (front ++ (one ∷ back))) ≡ At (s + p + length (layoutItems front) + 1 + leadOf (extentOf (one .header))) (s + p + length (layoutItems front) + length (layoutItem one))
+-- behind as many of its name as stand in front
+transfer-here : (x s : ℕ) (one : Item) (front back : List Item) (p : ℕ) → nameOf (one .header) ≡ x
+    → transferIn x (timesIn x (namesOf front)) s (itemPars p (front ++ (one ∷ back))) ≡ At (s + p + length (layoutItems front) + 1 + leadOf (extentOf (one .header))) (s + p + length (layoutItems front) + length (layoutItem one))
 unfolding itemPars transferIn layoutItems
-transfer-here x s one [] back p n o = rw (eq-eqb _ x n) (same-at _ _ _ _ (omega arith) (omega (arith, item-length one)))
-transfer-here x s one (i ∷ front) back p n o =
+transfer-here x s one [] back p n = rw (eq-eqb x _ (sym n)) (same-at _ _ _ _ (omega arith) (omega (arith, item-length one)))
+transfer-here x s one (i ∷ front) back p n =
     let p′ = p + 1 + length (itemPar p i .own) in
     let l : length (layoutItem i ++ layoutItems front) ≡ 1 + length (itemPar p i .own) + length (layoutItems front) = simp length-append (omega (arith, item-length i)) in
-    rw (o .0) (transfer-here x s one front back p′ n (o .1) ∙ same-at _ _ _ _ (omega arith) (omega arith))
+    passed-over (eqb x (nameOf (i .header))) (timesIn x (namesOf front)) _ (λ w. transferIn x w s (itemPars p′ (front ++ (one ∷ back))))
+    ∙ transfer-here x s one front back p′ n
+    ∙ same-at _ _ _ _ (omega arith) (omega arith)
 
 -- the same, of the list
-abbrev pub OtherPar : ℕ → Par → Type 0
-OtherPar x q = eqb (nameOf (q .head)) x ≡ false
-
 items-behind : (front rest : List Item) (p : ℕ) → itemPars p (front ++ rest) ≡ itemPars p front ++ itemPars (p + length (layoutItems front)) rest
 unfolding itemPars layoutItems
 items-behind [] rest p = rw add-zero
@@ -101,15 +104,28 @@ items-behind (i ∷ front) rest p =
     let l : p′ + length (layoutItems front) ≡ p + length (layoutItem i ++ layoutItems front) = simp length-append (omega (arith, item-length i)) in
     ap (λ (qs : List Par). itemPar p i ∷ qs) (items-behind front rest p′ ∙ ap (λ (k : ℕ). itemPars p′ front ++ itemPars k rest) l)
 
-pub other-pars : (x : ℕ) (is : List Item) (p : ℕ) → Each (Other x) is → Each (OtherPar x) (itemPars p is)
+pub pars-named : (is : List Item) (p : ℕ) → namesIn (itemPars p is) ≡ namesOf is
 unfolding itemPars
-other-pars x [] p o = tt
-other-pars x (i ∷ is) p o = (o .0, other-pars x is (p + 1 + length (itemPar p i .own)) (o .1))
+pars-named [] p = refl
+pars-named (i ∷ is) p = ap (λ (l : List ℕ). nameOf (i .header) ∷ l) (pars-named is (p + 1 + length (itemPar p i .own)))
 
-transfer-nowhere : (x s : ℕ) (is : List Item) (p : ℕ) → Each (Other x) is → transferIn x s (itemPars p is) ≡ Nowhere
+-- where no more than so many have the name
+transfer-nowhere : (x which s : ℕ) (is : List Item) (p : ℕ) → timesIn x (namesOf is) ≤ which
+    → transferIn x which s (itemPars p is) ≡ Nowhere
 unfolding itemPars transferIn
-transfer-nowhere x s [] p o = refl
-transfer-nowhere x s (i ∷ is) p o = rw (o .0) (transfer-nowhere x s is (p + 1 + length (itemPar p i .own)) (o .1))
+transfer-nowhere x which s [] p l = refl
+transfer-nowhere x which s (i ∷ is) p l =
+    go (eqb x (nameOf (i .header))) which (λ w. transfer-nowhere x w s is (p + 1 + length (itemPar p i .own))) l
+  where
+    rest : List Par
+    rest = itemPars (p + 1 + length (itemPar p i .own)) is
+
+    go : (b : Bool) (v : ℕ) → ((w : ℕ) → timesIn x (namesOf is) ≤ w → transferIn x w s rest ≡ Nowhere)
+        → cond b (suc (timesIn x (namesOf is))) (timesIn x (namesOf is)) ≤ v
+        → cond b (kth v (stretchOf (extentOf (i .header)) s (itemPar p i)) (λ w. transferIn x w s rest)) (transferIn x v s rest) ≡ Nowhere
+    go true zero ih h = absurd (omega arith)
+    go true (suc w) ih h = ih w (omega arith)
+    go false w ih h = ih w h
 
 -- ---- in an allowed record, laid out
 
@@ -119,16 +135,22 @@ module _ (r : List Part) (a : Allowed r) (d : Parted r) where
   data-found =
       rw (laid-then-listed r a) (ap (λ (s : List Part). commonIn transfer-data (partPars 0 s)) (d .whole) ∙ common-behind (d .ahead) (dataPart (itemsIn r) ∷ d .behind) 0 (d .plain-ahead) ∙ rw zero-add (common-here (itemsIn r) (d .behind) (length (layoutParts (d .ahead)))))
 
-  transfers-found : (x : ℕ) → transferFound x (layout r) ≡ transferIn x (length (layoutParts (d .ahead)) + 2) (itemPars 0 (itemsIn r))
+  transfers-found : (x which : ℕ)
+      → transferFound x which (layout r) ≡ transferIn x which (length (layoutParts (d .ahead)) + 2) (itemPars 0 (itemsIn r))
   unfolding transferFound
-  transfers-found x =
-      rw (laid-then-listed r a, ← transfers-built (itemsIn r) (allowed-items r a) .listed) (ap (λ (s : List Part). transferAmong x (partPars 0 s)) (d .whole) ∙ among-behind x (d .ahead) (dataPart (itemsIn r) ∷ d .behind) 0 (d .plain-ahead) ∙ rw zero-add (among-here x (itemsIn r) (d .behind) (length (layoutParts (d .ahead)))))
+  transfers-found x which =
+      rw (laid-then-listed r a, ← transfers-built (itemsIn r) (allowed-items r a) .listed) (ap (λ (s : List Part). transferAmong x which (partPars 0 s)) (d .whole) ∙ among-behind x which (d .ahead) (dataPart (itemsIn r) ∷ d .behind) 0 (d .plain-ahead) ∙ rw zero-add (among-here x which (itemsIn r) (d .behind) (length (layoutParts (d .ahead)))))
 
-  -- the first of a name, in front of which these stand
-  pub transfer-found : (x : ℕ) (front : List Item) (one : Item) (back : List Item) → itemsIn r ≡ front ++ (one ∷ back) → nameOf (one .header) ≡ x → Each (Other x) front → transferFound x (layout r) ≡ At (length (layoutParts (d .ahead)) + 2 + length (layoutItems front) + 1 + leadOf (extentOf (one .header))) (length (layoutParts (d .ahead)) + 2 + length (layoutItems front) + length (layoutItem one))
-  transfer-found x front one back w n o =
+  -- one of a name, in front of which these stand
+  pub transfer-found : (x which : ℕ) (front : List Item) (one : Item) (back : List Item) → itemsIn r ≡ front ++ (one ∷ back)
+      → nameOf (one .header) ≡ x → timesIn x (namesOf front) ≡ which
+      → transferFound x which (layout r) ≡ At (length (layoutParts (d .ahead)) + 2 + length (layoutItems front) + 1 + leadOf (extentOf (one .header))) (length (layoutParts (d .ahead)) + 2 + length (layoutItems front) + length (layoutItem one))
+  transfer-found x which front one back w n b =
       let s = length (layoutParts (d .ahead)) + 2 in
-      transfers-found x ∙ ap (λ (is : List Item). transferIn x s (itemPars 0 is)) w ∙ rw add-zero at (transfer-here x s one front back 0 n o)
+      transfers-found x which
+      ∙ ap (λ (is : List Item). transferIn x which s (itemPars 0 is)) w
+      ∙ ap (λ (k : ℕ). transferIn x k s (itemPars 0 (front ++ (one ∷ back)))) (sym b)
+      ∙ rw add-zero at (transfer-here x s one front back 0 n)
 
   -- and what is listed of the transfer data
   pub transfer-listed : (front : List Item) (one : Item) (back : List Item) → itemsIn r ≡ front ++ (one ∷ back) → transfersOf (layoutItems (itemsIn r)) ≡ itemPars 0 front ++ (itemPar (length (layoutItems front)) one ∷ itemPars (length (layoutItems front) + 1 + length (itemPar 0 one .own)) back)
@@ -136,8 +158,8 @@ module _ (r : List Part) (a : Allowed r) (d : Parted r) where
   transfer-listed front one back w =
       transfers-built (itemsIn r) (allowed-items r a) .listed ∙ ap (itemPars 0) w ∙ rw zero-add at (items-behind front (one ∷ back) 0)
 
-  transfer-absent : (x : ℕ) → Each (Other x) (itemsIn r) → transferFound x (layout r) ≡ Nowhere
-  transfer-absent x o = transfers-found x ∙ transfer-nowhere x (length (layoutParts (d .ahead)) + 2) (itemsIn r) 0 o
+  transfer-absent : (x which : ℕ) → timesIn x (namesOf (itemsIn r)) ≤ which → transferFound x which (layout r) ≡ Nowhere
+  transfer-absent x which l = transfers-found x which ∙ transfer-nowhere x which (length (layoutParts (d .ahead)) + 2) (itemsIn r) 0 l
 
 -- ---- what is found is there
 
@@ -146,9 +168,10 @@ module _ (r : List Part) (a : Allowed r) (p : Each Plain r) where
   unfolding commonFound
   no-data-found = rw (laid-then-listed r a) (rw append-nil at (common-behind r [] 0 p) ∙ common-end (0 + length (layoutParts r)))
 
-  no-transfer-found : (x : ℕ) → transferFound x (layout r) ≡ Nowhere
+  no-transfer-found : (x which : ℕ) → transferFound x which (layout r) ≡ Nowhere
   unfolding transferFound
-  no-transfer-found x = rw (laid-then-listed r a) (rw append-nil at (among-behind x r [] 0 p) ∙ among-end x (0 + length (layoutParts r)))
+  no-transfer-found x which =
+      rw (laid-then-listed r a) (rw append-nil at (among-behind x which r [] 0 p) ∙ among-end x which (0 + length (layoutParts r)))
 
 abbrev pub isFound : Found → Bool
 isFound (At s e) = true
@@ -161,29 +184,36 @@ data-is r a = go (among transfer-data (headersOf r)) refl
     go true e = rw (data-found r a (one-data r a e))
     go false e = rw (no-data-found r a (no-data r e))
 
-name-is : (x : ℕ) (r : List Part) → Allowed r → isFound (transferFound x (layout r)) ≡ present x (itemsIn r)
-name-is x r a = go (among transfer-data (headersOf r)) refl
+name-is : (x which : ℕ) (r : List Part) → Allowed r
+    → isFound (transferFound x which (layout r)) ≡ ltb which (timesIn x (namesOf (itemsIn r)))
+name-is x which r a = go (among transfer-data (headersOf r)) refl
   where
-    by : Parted r → (b : Bool) → present x (itemsIn r) ≡ b → isFound (transferFound x (layout r)) ≡ b
-    by d true e =
-        let c = choose x (itemsIn r) e in
-        rw (transfer-found r a d x (c .front) (c .one) (c .back) (c .whole) (c .named) (c .others))
-    by d false e = rw (transfer-absent r a d x (absent-others x (itemsIn r) e))
+    times : ℕ
+    times = timesIn x (namesOf (itemsIn r))
 
-    go : (b : Bool) → among transfer-data (headersOf r) ≡ b → isFound (transferFound x (layout r)) ≡ present x (itemsIn r)
-    go true e = by (one-data r a e) (present x (itemsIn r)) refl
+    by : Parted r → (b : Bool) → ltb which times ≡ b → isFound (transferFound x which (layout r)) ≡ b
+    by d true e =
+        let c = choose x which (itemsIn r) (ltb-true which times e) in
+        rw (transfer-found r a d x which (c .front) (c .one) (c .back) (c .whole) (c .named) (c .before))
+    by d false e = rw (transfer-absent r a d x which (ltb-false which times e))
+
+    go : (b : Bool) → among transfer-data (headersOf r) ≡ b → isFound (transferFound x which (layout r)) ≡ ltb which times
+    go true e = by (one-data r a e) (ltb which times) refl
     go false e =
         let plain = no-data r e in
-        rw (no-transfer-found r a plain x, plain-none r (a .held) plain)
+        rw (no-transfer-found r a plain x which, plain-none r (a .held) plain, le-ltb which 0 (omega arith))
 
 -- of an accepted message
 pub data-there : (m : List ℕ) → every isOctet m ≡ true → (n : ℕ) → verdictOf m ≡ Accepted n → isFound (commonFound transfer-data m) ≡ among transfer-data (headersOf (recordOf m))
 data-there m o n e = let w = read-then-laid m o n e in rw (w .2) at (data-is (recordOf m) (w .1))
 
-pub name-there : (x : ℕ) (m : List ℕ) → every isOctet m ≡ true → (n : ℕ) → verdictOf m ≡ Accepted n → isFound (transferFound x m) ≡ present x (itemsIn (recordOf m))
-name-there x m o n e = let w = read-then-laid m o n e in rw (w .2) at (name-is x (recordOf m) (w .1))
+pub name-there : (x which : ℕ) (m : List ℕ) → every isOctet m ≡ true → (n : ℕ) → verdictOf m ≡ Accepted n
+    → isFound (transferFound x which m) ≡ ltb which (timesIn x (namesOf (itemsIn (recordOf m))))
+name-there x which m o n e = let w = read-then-laid m o n e in rw (w .2) at (name-is x which (recordOf m) (w .1))
 
--- and that a name may not stand once more, as it may stand once
-pub often-there : (x : ℕ) (m : List ℕ) → every isOctet m ≡ true → (n : ℕ) → verdictOf m ≡ Accepted n → isFound (transferFound x m) ≡ leb (oftenOf x) (timesIn x (namesOf (itemsIn (recordOf m))))
-unfolding oftenOf
-often-there x m o n e = name-there x m o n e ∙ sym (among-times x (namesOf (itemsIn (recordOf m))))
+-- and that a name may not stand once more: the last that may stand is there
+pub often-there : (x : ℕ) (m : List ℕ) → every isOctet m ≡ true → (n : ℕ) → verdictOf m ≡ Accepted n
+    → isFound (transferFound x (oftenOf x - 1) m) ≡ leb (oftenOf x) (timesIn x (namesOf (itemsIn (recordOf m))))
+often-there x m o n e =
+    let l : suc (oftenOf x - 1) ≡ oftenOf x = omega (arith, some-often x) in
+    name-there x (oftenOf x - 1) m o n e ∙ ap (λ (k : ℕ). leb k (timesIn x (namesOf (itemsIn (recordOf m))))) l

@@ -18,7 +18,7 @@ use Rattle.annex.specs.Items.{Item, Part}
 use Rattle.annex.specs.Layout.{layoutItems, layout}
 use Rattle.annex.specs.Allowed.{timesIn, headersOf, itemsIn, namesOf}
 use Rattle.annex.specs.Reading.{verdictOf, recordOf}
-use Rattle.annex.specs.Editing.{Edit, newHeader, newAfter, present, newHead, newContents, editRefusal, edited, recordEditing, editingOf}
+use Rattle.annex.specs.Editing.{Edit, newHeader, newAfter, newHead, newContents, editRefusal, edited, recordEditing, editingOf}
 use Rattle.annex.specs.Editing.Edit.{Replacing, Appending, Removing}
 use Rattle.annex.specs.declared.Answer.the-variants.{Accepted}
 use Rattle.annex.specs.declared.Fault.the-variants.{Sound}
@@ -36,11 +36,11 @@ pub record NewRight (new : List ℕ) : Type 0 where
   pub long : Long (extentOf (newHeader new)) (newAfter new)
   pub sound : faultOf (newHeader new) (contentsIn (extentOf (newHeader new)) (newAfter new)) ≡ Sound
 
--- among C5's parameters: a name to be replaced or removed is there (16), one to be appended may stand once more (10)
+-- among C5's parameters: one to be replaced or removed is there (16), the name of one to be appended may stand once more (10)
 abbrev pub EditRight : Edit → List Item → Type 0
-EditRight (Replacing new) is = NewRight new × (present (nameOf (newHeader new)) is ≡ true)
+EditRight (Replacing new which) is = NewRight new × (which < timesIn (nameOf (newHeader new)) (namesOf is))
 EditRight (Appending new) is = NewRight new × (timesIn (nameOf (newHeader new)) (namesOf is) < oftenOf (nameOf (newHeader new)))
-EditRight (Removing x) is = present x is ≡ true
+EditRight (Removing x which) is = which < timesIn x (namesOf is)
 
 -- the record of the message in a buffer's first n octets, edited
 abbrev pub editedIn : Edit → List ℕ → ℕ → List Part
@@ -89,15 +89,17 @@ new-passed new b k j a =
 -- the edit's own tests
 pub edit-passed : (e : Edit) (is : List Item) (j : ℕ) → editRefusal e is ≡ Accepted j → EditRight e is
 unfolding editRefusal
-edit-passed (Replacing new) is j a =
-    let b = present (nameOf (newHeader new)) is in
-    let p = new-passed new (not b) absent j a in
-    (p .0, not-false b (p .1))
+edit-passed (Replacing new which) is j a =
+    let t = timesIn (nameOf (newHeader new)) (namesOf is) in
+    let p = new-passed new (leb t which) absent j a in
+    (p .0, leb-false t which (p .1))
 edit-passed (Appending new) is j a =
     let x = nameOf (newHeader new) in
     let p = new-passed new (leb (oftenOf x) (timesIn x (namesOf is))) repeated-name j a in
     (p .0, leb-false (oftenOf x) (timesIn x (namesOf is)) (p .1))
-edit-passed (Removing x) is j a = not-false (present x is) (passed (not (present x is)) absent 0 j (Accepted 0) a .0)
+edit-passed (Removing x which) is j a =
+    let t = timesIn x (namesOf is) in
+    leb-false t which (passed (leb t which) absent 0 j (Accepted 0) a .0)
 
 pub edit-taken : (e : Edit) (d : List ℕ) (n k : ℕ) → editingOf e d n ≡ Accepted k → NoReason e d n × (k ≡ length (layout (editedIn e d n)))
 unfolding editingOf recordEditing
@@ -137,11 +139,12 @@ new-accepts new k r =
 
 edit-right : (e : Edit) (is : List Item) → EditRight e is → editRefusal e is ≡ Accepted 0
 unfolding editRefusal
-edit-right (Replacing new) is r = rw (r .1) (new-accepts new absent (r .0))
+edit-right (Replacing new which) is r =
+    rw (lt-leb (timesIn (nameOf (newHeader new)) (namesOf is)) which (r .1)) (new-accepts new absent (r .0))
 edit-right (Appending new) is r =
     let x = nameOf (newHeader new) in
     rw (lt-leb (oftenOf x) (timesIn x (namesOf is)) (r .1)) (new-accepts new repeated-name (r .0))
-edit-right (Removing x) is r = rw r
+edit-right (Removing x which) is r = rw (lt-leb (timesIn x (namesOf is)) which r)
 
 -- what is left with all but room right: 14, 15, or the new length
 pub edit-answer : (e : Edit) (d : List ℕ) (n j : ℕ) → n ≤ length d → verdictOf (take n d) ≡ Accepted j → among transfer-data (headersOf (recordOf (take n d))) ≡ true → EditRight e (itemsIn (recordOf (take n d))) → editingOf e d n ≡ refuse (ltb most-transfer-octets (length (layoutItems (itemsIn (editedIn e d n))))) transfer-over 0 (refuse (ltb (length d) (length (layout (editedIn e d n)))) no-room 0 (Accepted (length (layout (editedIn e d n)))))

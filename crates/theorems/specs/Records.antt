@@ -20,7 +20,8 @@ use Rattle.annex.specs.declared.Alphabet.{Alphabet}
 use Rattle.annex.specs.declared.Alphabet.the-variants.{Dialled, Numbered}
 use Rattle.laws.specs.Faults.{is-sound}
 use Rattle.laws.specs.Bools.{and-left, and-right, and-both}
-use Rattle.laws.specs.Members.{among-every}
+use Rattle.laws.specs.Members.{among-every, count}
+use Rattle.laws.specs.Often.{usedNames, often-sum}
 use Rattle.theorems.specs.Lists.{
   each-append,
   each-left,
@@ -33,8 +34,6 @@ use Rattle.theorems.specs.Lists.{
   among-append,
   at-most,
   most-at,
-  total,
-  total-length,
   pigeons,
 }
 use Rattle.theorems.specs.Lengths.{led-length}
@@ -110,13 +109,10 @@ common-names [] a = refl
 common-names (p ∷ r) a = and-both (among (nameOf (p .header)) commonNames) _ (common-name (p .header) (a .0 .listed)) (common-names r (a .1))
 
 pub few-parts : (r : List Part) → Each AllowedPart r → Once r → length r ≤ most-commons
-unfolding total
 few-parts r a o =
-    omega (arith, total-length (λ p. nameOf (p .header)) r, pigeons (λ x. 1) (λ x. 1) commonNames (partNamesOf r) (common-names r a) o)
+    omega (arith, count (partNamesOf r), length-map r (λ p. nameOf (p .header)), pigeons (λ x. 1) (λ x. 1) commonNames (partNamesOf r) (common-names r a) o)
 
--- fifty-two transfer parameters
-abbrev usedNames : List ℕ
-usedNames = freeNames ++ map (λ r. nameOf (r .header)) heads
+-- as many transfer parameters as all names in use may stand
 
 used-name : (h : ℕ) → nameUsed h ≡ true → among (nameOf h) usedNames ≡ true
 unfolding nameUsed
@@ -127,9 +123,8 @@ used-names [] a = refl
 used-names (i ∷ is) a = and-both (among (nameOf (i .header)) usedNames) _ (used-name (i .header) (a .0 .used)) (used-names is (a .1))
 
 pub few-items : (is : List Item) → AllowedItems is → length is ≤ most-transfers
-unfolding total oftenOf
 few-items is a =
-    omega (arith, total-length (λ i. nameOf (i .header)) is, pigeons (λ x. 1) oftenOf usedNames (namesOf is) (used-names is (a .each)) (a .often))
+    omega (arith, count (namesOf is), length-map is (λ i. nameOf (i .header)), pigeons (λ x. 1) oftenOf usedNames (namesOf is) (used-names is (a .each)) (a .often), often-sum)
 
 -- contents and octets
 pub contents-within : (is : List Item) → contentsSum is ≤ length (layoutItems is)

@@ -11,7 +11,7 @@ use Rattle.annex.specs.Units.{nameOf, leadOf, extentOf}
 use Rattle.annex.specs.Heads.{among, transfer-data}
 use Rattle.annex.specs.Items.{Item, Part}
 use Rattle.annex.specs.Layout.{layoutItem, layoutItems, layout}
-use Rattle.annex.specs.Allowed.{every, Each, isOctet, itemsIn, headersOf, Allowed}
+use Rattle.annex.specs.Allowed.{every, timesIn, isOctet, itemsIn, headersOf, Allowed}
 use Rattle.annex.specs.Walk.{Par}
 use Rattle.annex.specs.Reading.{transfersVerdict, verdictOf, transfersOf, recordOf}
 use Rattle.annex.specs.Finding.{commonFound, transferFound}
@@ -20,35 +20,37 @@ use Rattle.annex.specs.Editing.Edit.{Replacing, Appending, Removing}
 use Rattle.annex.specs.declared.Answer.the-variants.{Accepted}
 use Rattle.annex.specs.declared.Found.the-variants.{At}
 use Rattle.theorems.specs.Lists.{every-take}
+use Rattle.theorems.specs.Counts.{namesIn}
 use Rattle.theorems.specs.Transfers.{itemPar, itemPars, transfers-built}
 use Rattle.theorems.specs.Records.{allowed-items, layout-append}
 use Rattle.theorems.specs.Messages.{read-then-laid}
 use Rattle.theorems.specs.Parted.{Parted, one-data, layoutParts, layout-parted}
-use Rattle.theorems.specs.Places.{OtherPar, other-pars, data-found, transfer-found, transfer-listed}
+use Rattle.theorems.specs.Places.{pars-named, data-found, transfer-found, transfer-listed}
 use Rattle.theorems.specs.Reasons.{EditRight, editedIn, edit-taken}
-use Rattle.theorems.specs.Edits.{OfOctets, new-read, First, newItems, Changed, changed, items-edited, data-edited}
+use Rattle.theorems.specs.Edits.{OfOctets, new-read, Picked, newItems, Changed, changed, items-edited, data-edited}
 
 -- a message with these octets before C5, in front of a part of the transfer data, in that part, behind it in the transfer data, and after C5
 abbrev pub withPart : List ℕ → List ℕ → List ℕ → List ℕ → List ℕ → List ℕ
 withPart before front part back after =
     before ++ (transfer-data ∷ length (front ++ (part ++ back)) ∷ (front ++ (part ++ (back ++ after))))
 
--- the octets old are the first parameter of the name x in the transfer data t, its header at the place `at` of t; t stands at the place s of m
-pub record Stands (x : ℕ) (m t : List ℕ) (s at : ℕ) (old : List ℕ) : Type 0 where
+-- the octets old are the parameter of the name x with the number `which` in the transfer data t, its header at the place `at` of t; t
+-- stands at the place s of m
+pub record Stands (x which : ℕ) (m t : List ℕ) (s at : ℕ) (old : List ℕ) : Type 0 where
   pub item : Item
   pub laid : old ≡ layoutItem item
   pub named : nameOf (item .header) ≡ x
   pub ahead : List Par
   pub rest : List Par
-  pub others : Each (OtherPar x) ahead
+  pub before : timesIn x (namesIn ahead) ≡ which
   pub listed : transfersOf t ≡ ahead ++ (itemPar at item ∷ rest)
-  pub found : transferFound x m ≡ At (s + at + 1 + leadOf (extentOf (item .header))) (s + at + length old)
+  pub found : transferFound x which m ≡ At (s + at + 1 + leadOf (extentOf (item .header))) (s + at + length old)
 
 -- what each edit takes out and puts in
 abbrev pub Told : Edit → List ℕ → List ℕ → ℕ → ℕ → List ℕ → List ℕ → List ℕ → Type 0
-Told (Replacing x) m t s at old new back = (new ≡ x) × Stands (nameOf (newHeader x)) m t s at old
+Told (Replacing x which) m t s at old new back = (new ≡ x) × Stands (nameOf (newHeader x)) which m t s at old
 Told (Appending x) m t s at old new back = (new ≡ x) × (old ≡ []) × (back ≡ [])
-Told (Removing x) m t s at old new back = (new ≡ []) × Stands x m t s at old
+Told (Removing x which) m t s at old new back = (new ≡ []) × Stands x which m t s at old
 
 -- the message m becomes the layout of r: C5's header stands at the place `length before`, the parameter's, or the end of the transfer
 -- data for one that is appended, at `length before + 2 + length front`
@@ -84,8 +86,9 @@ layout-with r d f o b e =
     ap layout (d .whole) ∙ layout-parted (d .ahead) (itemsIn r) (d .behind) ∙ rw (l, nested)
 
 module _ (r : List Part) (a : Allowed r) (d : Parted r) where
-  first-stands : (x : ℕ) (front old back : List Item) → itemsIn r ≡ front ++ (old ++ back) → First x front old → Stands x (layout r) (layoutItems (itemsIn r)) (length (layoutParts (d .ahead)) + 2) (length (layoutItems front)) (layoutItems old)
-  first-stands x front old back w f =
+  picked-stands : (x which : ℕ) (front old back : List Item) → itemsIn r ≡ front ++ (old ++ back) → Picked x which front old
+      → Stands x which (layout r) (layoutItems (itemsIn r)) (length (layoutParts (d .ahead)) + 2) (length (layoutItems front)) (layoutItems old)
+  picked-stands x which front old back w f =
       let laid : layoutItems old ≡ layoutItem (f .one) = ap layoutItems (f .alone) ∙ layout-one (f .one) in
       let whole : itemsIn r ≡ front ++ (f .one ∷ back) = rw (f .alone) at w in
       record {
@@ -94,16 +97,16 @@ module _ (r : List Part) (a : Allowed r) (d : Parted r) where
         named = f .named;
         ahead = itemPars 0 front;
         rest = itemPars (length (layoutItems front) + 1 + length (itemPar 0 (f .one) .own)) back;
-        others = other-pars x front 0 (f .others);
+        before = rw (pars-named front 0) (f .before);
         listed = transfer-listed r a d front (f .one) back whole;
-        found = rw laid (transfer-found r a d x front (f .one) back whole (f .named) (f .others));
+        found = rw laid (transfer-found r a d x which front (f .one) back whole (f .named) (f .before));
       }
 
   told-of : (e : Edit) → EditRight e (itemsIn r) → OfOctets e → (c : Changed e (itemsIn r)) → Told e (layout r) (layoutItems (itemsIn r)) (length (layoutParts (d .ahead)) + 2) (length (layoutItems (c .front))) (layoutItems (c .old)) (layoutItems (newItems e)) (layoutItems (c .back))
   unfolding layoutItems
-  told-of (Replacing x) w o c = (layout-one _ ∙ new-read x (w .0) o .laid, first-stands (nameOf (newHeader x)) (c .front) (c .old) (c .back) (c .was) (c .taken))
+  told-of (Replacing x which) w o c = (layout-one _ ∙ new-read x (w .0) o .laid, picked-stands (nameOf (newHeader x)) which (c .front) (c .old) (c .back) (c .was) (c .taken))
   told-of (Appending x) w o c = (layout-one _ ∙ new-read x (w .0) o .laid, ap layoutItems (c .taken .0), ap layoutItems (c .taken .1))
-  told-of (Removing x) w o c = (refl, first-stands x (c .front) (c .old) (c .back) (c .was) (c .taken))
+  told-of (Removing x which) w o c = (refl, picked-stands x which (c .front) (c .old) (c .back) (c .was) (c .taken))
 
   record-splices : (e : Edit) → EditRight e (itemsIn r) → OfOctets e → Spliced e (layout r) (edited e r)
   unfolding data-edited

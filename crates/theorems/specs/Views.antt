@@ -67,12 +67,12 @@ pub view-pack : (r : List Part) → Held r → view (pack r) ≡ r
 unfolding view pack pad
 view-pack r h =
     rw (commons-pack r)
-    (view-parts r (replicate (52 - length (map headOf (itemsIn r))) noTransfer) (replicate (512 - length (valuesOf (itemsIn r))) 0) h)
+    (view-parts r (replicate (most-transfers - length (map headOf (itemsIn r))) noTransfer) (replicate (512 - length (valuesOf (itemsIn r))) 0) h)
 
 transfers-pack : (r : List Part) → take (length (itemsIn r)) (pack r .transfer) ≡ map headOf (itemsIn r)
 unfolding pack pad
 transfers-pack r =
-    take-at (map headOf (itemsIn r)) (replicate (52 - length (map headOf (itemsIn r))) noTransfer) (length (itemsIn r)) (length-map (itemsIn r) headOf)
+    take-at (map headOf (itemsIn r)) (replicate (most-transfers - length (map headOf (itemsIn r))) noTransfer) (length (itemsIn r)) (length-map (itemsIn r) headOf)
 
 -- within the limits the counts and lengths stay within the arrays
 pub whole-pack : (r : List Part) → Held r → Within r → isWhole (pack r) ≡ true
@@ -92,7 +92,7 @@ OctetTransfer t = t .header < 256
 -- what a struct of the code has by its types, as far as a record needs it
 pub record FitsStruct (s : Record) : Type 0 where
   pub commons-long : length (s .common) ≡ 6
-  pub transfers-long : length (s .transfer) ≡ 52
+  pub transfers-long : length (s .transfer) ≡ most-transfers
   pub values-long : length (s .values) ≡ 512
   pub common-octets : Each OctetCommon (s .common)
   pub transfer-octets : Each OctetTransfer (s .transfer)

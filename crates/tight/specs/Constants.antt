@@ -19,7 +19,8 @@ use Rattle.annex.specs.Items.Holding.{AsContents}
 use Rattle.annex.specs.Layout.{layoutItem}
 use Rattle.annex.specs.Allowed.{every, lengthRight, faultIn}
 use Rattle.annex.specs.Walk.{walk}
-use Rattle.annex.specs.Reading.{transferOf, octetAllowed, commonForm, endOf, transferBy, commonsBy}
+use Rattle.annex.specs.Reading.{transferOf, octetAllowed, commonForm, endOf, transferBy, commonBy, messageVerdictBy, verdictBy, commonsBy}
+use Rattle.annex.specs.Finding.{commonIn, commonFound, findAnswer}
 use Rattle.annex.specs.Records.{valueHead, dataHead, carriedHead, dialledHead, numberHead, pad, valuesOf, pack, viewItems, lengthsOf, transfersSum, viewParts, commonsIn, isWhole, view}
 use Rattle.annex.specs.Writing.{itemWriting, overLimits}
 use Rattle.annex.specs.Promises.{Gives}
@@ -28,9 +29,9 @@ use Rattle.annex.specs.declared.Alphabet.the-variants.{Dialled, Numbered}
 use Rattle.annex.specs.declared.Answer.the-variants.{Accepted, Refused}
 use Rattle.annex.specs.declared.Extent.the-variants.{CountOctet, LengthOctet}
 use Rattle.annex.specs.declared.Fault.the-variants.{Sound}
-use Rattle.annex.specs.declared.Key.the-variants.{Name}
+use Rattle.annex.specs.declared.Key.the-variants.{Header, Name}
 use Rattle.laws.specs.Plain.{pars}
-use Rattle.laws.specs.Finding.{searchFrom, firstIn, commonPlain}
+use Rattle.laws.specs.Finding.{soughtIn, searchIn, commonPlain, foundBy}
 use Rattle.octets.specs.Splice.{spliceFits}
 use Rattle.parameter.specs.Opening.{heldBy, headFor, openedHead}
 use Rattle.parameter.specs.declared.opening.Held.{Held}
@@ -38,6 +39,7 @@ use Rattle.parameter.specs.declared.opening.Held.the-variants as held
 use Rattle.writer.specs.Along.{usedAt}
 use Rattle.writer.specs.Laying.{headLength}
 use Rattle.writer.specs.Limits.{isOver}
+use Rattle.tight.specs.Wrong.{short}
 
 -- whatever number tells two answers apart
 pub no-constant : {A : Type 0} (number : A → ℕ) (x y c : A) → eqb (number x) (number y) ≡ false → Gives x c → Gives y c → ⊥
@@ -93,8 +95,9 @@ rows =
     (numberOf (commonForm 0 0x01 (0x01 ∷ [])), numberOf (commonForm 1 0x01 (0x01 ∷ []))) ∷  -- common_form
     (numberOf (endOf true []), numberOf (endOf false [])) ∷  -- end_mark
     (flag (isCall 0x83), flag (isCall 0x04)) ∷  -- is_call
-    (stopOf (searchFrom (Name 0x01) 0 (0x41 ∷ 0x01 ∷ [])), stopOf (searchFrom (Name 0x02) 0 (0x41 ∷ 0x01 ∷ []))) ∷  -- search
+    (stopOf (searchIn (Name 0x01 0) (0x41 ∷ 0x01 ∷ [])), stopOf (searchIn (Name 0x01 1) (0x41 ∷ 0x01 ∷ []))) ∷  -- search
     (stopOf (commonPlain 0x01 K), stopOf (commonPlain 0x06 K)) ∷  -- common_plain
+    (givenOf (findAnswer short (foundBy (Header 0x01) short)), givenOf (findAnswer short (foundBy (Header 0x06) short))) ∷  -- find_both
     (givenOf (Accepted 9), givenOf (Refused 15 0)) ∷  -- given
     (usedAt (pack recordOfM) 0, usedAt (pack recordOfM) 1) ∷  -- values_before
     (flag (isOver (pack recordOfK)), flag (isOver (pack (recordOfK ++ (recordOfK ++ (recordOfK ++ recordOfK)))))) ∷  -- over_limits
@@ -104,5 +107,5 @@ rows =
     (flag (spliceFits (0x00 ∷ []) 1 0 0 []), flag (spliceFits (0x00 ∷ []) 2 0 0 [])) ∷ []  -- splice
 
 pub rows-differ : every (λ (r : ℕ × ℕ). not (eqb (r .0) (r .1))) rows ≡ true
-unfolding afterOf extentOf commonExtentOf leadOf nameUsed pliRight oftenOf zeroesOf formOf halves joined digitOf codeOf isCode halvesFault digitsFault digitsOf packed dialledFault faultOf holdingOf itemOf contentsOf ownOf layoutItem lengthRight faultIn walk transferBy octetAllowed commonForm endOf commonsBy pad valuesOf pack lengthsOf transfersSum isWhole viewItems viewParts view overLimits itemWriting pars firstIn
+unfolding afterOf extentOf commonExtentOf leadOf nameUsed pliRight oftenOf zeroesOf formOf halves joined digitOf codeOf isCode halvesFault digitsFault digitsOf packed dialledFault faultOf holdingOf itemOf contentsOf ownOf layoutItem lengthRight faultIn walk transferBy octetAllowed commonForm endOf commonBy messageVerdictBy verdictBy commonsBy commonIn commonFound pad valuesOf pack lengthsOf transfersSum isWhole viewItems viewParts view overLimits itemWriting pars soughtIn
 rows-differ = refl

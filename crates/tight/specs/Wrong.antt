@@ -8,7 +8,7 @@ use mathlib.Core.List.{List, [], _∷_, _++_}
 use lib.ListN.{length, getD, replicate}
 use Rattle.annex.specs.Answers.{numberOf, placeOf, givenOf}
 use Rattle.annex.specs.Units.{afterOf, leadOf, commonExtentOf, extentOf}
-use Rattle.annex.specs.Heads.{nameUsed, pliRight, oftenOf, zeroesOf, formOf}
+use Rattle.annex.specs.Heads.{nameUsed, pliRight, oftenOf, zeroesOf, formOf, most-rows}
 use Rattle.annex.specs.Digits.{halves, joined, digitOf, codeOf, isCode, halvesFault, digitsFault, digitsOf, packed}
 use Rattle.annex.specs.Contents.{numberFault, callingFault, genericFault, dialledFault, twoFault, faultOf}
 use Rattle.annex.specs.Items.{holdingOf, itemOf, contentsOf, ownOf}
@@ -31,7 +31,7 @@ use Rattle.annex.specs.Writing.{
 }
 use Rattle.annex.specs.Finding.{commonIn, commonFound, transferIn, transferAmong, transferFound, findAnswer, findPart}
 use Rattle.annex.specs.Spans.{transferRows, commonRows, rowsOf, rowAt, spansOf}
-use Rattle.annex.specs.Editing.{Edit, editRefusal, replaced, removed, editedItems, edited, recordEditing, editingOf, bufferOf}
+use Rattle.annex.specs.Editing.{Edit, editRefusal, instead, editedItems, edited, recordEditing, editingOf, bufferOf}
 use Rattle.annex.specs.Editing.Edit.{Replacing, Appending, Removing}
 use Rattle.annex.specs.Promises.{
   VerdictPromise,
@@ -58,7 +58,7 @@ abbrev pub short : List ℕ
 short = K ++ (0x00 ∷ [])
 
 abbrev pub shorter : Edit
-shorter = Replacing (0x98 ∷ 0x02 ∷ 0x21 ∷ [])
+shorter = Replacing (0x98 ∷ 0x02 ∷ 0x21 ∷ []) 0
 
 abbrev pub another : Edit
 another = Appending (0x41 ∷ 0x01 ∷ [])
@@ -75,10 +75,10 @@ pub record Said : Type 0 where
   pub own-call : findPart M (commonFound 0x83 M) ≡ 0x39 ∷ 0x30 ∷ 0x00 ∷ []
   pub own-call-at : findAnswer M (commonFound 0x83 M) ≡ Accepted 3
   pub no-partner : findAnswer M (commonFound 0x82 M) ≡ Refused 16 0
-  pub dialled : findPart M (transferFound 0x18 M) ≡ 0x03 ∷ 0x21 ∷ 0x0A ∷ []
-  pub dialled-at : findAnswer M (transferFound 0x18 M) ≡ Accepted 19
-  pub no-name : findAnswer M (transferFound 0x3F M) ≡ Refused 16 0
-  pub nine-rows : spansOf M 59 ≡ Accepted 9
+  pub dialled : findPart M (transferFound 0x18 0 M) ≡ 0x03 ∷ 0x21 ∷ 0x0A ∷ []
+  pub dialled-at : findAnswer M (transferFound 0x18 0 M) ≡ Accepted 19
+  pub no-name : findAnswer M (transferFound 0x3F 0 M) ≡ Refused 16 0
+  pub nine-rows : spansOf M most-rows ≡ Accepted 9
   pub no-room : spansOf M 8 ≡ Refused 15 0
   pub area-row : rowAt M 5 ≡ record { offset = 12; header = 0x90; len = 3 }
   pub no-row : rowAt M 9 ≡ record { offset = 0; header = 0; len = 0 }
@@ -90,12 +90,12 @@ pub record Said : Type 0 where
   pub appended-answer : editingOf another roomy 23 ≡ Accepted 25
   pub appended-length : getD (bufferOf another roomy 23) 11 0 ≡ 0x0C
   pub appended-end : getD (bufferOf another roomy 23) 24 0 ≡ 0x00
-  pub removed-answer : editingOf (Removing 0x18) M 23 ≡ Accepted 19
-  pub removed-length : getD (bufferOf (Removing 0x18) M 23) 11 0 ≡ 0x06
-  pub removed-rest : getD (bufferOf (Removing 0x18) M 23) 19 0 ≡ 0x00
+  pub removed-answer : editingOf (Removing 0x18 0) M 23 ≡ Accepted 19
+  pub removed-length : getD (bufferOf (Removing 0x18 0) M 23) 11 0 ≡ 0x06
+  pub removed-rest : getD (bufferOf (Removing 0x18 0) M 23) 19 0 ≡ 0x00
 
 pub said : Said
-unfolding afterOf leadOf commonExtentOf extentOf nameUsed pliRight oftenOf zeroesOf formOf halves joined digitOf codeOf isCode halvesFault digitsFault digitsOf packed numberFault callingFault genericFault dialledFault twoFault faultOf holdingOf itemOf contentsOf ownOf layoutItem layoutItems layoutPart layout lengthRight faultIn valueRight valueFits walk transferBy transfersVerdictBy octetAllowed commonForm endOf dataBy commonBy messageVerdictBy verdictBy commonsBy transfersBy openCommonBy recordBy pad valuesOf pack viewItems lengthsOf transfersSum viewParts isWhole view readingOf itemWriting itemsWriting dataWriting partWriting partsWriting overLimits recordWriting structWriting writingOf writtenOf commonIn commonFound transferIn transferAmong transferFound transferRows commonRows rowsOf rowAt spansOf editRefusal replaced removed editedItems edited recordEditing editingOf bufferOf
+unfolding afterOf leadOf commonExtentOf extentOf nameUsed pliRight oftenOf zeroesOf formOf halves joined digitOf codeOf isCode halvesFault digitsFault digitsOf packed numberFault callingFault genericFault dialledFault twoFault faultOf holdingOf itemOf contentsOf ownOf layoutItem layoutItems layoutPart layout lengthRight faultIn valueRight valueFits walk transferBy transfersVerdictBy octetAllowed commonForm endOf dataBy commonBy messageVerdictBy verdictBy commonsBy transfersBy openCommonBy recordBy pad valuesOf pack viewItems lengthsOf transfersSum viewParts isWhole view readingOf itemWriting itemsWriting dataWriting partWriting partsWriting overLimits recordWriting structWriting writingOf writtenOf commonIn commonFound transferIn transferAmong transferFound transferRows commonRows rowsOf rowAt spansOf editRefusal instead editedItems edited recordEditing editingOf bufferOf
 said =
     record {
       verdict-cut = refl;
@@ -185,7 +185,7 @@ transfer-at-header p = let z : _≡_ {A = ℕ} 18 19 = ap givenOf (p ∙ said .d
 -- ---- rows: one that makes up its count; one that ignores the room; a row with the length of the whole parameter; a row
 -- past the last
 
-pub invented-count : SpansCheckPromise M 59 (Accepted 10) → ⊥
+pub invented-count : SpansCheckPromise M most-rows (Accepted 10) → ⊥
 invented-count p = let z : _≡_ {A = ℕ} 10 9 = ap givenOf (p ∙ said .nine-rows) in omega arith
 
 pub ignores-room : SpansCheckPromise M 8 (Accepted 9) → ⊥
@@ -222,7 +222,7 @@ replaced-differs e = let z : _≡_ {A = ℕ} 0x0A 0x09 = ap (λ (l : List ℕ). 
 pub appended-differs : roomy ≡ bufferOf another roomy 23 → ⊥
 appended-differs e = let z : _≡_ {A = ℕ} 0x0A 0x0C = ap (λ (l : List ℕ). getD l 11 0) e ∙ said .appended-length in omega arith
 
-pub removed-differs : M ≡ bufferOf (Removing 0x18) M 23 → ⊥
+pub removed-differs : M ≡ bufferOf (Removing 0x18 0) M 23 → ⊥
 removed-differs e = let z : _≡_ {A = ℕ} 0x0A 0x06 = ap (λ (l : List ℕ). getD l 11 0) e ∙ said .removed-length in omega arith
 
 pub touches-nothing : (k : ℕ) → EditPromise shorter M 23 (Accepted k) M → ⊥
@@ -238,9 +238,9 @@ appends-nothing k p = appended-differs (p .1)
 pub loses-the-tail : (a : Answer) (now : List ℕ) → getD now 24 0 ≡ 0xEE → EditPromise another roomy 23 a now → ⊥
 loses-the-tail a now h p = let z : getD now 24 0 ≡ 0x00 = ap (λ (l : List ℕ). getD l 24 0) (p .1) ∙ said .appended-end in omega arith
 
-pub removes-nothing : (k : ℕ) → EditPromise (Removing 0x18) M 23 (Accepted k) M → ⊥
+pub removes-nothing : (k : ℕ) → EditPromise (Removing 0x18 0) M 23 (Accepted k) M → ⊥
 removes-nothing k p = removed-differs (p .1)
 
 -- octets from the new end to the old are 0
-pub leaves-the-rest : (a : Answer) (now : List ℕ) → getD now 19 0 ≡ 0x03 → EditPromise (Removing 0x18) M 23 a now → ⊥
+pub leaves-the-rest : (a : Answer) (now : List ℕ) → getD now 19 0 ≡ 0x03 → EditPromise (Removing 0x18 0) M 23 a now → ⊥
 leaves-the-rest a now h p = let z : getD now 19 0 ≡ 0x00 = ap (λ (l : List ℕ). getD l 19 0) (p .1) ∙ said .removed-rest in omega arith

@@ -179,8 +179,8 @@ tk-replaces-answers-done = answers-done shorter M 23 22 (said .replaced-answer) 
 pub tk-appends-answers-done : (now : List ℕ) → TkEditPromise another roomy 23 0 now → ⊥
 tk-appends-answers-done = answers-done another roomy 23 25 (said .appended-answer) (omega arith) (omega arith)
 
-pub tk-removes-answers-done : (now : List ℕ) → TkEditPromise (Removing 0x18) M 23 0 now → ⊥
-tk-removes-answers-done = answers-done (Removing 0x18) M 23 19 (said .removed-answer) (omega arith) (omega arith)
+pub tk-removes-answers-done : (now : List ℕ) → TkEditPromise (Removing 0x18 0) M 23 0 now → ⊥
+tk-removes-answers-done = answers-done (Removing 0x18 0) M 23 19 (said .removed-answer) (omega arith) (omega arith)
 
 pub tk-replaces-nothing : (r : ℕ) → TkEditPromise shorter M 23 r M → ⊥
 tk-replaces-nothing r p = replaced-differs (p .1)
@@ -188,5 +188,5 @@ tk-replaces-nothing r p = replaced-differs (p .1)
 pub tk-appends-nothing : (r : ℕ) → TkEditPromise another roomy 23 r roomy → ⊥
 tk-appends-nothing r p = appended-differs (p .1)
 
-pub tk-removes-nothing : (r : ℕ) → TkEditPromise (Removing 0x18) M 23 r M → ⊥
+pub tk-removes-nothing : (r : ℕ) → TkEditPromise (Removing 0x18 0) M 23 r M → ⊥
 tk-removes-nothing r p = removed-differs (p .1)

@@ -13,7 +13,7 @@ use Rattle.annex.specs.Units.{afterOf, leadOf, extentOf, commonExtentOf}
 use Rattle.annex.specs.Heads.{transfer-data}
 use Rattle.annex.specs.Allowed.{Each}
 use Rattle.annex.specs.Walk.{Par}
-use Rattle.annex.specs.Reading.{verdictOf, transfersOf, dataIn}
+use Rattle.annex.specs.Reading.{verdictOf, dataIn}
 use Rattle.annex.specs.Spans.{transferRows, innerRows, commonRows, rowsOf, noRow, rowsBy}
 use Rattle.annex.specs.declared.Answer.{Answer}
 use Rattle.annex.specs.declared.Answer.the-variants.{Accepted, Refused}
@@ -24,9 +24,10 @@ use Rattle.annex.specs.declared.Row.{Row}
 use Rattle.annex.specs.Contents.{faultOf}
 use Rattle.laws.specs.Extents.{lead-within}
 use Rattle.laws.specs.Listed.{listed}
+use Rattle.laws.specs.Members.{sumOf}
 use Rattle.laws.specs.Parts.{from-to}
 use Rattle.laws.specs.Plain.{Size, commonSize, transferSize, pars, pars-end, commons-plain, transfers-plain, InnerSound, commons-inner}
-use Rattle.laws.specs.Rows.{sumOf, parAt, octetsIn, Accepts, AcceptsTransfers, Filled, Turned, filled-turn, commons-filled, transfers-filled, rowFor, transfer-turn, common-turn}
+use Rattle.laws.specs.Rows.{parAt, octetsIn, Accepts, AcceptsTransfers, Filled, Turned, filled-turn, commons-filled, transfers-filled, rowFor, transfer-turn, common-turn}
 use Rattle.walk.specs.Stretches.{stretchAt, stretch-whole}
 use Rattle.walk.specs.Cursors.{cursorTo, firstCursor, extentHere, stretchHere, rowBetween, rowHere, nextBehind, nextOf, cursorAt, rowsFrom}
 use Rattle.walk.specs.declared.cursor.Cursor.{Cursor}

@@ -141,7 +141,7 @@ module _ (q : Record) where
       let l = rw e at (lengths-add m (n - m) (q .transfer)) in
       record { places = omega (arith, w .places); values = omega (arith, l, w .values) }
 
-  pub turn : (k n used : ℕ) → length (q .transfer) ≡ 52 → length (q .values) ≡ 512 → Within q n → k < n → used ≡ usedAt q k → Turn k used
+  pub turn : (k n used : ℕ) → length (q .transfer) ≡ most-transfers → length (q .values) ≡ 512 → Within q n → k < n → used ≡ usedAt q k → Turn k used
   turn k n used l v w h e =
       let t = transferAt q k in
       let next : used + t .len ≡ usedAt q (k + 1) = omega (arith, used-next k (omega (arith, w .places))) in

@@ -58,7 +58,7 @@ unfolding overLimits view lengthsOf
 over-contents q w =
     let n = transfersSum (commonsIn q) in
     let few : length (view q) ≤ 6 = omega (arith, w .commons, length-parts (commonsIn q) (q .transfer) (q .values), length-take (q .commons) (q .common)) in
-    let items : length (itemsAt q 0 n) ≤ 52 = omega (arith, w .within .places, length-items (take n (q .transfer)) (q .values), length-take n (q .transfer)) in
+    let items : length (itemsAt q 0 n) ≤ most-transfers = omega (arith, w .within .places, length-items (take n (q .transfer)) (q .values), length-take n (q .transfer)) in
     rw (items-all q, le-ltb most-commons (length (view q)) few, le-ltb most-transfers (length (itemsAt q 0 n)) items)
 
 -- contents are little longer than the values that they stand for

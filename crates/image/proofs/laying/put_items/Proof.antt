@@ -5,6 +5,7 @@ use mathlib.Core.Path.{_≡_, sym, _∙_}
 use mathlib.Core.List.{[], _++_}
 use borrow.Author.Needs.{needs}
 use lib.ListN.{length}
+use Rattle.annex.specs.Heads.{most-transfers}
 use Rattle.annex.specs.Items.{Item}
 use Rattle.annex.specs.Records.{rawItem}
 use Rattle.annex.specs.Image.{imageItem, imageItems}
@@ -41,7 +42,7 @@ here c =
     let a = c .before in
     let st = a .before .before .before .before in
     let q = st .args .t1 in
-    let l : length (q .transfer) ≡ 52 = search (needs, length-mapped) in
+    let l : length (q .transfer) ≡ most-transfers = search (needs, length-mapped) in
     let v : length (q .values) ≡ 512 = search needs in
     turn q (a .loop .k) (st .args .first + st .args .n) (a .loop .used) l v (st .pre .0) (c .loop-test .taken) (a .loop .inv .2)
 

@@ -6,6 +6,7 @@ use mathlib.Core.Path.{_≡_}
 use mathlib.Core.List.{List, [], _++_}
 use borrow.Author.Needs.{needs}
 use lib.ListN.{length}
+use Rattle.annex.specs.Heads.{most-transfers}
 use Rattle.annex.specs.Records.{transfersSum, commonsIn, view}
 use Rattle.annex.specs.Image.{imageParts}
 use Rattle.writer.specs.Along.{itemsAt, partsAt, transfersAt, parts-start, parts-end, length-mapped}
@@ -46,7 +47,7 @@ here c =
     let st = a .before .before in
     let q = st .args .t1 in
     let l : length (q .common) ≡ 6 = search (needs, length-mapped) in
-    let t : length (q .transfer) ≡ 52 = search (needs, length-mapped) in
+    let t : length (q .transfer) ≡ most-transfers = search (needs, length-mapped) in
     part-turn q (a .loop .k) (a .loop .first) (c .loop-test .taken) (omega (arith, l, st .pre .0 .commons)) t (st .pre .0) (a .loop .inv .1)
 
 -- its octets, by the head that the code has made
@@ -87,7 +88,7 @@ turned-in : (c : tie.After-struct-known Inv-loop μ-loop) → tie.After-own-comm
 turned-in c = c .before .before .before .before .before
 
 -- the transfer parameters passed with it
-few-first : (c : tie.After-own-common Inv-loop μ-loop) → c .before .before .before .loop .first + c .own-common .result .transfers ≤ 52
+few-first : (c : tie.After-own-common Inv-loop μ-loop) → c .before .before .before .loop .first + c .own-common .result .transfers ≤ most-transfers
 few-first c = rw (c .own-common .ensures) (here (c .before .before) .within .places)
 
 add-first : tie.Need-add-first Inv-loop μ-loop

@@ -10,6 +10,7 @@ use borrow.Author.Needs.{needs}
 use borrow.Author.Tests.{not-true, not-false, eq-eqb, ne-eqb}
 use lib.Dec.{eqb}
 use lib.ListN.{length, drop, length-drop}
+use Rattle.annex.specs.Heads.{most-transfers}
 use Rattle.annex.specs.Image.{itemsFront, commonFront, partsFront, noImage, imagedBy}
 use Rattle.annex.specs.declared.Answer.the-variants.{Accepted}
 use Rattle.laws.specs.Parts.{to-end}
@@ -21,7 +22,7 @@ abbrev Inv-loop : tie.InvT-loop
 Inv-loop s count q₀ transfers₀ used₀ i₀ left₀ q transfers used i left =
     (i ≤ length s) ×
     (q .commons ≤ 6) ×
-    (transfers ≤ 52) ×
+    (transfers ≤ most-transfers) ×
     (used ≤ 512) ×
     (imagedBy (length s) (partsFront count s) ≡ imagedFrom (length s) q transfers used i (partsFront left (drop i s)))
 

@@ -6,6 +6,7 @@ use borrow.Author.Needs.{needs}
 use borrow.Author.Tests.{le-leb, lt-leb, lt-ltb, le-ltb}
 use lib.Dec.{leb}
 use lib.ListN.{length}
+use Rattle.annex.specs.Heads.{most-transfers}
 use Rattle.annex.specs.Image.{headFront, itemSize}
 use Rattle.annex.specs.declared.Transfer.{Transfer}
 use Rattle.image.specs.Filling.{fitsAt}
@@ -33,13 +34,13 @@ whole c = omega (arith, len-is (c .before .before))
 returns-3 : tie.Need-returns-3
 returns-3 c =
     let a = c .before .before .before .before .before .before .args in
-    rw (le-leb (itemSize (a .s .now)) (length (a .s .now)) (whole (c .before)), le-ltb (a .k) 52 (omega arith))
+    rw (le-leb (itemSize (a .s .now)) (length (a .s .now)) (whole (c .before)), le-ltb (a .k) most-transfers (omega arith))
 
 -- and there is a place
 placed : (c : tie.Else3) → let a = c .before .before .before .before .before .before .args in fitsAt (a .s .now) (a .k) (a .used) ≡ leb (a .used + headFront (a .s .now) .len) 512
 placed c =
     let a = c .before .before .before .before .before .before .args in
-    rw (le-leb (itemSize (a .s .now)) (length (a .s .now)) (whole (c .before)), lt-ltb (a .k) 52 (omega arith))
+    rw (le-leb (itemSize (a .s .now)) (length (a .s .now)) (whole (c .before)), lt-ltb (a .k) most-transfers (omega arith))
 
 returns-4 : tie.Need-returns-4
 returns-4 c =

@@ -10,6 +10,7 @@ use borrow.Author.Needs.{needs}
 use borrow.Author.Tests.{not-true, not-false, le-leb}
 use lib.ListN.{length, take, drop, length-drop}
 use lib.Seq.{sets, length-take-le}
+use Rattle.annex.specs.Heads.{most-transfers}
 use Rattle.annex.specs.Image.{headFront, itemsFront}
 use Rattle.annex.specs.declared.Transfer.{Transfer}
 use Rattle.laws.specs.Parts.{to-end}
@@ -20,7 +21,7 @@ use Rattle.image.proofs.reading.with_transfers.Tie as tie
 abbrev Inv-loop : tie.InvT-loop
 Inv-loop s count transfers taken q₀ k₀ used₀ i₀ left₀ q k used i left =
     (i ≤ length s) ×
-    (k ≤ 52) ×
+    (k ≤ most-transfers) ×
     (used ≤ 512) ×
     (filledBy q₀ k₀ used₀ 0 (itemsFront count s) ≡ filledBy q k used i (itemsFront left (drop i s)))
 

@@ -33,17 +33,17 @@ returns-2 c =
 found : (c : tie.After-known-told2) →
     let s = c .before .before .before .before .before .before in
     let a = s .before .before .before .before .args in
-    transferPlain (a .name) (now (a .m)) ≡ At (s .s .given .0 .0 + c .before .a .given .0 .0) (s .s .given .0 .0 + c .before .a .given .0 .1 .0)
+    transferPlain (a .name) (a .which) (now (a .m)) ≡ At (s .s .given .0 .0 + c .before .a .given .0 .0) (s .s .given .0 .0 + c .before .a .given .0 .1 .0)
 found c =
     let t = c .before .before .before in
     let s = t .before .before .before in
     rw (← s .before .before .contents .ensures, s .s .given .1, ← t .contents2 .ensures, c .before .a .given .1)
 
 add-start : tie.Need-add-start
-add-start c = omega (arith, plain-inside (Name _) _ .at _ _ (found c))
+add-start c = omega (arith, plain-inside (Name _ _) _ .at _ _ (found c))
 
 add-end : tie.Need-add-end
-add-end c = omega (arith, plain-inside (Name _) _ .at _ _ (found c))
+add-end c = omega (arith, plain-inside (Name _ _) _ .at _ _ (found c))
 
 pub transfer-plain-spec : {M : Type 1} → statement M
 transfer-plain-spec =

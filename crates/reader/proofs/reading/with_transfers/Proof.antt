@@ -8,6 +8,7 @@ use borrow.Author.Needs.{needs}
 use borrow.Author.Tests.{le-leb}
 use native.Mathlib.Omega.{arith}
 use lib.ListN.{length, getD, take, drop, length-append}
+use Rattle.annex.specs.Heads.{most-transfers}
 use Rattle.annex.specs.Units.{afterOf, leadOf, extentOf}
 use Rattle.annex.specs.Items.{Item, itemOf}
 use lib.Seq.{sets}
@@ -22,7 +23,7 @@ abbrev Inv-loop : tie.InvT-loop
 Inv-loop t transfers taken q₀ k₀ used₀ i₀ q k used i =
     (i ≤ length t) ×
     (filledWith q₀ (itemsFrom t) k₀ used₀ ≡ filledWith q (itemsLeft t i) k used) ×
-    (k + length (itemsLeft t i) ≤ 52) ×
+    (k + length (itemsLeft t i) ≤ most-transfers) ×
     (used + length (valuesOf (itemsLeft t i)) ≤ 512)
 
 abbrev μ-loop : tie.MeasureT-loop
@@ -74,10 +75,10 @@ part-open-end c = omega arith
 
 -- there is room for it and for those behind it
 record Room (k used : ℕ) (x : Item) (is : List Item) : Type 0 where
-  place : k + 1 + length is ≤ 52
+  place : k + 1 + length is ≤ most-transfers
   values : used + length (x .values) + length (valuesOf is) ≤ 512
 
-room-for : (k used : ℕ) (x : Item) (is js : List Item) → js ≡ x ∷ is → k + length js ≤ 52 → used + length (valuesOf js) ≤ 512 → Room k used x is
+room-for : (k used : ℕ) (x : Item) (is js : List Item) → js ≡ x ∷ is → k + length js ≤ most-transfers → used + length (valuesOf js) ≤ 512 → Room k used x is
 unfolding valuesOf
 room-for k used x is js e p v =
     let l = length-append (x .values) (valuesOf is) in

@@ -5,10 +5,11 @@ use denote.Ref.{now}
 use borrow.Author.Needs.{needs}
 use native.Mathlib.Omega.{arith}
 use lib.ListN.{length, getD, drop, length-drop}
+use Rattle.annex.specs.Units.{nameOf}
 use Rattle.annex.specs.Walk.{Walker, walk, judging}
-use Rattle.annex.specs.Heads.{oftenOf}
 use Rattle.annex.specs.Reading.{transfersVerdict, transferStep, transfersVerdictBy}
 use Rattle.annex.specs.declared.Answer.the-variants.{Accepted}
+use Rattle.laws.specs.Often.{few-often}
 use Rattle.laws.specs.Parts.{to-end}
 use Rattle.laws.specs.Walks.{walk-end, walk-refused, walk-accepted}
 use Rattle.laws.specs.Steps.{TransferTaken, transfer-taken, transfer-place}
@@ -59,8 +60,9 @@ taken : (c : tie.After-known-told Inv-loop μ-loop) →
 taken c = transfer-taken faultOf _ _ _ _ (step-is (c .before .before .before) ∙ c .before .a .given .1)
 
 add-seen : tie.Need-add-seen Inv-loop μ-loop
-unfolding oftenOf
-add-seen c = omega (arith, taken c .often)
+add-seen c =
+    let l = c .before .before .before .before .before .before .before in
+    omega (arith, taken c .often, few-often (nameOf (getD (now (l .before .before .args .t)) (l .loop .i) 0)))
 
 add-i : tie.Need-add-i Inv-loop μ-loop
 add-i c = omega (arith, rw length-drop at (taken c .within))

@@ -4,6 +4,7 @@ use native.Mathlib.Omega.{arith}
 use mathlib.Core.Path.{_≡_, refl, ap}
 use borrow.Author.Needs.{needs}
 use lib.ListN.{length}
+use Rattle.annex.specs.Heads.{most-transfers}
 use Rattle.annex.specs.Allowed.{contentsSum}
 use Rattle.annex.specs.Records.{rawItem, lengthsOf}
 use Rattle.laws.specs.Laid.{own-values}
@@ -35,7 +36,7 @@ here : (c : tie.In-loop Inv-loop μ-loop) → Turn (c .before .before .before .a
 here c =
     let a = c .before in
     let st = a .before .before in
-    let l : length (st .args .t1 .transfer) ≡ 52 = search (needs, length-mapped) in
+    let l : length (st .args .t1 .transfer) ≡ most-transfers = search (needs, length-mapped) in
     let v : length (st .args .t1 .values) ≡ 512 = search needs in
     turn (st .args .t1) (a .loop .k) (st .args .n) (a .loop .used) l v (st .pre) (c .loop-test .taken) (a .loop .inv .1)
 

@@ -4,16 +4,17 @@ use native.Mathlib.Omega.{arith}
 use mathlib.Core.Path.{_≡_, refl, _∙_}
 use borrow.Author.Needs.{needs}
 use lib.ListN.{length}
+use Rattle.annex.specs.Heads.{most-transfers}
 use Rattle.annex.specs.Records.{lengthsOf}
 use Rattle.writer.specs.Along.{usedAt, used-next, used-all, length-mapped}
 use Rattle.writer.proofs.limits.values_before.Statement.{statement}
 use Rattle.writer.proofs.limits.values_before.Tie as tie
 
 abbrev Inv-loop : tie.InvT-loop
-Inv-loop n q sum₀ k₀ sum k = (k ≤ n) × (k ≤ 52) × (sum ≤ 65535 * k) × (sum ≡ usedAt q k)
+Inv-loop n q sum₀ k₀ sum k = (k ≤ n) × (k ≤ most-transfers) × (sum ≤ 65535 * k) × (sum ≡ usedAt q k)
 
 abbrev μ-loop : tie.MeasureT-loop
-μ-loop n q sum₀ k₀ sum k = 52 - k
+μ-loop n q sum₀ k₀ sum k = most-transfers - k
 
 loop-holds : tie.Need-loop-holds Inv-loop μ-loop
 unfolding lengthsOf
@@ -29,14 +30,14 @@ loop-again : tie.Need-loop-again Inv-loop μ-loop
 loop-again c =
     let a = c .before .before .before .before in
     let q = a .before .args .t1 in
-    let l : length (q .transfer) ≡ 52 = search (needs, length-mapped) in
+    let l : length (q .transfer) ≡ most-transfers = search (needs, length-mapped) in
     (omega arith, omega arith, omega arith, omega (arith, used-next q (a .loop .k) (omega arith), a .loop .inv .3))
 
 returns-2 : tie.Need-returns-2 Inv-loop μ-loop
 returns-2 c =
     let a = c .before in
     let q = a .before .args .t1 in
-    let l : length (q .transfer) ≡ 52 = search (needs, length-mapped) in
+    let l : length (q .transfer) ≡ most-transfers = search (needs, length-mapped) in
     a .loop .inv .3 ∙ used-all q (a .loop .k) (a .before .args .n) (omega arith) (omega arith)
 
 pub values-before-spec : {M : Type 1} → statement M

@@ -5,11 +5,13 @@ use native.Mathlib.Omega.{arith}
 use mathlib.Core.Path.{_≡_, sym, _∙_}
 use borrow.Author.Needs.{needs}
 use lib.ListN.{length}
-use Rattle.annex.specs.Heads.{oftenOf}
+use Rattle.annex.specs.Heads.{most-transfers}
+use Rattle.annex.specs.Units.{nameOf}
 use Rattle.annex.specs.Items.{Item}
 use Rattle.annex.specs.Records.{rawItem}
 use Rattle.annex.specs.Walk.{unseen, timesSeen}
 use Rattle.annex.specs.Writing.{itemsWriting}
+use Rattle.laws.specs.Often.{few-often}
 use Rattle.laws.specs.Laid.{own-header}
 use Rattle.parameter.specs.Laying.{itemFrom}
 use Rattle.writer.specs.Along.{transferAt, ownAt, usedAt, itemsAt, Turn, turn, items-end, length-mapped}
@@ -43,7 +45,7 @@ here c =
     let a = c .before in
     let st = a .before .before .before in
     let q = st .args .t1 in
-    let l : length (q .transfer) ≡ 52 = search (needs, length-mapped) in
+    let l : length (q .transfer) ≡ most-transfers = search (needs, length-mapped) in
     let v : length (q .values) ≡ 512 = search needs in
     turn q (a .loop .k) (st .args .first + st .args .n) (a .loop .used) l v (st .pre .0) (c .loop-test .taken) (a .loop .inv .2)
 
@@ -88,8 +90,9 @@ taken : (c : tie.After-known-told Inv-loop μ-loop) →
 taken c = item-passed _ _ _ _ (sym (c .before .before .before .refusal .ensures) ∙ c .before .a .given .1)
 
 add-seen : tie.Need-add-seen Inv-loop μ-loop
-unfolding oftenOf
-add-seen c = omega (arith, taken c .fewer)
+add-seen c =
+    let i = c .before .before .before .before .before .before .before .before .before in
+    omega (arith, taken c .fewer, few-often (nameOf (itemAt i .header)))
 
 add-at : tie.Need-add-at Inv-loop μ-loop
 add-at c =
