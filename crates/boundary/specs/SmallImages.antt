@@ -37,6 +37,7 @@ use Rattle.annex.specs.Heads.{
   nameUsed,
   pliRight,
   oftenOf,
+  most-values,
 }
 use Rattle.annex.specs.Items.{Item, Part}
 use Rattle.annex.specs.Layout.{callOctets, dataOctets, layoutItem, layoutItems, layoutPart, layout}
@@ -71,17 +72,20 @@ use Rattle.boundary.specs.Small.{Upto, upto-more, upto-refuse, upto-then
 
 -- ---- read to an image
 
--- at most 6 common parameters, 52 transfer parameters and 512 values
-pub image-upto : (m : List ℕ) (room : ℕ) → every isOctet m ≡ true → Upto 1121 (imageReading m room)
+-- as many common parameters, transfer parameters and values as a record may hold
+abbrev pub most-image : ℕ
+most-image = 1 + 6 * most-commons + 11 * most-transfers + most-values
+
+pub image-upto : (m : List ℕ) (room : ℕ) → every isOctet m ≡ true → Upto most-image (imageReading m room)
 unfolding imageReading imageOf
 image-upto m room o = go (verdictOf m) refl (verdict-upto m)
   where
-    go : (a : Answer) → verdictOf m ≡ a → Upto 274 a → Upto 1121 (andThen a (λ _. refuse (ltb room (length (imageOf (recordOf m)))) no-room 0 (Accepted (length (imageOf (recordOf m))))))
+    go : (a : Answer) → verdictOf m ≡ a → Upto 274 a → Upto most-image (andThen a (λ _. refuse (ltb room (length (imageOf (recordOf m)))) no-room 0 (Accepted (length (imageOf (recordOf m))))))
     go (Accepted n) e u =
         let r = recordOf m in
         let w = allowed-within r (read-then-laid m o n e .1) in
-        let l : length (imageOf r) ≤ 1121 = omega (arith, parts-long r, items-long (itemsIn r), w .commons, w .transfers, w .values) in
-        upto-refuse (ltb room (length (imageOf r))) no-room 0 1121 (Accepted (length (imageOf r))) (omega arith) (omega arith, l)
+        let l : length (imageOf r) ≤ most-image = omega (arith, parts-long r, items-long (itemsIn r), w .commons, w .transfers, w .values) in
+        upto-refuse (ltb room (length (imageOf r))) no-room 0 most-image (Accepted (length (imageOf r))) (omega arith) (omega arith, l)
     go (Refused k p) e u = (omega (arith, u .0), omega arith)
 
 -- ---- writing
@@ -166,8 +170,11 @@ parts-few (p ∷ r) =
     let a = ap (λ (l : List ℕ). length l) (layout-append (p .items) (itemsIn r)) ∙ length-append (layoutItems (p .items)) (layoutItems (itemsIn r)) in
     omega (arith, length-append (layoutPart p) (layout r), part-few p, parts-few r, a)
 
--- at most 6 common parameters, 52 transfer parameters and 255 octets of contents
-record-upto : (r : List Part) → Upto 384 (recordWriting r)
+-- as many common parameters, transfer parameters and octets of contents as a record may hold
+abbrev pub most-written : ℕ
+most-written = 1 + 4 * most-commons + 2 * most-transfers + most-transfer-octets
+
+record-upto : (r : List Part) → Upto most-written (recordWriting r)
 unfolding recordWriting overLimits
 record-upto r =
     go (ltb most-commons (length r)) (ltb most-transfers (length (itemsIn r))) (ltb most-transfer-octets (contentsSum (itemsIn r)))
@@ -175,31 +182,31 @@ record-upto r =
     (ltb-false most-transfers (length (itemsIn r)))
     (ltb-false most-transfer-octets (contentsSum (itemsIn r)))
   where
-    go : (a b c : Bool) → (a ≡ false → length r ≤ most-commons) → (b ≡ false → length (itemsIn r) ≤ most-transfers) → (c ≡ false → contentsSum (itemsIn r) ≤ most-transfer-octets) → Upto 384 (refuse (a || (b || c)) over-limits 0 (partsWriting unseen 0 r))
+    go : (a b c : Bool) → (a ≡ false → length r ≤ most-commons) → (b ≡ false → length (itemsIn r) ≤ most-transfers) → (c ≡ false → contentsSum (itemsIn r) ≤ most-transfer-octets) → Upto most-written (refuse (a || (b || c)) over-limits 0 (partsWriting unseen 0 r))
     go true b c h i j = (omega arith, omega arith)
     go false true c h i j = (omega arith, omega arith)
     go false false true h i j = (omega arith, omega arith)
     go false false false h i j =
-        upto-more (partsWriting unseen 0 r) (0 + length (layout r)) 384 (omega (arith, parts-few r, items-few (itemsIn r), h refl, i refl, j refl)) (parts-upto r unseen 0)
+        upto-more (partsWriting unseen 0 r) (0 + length (layout r)) most-written (omega (arith, parts-few r, items-few (itemsIn r), h refl, i refl, j refl)) (parts-upto r unseen 0)
 
-writing-upto : (s : Record) (room : ℕ) → Upto 384 (writingOf s room)
+writing-upto : (s : Record) (room : ℕ) → Upto most-written (writingOf s room)
 unfolding writingOf structWriting
 writing-upto s room =
-    upto-then (structWriting s) (λ n. refuse (ltb room n) no-room 0 (Accepted n)) 384 384 (omega arith)
-    (upto-refuse (not (isWhole s)) over-limits 0 384 (recordWriting (view s)) (omega arith) (record-upto (view s)))
-    (λ n h. upto-refuse (ltb room n) no-room 0 384 (Accepted n) (omega arith) (omega arith, h))
+    upto-then (structWriting s) (λ n. refuse (ltb room n) no-room 0 (Accepted n)) most-written most-written (omega arith)
+    (upto-refuse (not (isWhole s)) over-limits 0 most-written (recordWriting (view s)) (omega arith) (record-upto (view s)))
+    (λ n h. upto-refuse (ltb room n) no-room 0 most-written (Accepted n) (omega arith) (omega arith, h))
 
 -- ---- written from an image
 
-pub write-upto : (image : List ℕ) (room : ℕ) → Upto 384 (imageWriting image room)
+pub write-upto : (image : List ℕ) (room : ℕ) → Upto most-written (imageWriting image room)
 unfolding imageWriting imagedOf
 write-upto [] room = (omega arith, omega arith)
 write-upto (n ∷ s) room = go (partsFront n s)
   where
-    go : (f : Front Part) → Upto 384 (andThen (imagedBy (length s) f .answer) (λ _. writingOf (imagedBy (length s) f .held) room))
+    go : (f : Front Part) → Upto most-written (andThen (imagedBy (length s) f .answer) (λ _. writingOf (imagedBy (length s) f .held) room))
     go Short = (omega arith, omega arith)
     go (Taken r k) = told (eqb k (length s) && isWithin r)
       where
-        told : (b : Bool) → Upto 384 (andThen (cond b (record { answer = Accepted (length r); held = pack r }) noImage .answer) (λ _. writingOf (cond b (record { answer = Accepted (length r); held = pack r }) noImage .held) room))
+        told : (b : Bool) → Upto most-written (andThen (cond b (record { answer = Accepted (length r); held = pack r }) noImage .answer) (λ _. writingOf (cond b (record { answer = Accepted (length r); held = pack r }) noImage .held) room))
         told true = writing-upto (pack r) room
         told false = (omega arith, omega arith)
