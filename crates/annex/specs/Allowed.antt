@@ -13,7 +13,6 @@ use Rattle.annex.specs.Heads.{
   calling-number,
   withheld,
   among,
-  Marks,
   user-class,
   sequence,
   signal-kind,
@@ -30,11 +29,13 @@ use Rattle.annex.specs.Heads.{
   pliRight,
   oftenOf,
 }
-use Rattle.annex.specs.Heads.Marks.{Unmarked, Notified, Verified, Typed}
+use Rattle.annex.specs.declared.Marks.{Marks}
+use Rattle.annex.specs.declared.Marks.the-variants.{Unmarked, Notified, Verified, Typed}
 use Rattle.annex.specs.Digits.{isDigit}
 use Rattle.annex.specs.Contents.{formedThen, isSound, faultOf}
-use Rattle.annex.specs.Items.{Item, Part, part, valuePart, Holding, heldAs, contentsOf, ownOf}
-use Rattle.annex.specs.Items.Holding.{AsContents, AsDigits, AsNumber, AsGeneric}
+use Rattle.annex.specs.Items.{Item, Part, part, valuePart, heldAs, contentsOf, ownOf}
+use Rattle.annex.specs.declared.Holding.{Holding}
+use Rattle.annex.specs.declared.Holding.the-variants.{AsContents, AsDigits, AsNumber, AsGeneric}
 use Rattle.annex.specs.Layout.{layoutItems}
 use Rattle.annex.specs.declared.Extent.{Extent}
 use Rattle.annex.specs.declared.Extent.the-variants.{Fixed, CountOctet, LengthOctet}

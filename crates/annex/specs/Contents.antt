@@ -7,9 +7,11 @@ use lib.Dec.{eqb, ltb}
 use lib.Bits.{bitAnd}
 use lib.ListN.{length, getD, drop}
 use Rattle.annex.specs.Answers.{bad-form}
-use Rattle.annex.specs.Heads.{added-calling-number, withheld, Check, Form, zeroesOf, formOf}
-use Rattle.annex.specs.Heads.Check.{Nothing, Long, Two}
-use Rattle.annex.specs.Heads.Form.{Checked, Digits, Number, Calling, Generic}
+use Rattle.annex.specs.Heads.{added-calling-number, withheld, zeroesOf, formOf}
+use Rattle.annex.specs.declared.Check.{Check}
+use Rattle.annex.specs.declared.Form.{Form}
+use Rattle.annex.specs.declared.Check.the-variants.{Nothing, Long, Two}
+use Rattle.annex.specs.declared.Form.the-variants.{Checked, Digits, Number, Calling, Generic}
 use Rattle.annex.specs.Digits.{digitsFault}
 use Rattle.annex.specs.declared.Alphabet.the-variants.{Dialled, Numbered}
 use Rattle.annex.specs.declared.Fault.{Fault}

@@ -5,6 +5,10 @@ use mathlib.Core.Bool.{Bool, false, cond, not, _&&_, _||_}
 use mathlib.Core.List.{List, [], _∷_, map}
 use lib.Dec.{eqb}
 use Rattle.annex.specs.Units.{pliOf, nameOf}
+use Rattle.annex.specs.declared.Marks.the-variants.{Unmarked, Notified, Verified, Typed}
+use Rattle.annex.specs.declared.Check.the-variants.{Nothing, Long, Two}
+use Rattle.annex.specs.declared.Form.{Form}
+use Rattle.annex.specs.declared.Form.the-variants.{Checked, Digits, Number, Calling, Generic}
 
 -- x is one of the list
 abbrev pub among : ℕ → List ℕ → Bool
@@ -94,23 +98,7 @@ call-number-below = 0x1000000
 abbrev pub most-values : ℕ
 most-values = 512
 
--- the upper two bits of a count octet: none told, notification (bit 7), notification and verification (7, 6), or the type of dialling
-pub data Marks : Type 0 where
-  Unmarked Notified Verified Typed : Marks
-
--- what is checked of contents that a record holds as they are: nothing more, so many octets, or two octets of whose second these bits are 0.
--- `Contents.checkFault` says what each finds wrong
-pub data Check : Type 0 where
-  Nothing : Check
-  Long : ℕ → Check
-  Two : ℕ → Check
-
--- the forms of contents: held as they are, with a check; digits of PLI 10; a number as in D7, as in DC, as in DA
-pub data Form : Type 0 where
-  Checked : Check → Form
-  Digits : Marks → Form
-  Number Calling Generic : Form
-
+-- the forms of contents are the enums of `annex`; what each check finds wrong is said by `Contents.checkFault`
 abbrev carried : Form
 carried = Checked Nothing
 

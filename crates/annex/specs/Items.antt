@@ -4,11 +4,15 @@ use mathlib.Core.Bool.{cond}
 use mathlib.Core.List.{List, [], _∷_}
 use lib.Dec.{eqb}
 use lib.ListN.{length, getD, drop}
-use Rattle.annex.specs.Heads.{added-calling-number, transfer-data, Form, Marks, formOf}
-use Rattle.annex.specs.Heads.Marks.{Unmarked, Notified, Verified, Typed}
-use Rattle.annex.specs.Heads.Form.{Checked, Digits, Number, Calling, Generic}
+use Rattle.annex.specs.Heads.{added-calling-number, transfer-data, formOf}
+use Rattle.annex.specs.declared.Form.{Form}
+use Rattle.annex.specs.declared.Marks.{Marks}
+use Rattle.annex.specs.declared.Marks.the-variants.{Unmarked, Notified, Verified, Typed}
+use Rattle.annex.specs.declared.Form.the-variants.{Checked, Digits, Number, Calling, Generic}
 use Rattle.annex.specs.Digits.{digitsOf, packed}
 use Rattle.annex.specs.Contents.{countOf}
+use Rattle.annex.specs.declared.Holding.{Holding}
+use Rattle.annex.specs.declared.Holding.the-variants.{AsContents, AsDigits, AsNumber, AsGeneric}
 use Rattle.annex.specs.declared.Alphabet.the-variants.{Dialled, Numbered}
 
 -- a transfer parameter; marks and fields that it does not have are 0. values: its digits, first digit first (0-9, 10 for *, 11 for #), or
@@ -78,12 +82,6 @@ abbrev pub partWith : List Item → Part → Part
 partWith is p = part (p .header) (p .value) is
 
 -- ---- how the values are held
-
--- as the contents, or as digits with marks, as a number, as a number after 06
-pub data Holding : Type 0 where
-  AsContents : Holding
-  AsDigits : Marks → Holding
-  AsNumber AsGeneric : Holding
 
 abbrev pub holdingBy : Form → ℕ → Holding
 holdingBy (Checked c) x = AsContents

@@ -83,6 +83,38 @@ pub enum Alphabet {
     Numbered,
 }
 
+// The upper two bits of a count octet: none told, notification (bit 7), notification and verification (7, 6), or the type of dialling.
+pub enum Marks {
+    Unmarked,
+    Notified,
+    Verified,
+    Typed,
+}
+
+// What is checked of contents that a record holds as they are: nothing more, so many octets, or two octets of whose second these bits are 0.
+pub enum Check {
+    Nothing,
+    Long(u8),
+    Two(u8),
+}
+
+// The forms of contents: held as they are, with a check; digits of PLI 10; a number as in D7, as in DC, as in DA.
+pub enum Form {
+    Checked(Check),
+    Digits(Marks),
+    Number,
+    Calling,
+    Generic,
+}
+
+// How a record holds a parameter's values: as the contents, as digits with marks, as a number, as a number after 06.
+pub enum Holding {
+    AsContents,
+    AsDigits(Marks),
+    AsNumber,
+    AsGeneric,
+}
+
 // A message.
 pub struct Message;
 

@@ -1,17 +1,17 @@
 // The steps of an edit between reading the message and the last: what the edit brings, by itself, and where in the transfer data it goes.
 use annex::Answer;
-use annex::Fault;
 use annex::Found;
 use annex::Key;
+use heads::name_used;
+use heads::often_of;
+use heads::pli_right;
+use octets::octet_at;
+use parameter::contents::at_header;
 use parameter::contents::contents_fault;
-use parameter::contents::octet_at;
-use parameter::heads::name_used;
-use parameter::heads::often_of;
-use parameter::heads::pli_right;
-use parameter::units::extent_of;
-use parameter::units::lead;
-use parameter::units::octets_after;
 use reader::finding::search;
+use units::extent_of;
+use units::lead;
+use units::octets_after;
 ghost use mathlib.Core.Path.{_≡_};
 ghost use Rattle.annex.specs.Editing.{newHead};
 ghost use Rattle.annex.specs.Promises.{Gives};
@@ -69,10 +69,7 @@ pub fn contents_answer(new: &[u8]) -> Answer
     }
     let start = 1 + lead(e);
     let f = contents_fault(header, &new[start..]);
-    match f {
-        Fault::Sound => Answer::Accepted(0),
-        Fault::Bad(k, _) => Answer::Refused(k, 0),
-    }
+    at_header(f, 0)
 }
 
 // Where in the transfer data t an edit is made: at the whole parameter that it is told; if it appends, at the end, unless the last of the

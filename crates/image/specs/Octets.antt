@@ -9,9 +9,10 @@ use lib.Dec.{eqb}
 use lib.ListN.{length, take, drop, length-append, length-take, length-drop}
 use lib.Seq.{length-take-le}
 use Rattle.annex.specs.Heads.{transfer-data, most-transfers}
-use Rattle.annex.specs.Heads.Marks.{Unmarked, Notified, Verified, Typed}
-use Rattle.annex.specs.Items.{Item, Part, Holding, heldAs, ownBy, ownOf, part, valuePart}
-use Rattle.annex.specs.Items.Holding.{AsContents, AsDigits, AsNumber, AsGeneric}
+use Rattle.annex.specs.declared.Marks.the-variants.{Unmarked, Notified, Verified, Typed}
+use Rattle.annex.specs.Items.{Item, Part, part, valuePart, heldAs, ownBy, ownOf}
+use Rattle.annex.specs.declared.Holding.{Holding}
+use Rattle.annex.specs.declared.Holding.the-variants.{AsContents, AsDigits, AsNumber, AsGeneric}
 use Rattle.annex.specs.Allowed.{Each, every, isOctet, itemsIn}
 use Rattle.annex.specs.Records.{headOf, commonHeadOf, valuesOf, rawItem, viewItems, lengthsOf, transferCount, transfersSum, viewParts, commonsIn, view}
 use Rattle.annex.specs.Image.{imageHead, imageItem, imageItems, imageCommon, imagePart, imageParts, imageOf}

@@ -1,12 +1,13 @@
 // The image of a record, written at the front of lent room.
 use annex::Answer;
 use annex::Common;
+use annex::Holding;
 use annex::Imaged;
+use annex::Marks;
 use annex::Record;
 use annex::Transfer;
 use octets::copy_in;
-use parameter::contents::octet_at;
-use parameter::opening::Held;
+use octets::octet_at;
 use parameter::opening::holding_of;
 use writer::limits::transfers_held;
 use writer::limits::values_before;
@@ -19,33 +20,20 @@ ghost use Rattle.annex.specs.Records.{headOf, rawItem, view};
 ghost use Rattle.annex.specs.Image.{imageHead, imageItem, imageItems, imageCommon, imageParts, imageOf};
 ghost use Rattle.annex.specs.Promises.{ToImagePromise};
 ghost use Rattle.laws.specs.Written.{atFront};
-ghost use Rattle.parameter.specs.Opening.{marksOf};
 ghost use Rattle.parameter.specs.Laying.{itemFrom};
 ghost use Rattle.writer.specs.Along.{itemsAt, Within, Whole};
 ghost use Rattle.image.specs.Laying.{ownCommon, partOctets};
 
 // The head of a parameter of digits, with the marks that it has.
-fn own_marks(t: Transfer) -> Transfer
-    ensures { λ r. ⌜ ((vs : List ℕ) → length vs ≡ t .len → r ≡ headOf (ownMarks (marksOf (t .header)) (rawItem t vs))) ⌝ }
+fn own_marks(marks: Marks, t: Transfer) -> Transfer
+    ensures { λ r. ⌜ ((vs : List ℕ) → length vs ≡ t .len → r ≡ headOf (ownMarks marks (rawItem t vs))) ⌝ }
 {
     let header = t.header;
-    match header {
-        Transfer::ORIGINATING_AREA | Transfer::CALLED_TERMINAL => Transfer::dialled(
-            header,
-            t.notification,
-            0,
-            0,
-            t.len,
-        ),
-        Transfer::ORIGINATING_ID => Transfer::dialled(
-            header,
-            t.notification,
-            t.verification,
-            0,
-            t.len,
-        ),
-        Transfer::DIALLED_DIGITS => Transfer::dialled(header, 0, 0, t.dialling, t.len),
-        _ => Transfer::carried(header, t.len),
+    match marks {
+        Marks::Unmarked => Transfer::carried(header, t.len),
+        Marks::Notified => Transfer::dialled(header, t.notification, 0, 0, t.len),
+        Marks::Verified => Transfer::dialled(header, t.notification, t.verification, 0, t.len),
+        Marks::Typed => Transfer::dialled(header, 0, 0, t.dialling, t.len),
     }
 }
 
@@ -74,10 +62,10 @@ fn own_head(t: Transfer, values: &[u8]) -> Transfer
 {
     let held = holding_of(t.header, octet_at(values, 0));
     match held {
-        Held::Contents => Transfer::carried(t.header, t.len),
-        Held::Digits => own_marks(t),
-        Held::Number => own_fields(t),
-        Held::Generic => own_fields(t),
+        Holding::AsContents => Transfer::carried(t.header, t.len),
+        Holding::AsDigits(marks) => own_marks(marks, t),
+        Holding::AsNumber => own_fields(t),
+        Holding::AsGeneric => own_fields(t),
     }
 }
 

@@ -8,10 +8,11 @@ use lib.ListN.{length, getD, length-map, List·getD-eq-default}
 use borrow.Author.Tests.{eqb-true, leb-true}
 use Rattle.annex.specs.Units.{pliOf, afterOf, leadOf, transferByPli, extentOf}
 use Rattle.annex.specs.Heads.{most-transfer-octets}
-use Rattle.annex.specs.Heads.Marks.{Unmarked, Notified, Verified, Typed}
+use Rattle.annex.specs.declared.Marks.the-variants.{Unmarked, Notified, Verified, Typed}
 use Rattle.annex.specs.Digits.{joined, codeOf, packed}
-use Rattle.annex.specs.Items.{Item, Holding, contentsBy, heldAs, contentsOf, ownBy, ownOf}
-use Rattle.annex.specs.Items.Holding.{AsContents, AsDigits, AsNumber, AsGeneric}
+use Rattle.annex.specs.Items.{Item, contentsBy, heldAs, contentsOf, ownBy, ownOf}
+use Rattle.annex.specs.declared.Holding.{Holding}
+use Rattle.annex.specs.declared.Holding.the-variants.{AsContents, AsDigits, AsNumber, AsGeneric}
 use Rattle.annex.specs.Layout.{ledBy, layoutItem}
 use Rattle.annex.specs.Allowed.{every, isOctet, HeldItem, lengthFits, lengthBy, lengthRight, faultAs, faultIn}
 use Rattle.annex.specs.Writing.{itemWriting}

@@ -9,13 +9,16 @@ use lib.Dec.{eqb}
 use lib.ListN.{length, getD, drop}
 use borrow.Author.Tests.{eqb-true, ne-eqb}
 use Rattle.annex.specs.Units.{extentOf}
-use Rattle.annex.specs.Heads.{Check, Form, calling-number, pliRight, zeroesOf, formOf}
-use Rattle.annex.specs.Heads.Marks.{Unmarked, Notified, Verified, Typed}
-use Rattle.annex.specs.Heads.Form.{Checked, Digits, Number, Calling, Generic}
+use Rattle.annex.specs.Heads.{calling-number, pliRight, zeroesOf, formOf}
+use Rattle.annex.specs.declared.Check.{Check}
+use Rattle.annex.specs.declared.Form.{Form}
+use Rattle.annex.specs.declared.Marks.the-variants.{Unmarked, Notified, Verified, Typed}
+use Rattle.annex.specs.declared.Form.the-variants.{Checked, Digits, Number, Calling, Generic}
 use Rattle.annex.specs.Digits.{packed}
 use Rattle.annex.specs.Contents.{clear, numberFault, genericFault, faultBy, faultOf}
-use Rattle.annex.specs.Items.{Item, Holding, holdingBy, holdingOf, plainItem, openBy, itemOf, numberContents, contentsBy, heldAs, contentsOf, ownBy, ownOf}
-use Rattle.annex.specs.Items.Holding.{AsContents, AsDigits, AsNumber, AsGeneric}
+use Rattle.annex.specs.Items.{Item, holdingBy, holdingOf, plainItem, openBy, itemOf, numberContents, contentsBy, heldAs, contentsOf, ownBy, ownOf}
+use Rattle.annex.specs.declared.Holding.{Holding}
+use Rattle.annex.specs.declared.Holding.the-variants.{AsContents, AsDigits, AsNumber, AsGeneric}
 use Rattle.annex.specs.Allowed.{every, isOctet, lengthFits, lengthBy, marksRight, fieldsRight, withheldRight, numberRight, lengthRight, faultAs, faultIn, HeldItem}
 use Rattle.annex.specs.declared.Alphabet.the-variants.{Numbered}
 use Rattle.annex.specs.declared.Fault.the-variants.{Sound}

@@ -10,7 +10,7 @@ use borrow.Author.Tests.{eqb-true, eqb-false, leb-true, le-leb, ltb-true, lt-ltb
 use Rattle.annex.specs.Digits.{isDigit, halves, halvesFault, digitsFault, digitsOf, packed}
 use Rattle.annex.specs.Contents.{formed, formedThen, presentationOf, countOf, numberFault, callingFault}
 use Rattle.annex.specs.Items.{Item, numberItem, openBy, numberContents, ownFields}
-use Rattle.annex.specs.Items.Holding.{AsNumber}
+use Rattle.annex.specs.declared.Holding.the-variants.{AsNumber}
 use Rattle.annex.specs.Allowed.{every, isOctet, fieldsRight, withheldRight}
 use Rattle.annex.specs.declared.Alphabet.the-variants.{Numbered}
 use Rattle.annex.specs.declared.Fault.the-variants.{Sound}

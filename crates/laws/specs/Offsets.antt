@@ -10,13 +10,16 @@ use lib.Dec.{eqb, ltb}
 use lib.ListN.{length, getD, drop, length-drop}
 use Rattle.annex.specs.Answers.{bad-form, bad-digit}
 use Rattle.annex.specs.Units.{leadOf, contentsIn}
-use Rattle.annex.specs.Heads.{added-calling-number, withheld, Check, Form, zeroesOf, formOf}
-use Rattle.annex.specs.Heads.Check.{Nothing, Long, Two}
-use Rattle.annex.specs.Heads.Form.{Checked, Digits, Number, Calling, Generic}
+use Rattle.annex.specs.Heads.{added-calling-number, withheld, zeroesOf, formOf}
+use Rattle.annex.specs.declared.Check.{Check}
+use Rattle.annex.specs.declared.Form.{Form}
+use Rattle.annex.specs.declared.Check.the-variants.{Nothing, Long, Two}
+use Rattle.annex.specs.declared.Form.the-variants.{Checked, Digits, Number, Calling, Generic}
 use Rattle.annex.specs.Digits.{halves, isCode, isDigit, halvesFault, digitsFault}
 use Rattle.annex.specs.Contents.{clear, formedThen, formed, oddOf, presentationOf, countOf, numberFault, callingFault, genericFault, dialledFault, twoFault, checkFault, faultBy, faultOf}
-use Rattle.annex.specs.Items.{Item, Holding, contentsBy, heldAs, contentsOf}
-use Rattle.annex.specs.Items.Holding.{AsContents, AsDigits, AsNumber, AsGeneric}
+use Rattle.annex.specs.Items.{Item, contentsBy, heldAs, contentsOf}
+use Rattle.annex.specs.declared.Holding.{Holding}
+use Rattle.annex.specs.declared.Holding.the-variants.{AsContents, AsDigits, AsNumber, AsGeneric}
 use Rattle.annex.specs.Allowed.{every, marksRight, fieldsRight, numberRight, valuesFault, faultAs, faultIn}
 use Rattle.annex.specs.declared.Alphabet.{Alphabet}
 use Rattle.annex.specs.declared.Alphabet.the-variants.{Dialled, Numbered}

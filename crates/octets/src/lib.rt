@@ -1,12 +1,33 @@
-// Copying, moving and clearing within lent octets. Where a request does not fit, nothing is written and the answer is false.
+// Octets of a slice, also past its end; copying, moving and clearing within lent octets. Where a request does not fit, nothing is written and
+// the answer is false.
 ghost use mathlib.Core.Path.{_≡_};
 ghost use mathlib.Core.Bool.{_&&_};
 ghost use Prim.Native.Nat.{_+_, _-_, _≤_};
 ghost use lib.Dec.{leb};
-ghost use lib.ListN.{length, replicate};
-ghost use Rattle.annex.specs.Promises.{Stores};
+ghost use lib.ListN.{length, getD, drop, replicate};
+ghost use Rattle.annex.specs.Promises.{Gives, Stores};
 ghost use Rattle.octets.specs.Put.{put, part};
 ghost use Rattle.octets.specs.Splice.{spliced, spliceFits, Fitting};
+
+// The octet at i, and 0 past the end.
+pub fn octet_at(octets: &[u8], i: usize) -> u8
+    ensures { λ r. ⌜ Gives (getD (now (octets .entry)) i 0) r ⌝ }
+{
+    if octets.len() <= i {
+        return 0;
+    }
+    octets[i]
+}
+
+// The octets from i on, none past the end.
+pub fn octets_from(s: &[u8], i: usize) -> &[u8]
+    ensures { λ r. ⌜ Gives (drop i (now (s .entry))) (now r) ⌝ }
+{
+    if s.len() <= i {
+        return &s[..0];
+    }
+    &s[i..]
+}
 
 // Whether k octets from index at on lie within len octets; at + k may be over 64 bits.
 fn lies_within(len: usize, at: usize, k: usize) -> bool

@@ -6,10 +6,12 @@ use mathlib.Core.Bool.{Bool, true, false, not, _||_}
 use lib.Dec.{T}
 use lib.ListN.{length, getD}
 use Rattle.annex.specs.Units.{extentOf}
-use Rattle.annex.specs.Heads.{Form, formOf}
-use Rattle.annex.specs.Heads.Form.{Checked, Digits, Number, Calling, Generic}
-use Rattle.annex.specs.Items.{Item, Holding, holdingBy, holdingOf, contentsBy, heldAs, contentsOf}
-use Rattle.annex.specs.Items.Holding.{AsContents, AsDigits, AsNumber, AsGeneric}
+use Rattle.annex.specs.Heads.{formOf}
+use Rattle.annex.specs.declared.Form.{Form}
+use Rattle.annex.specs.declared.Form.the-variants.{Checked, Digits, Number, Calling, Generic}
+use Rattle.annex.specs.Items.{Item, holdingBy, holdingOf, contentsBy, heldAs, contentsOf}
+use Rattle.annex.specs.declared.Holding.{Holding}
+use Rattle.annex.specs.declared.Holding.the-variants.{AsContents, AsDigits, AsNumber, AsGeneric}
 use Rattle.annex.specs.Allowed.{lengthBy, lengthRight, faultAs, faultIn}
 use Rattle.annex.specs.declared.Extent.{Extent}
 use Rattle.annex.specs.declared.Extent.the-variants.{Fixed, CountOctet, LengthOctet}
@@ -18,15 +20,15 @@ use Rattle.laws.specs.Octet.{range}
 
 -- ---- contents, length and faults
 
-pub contents-as : (k : Holding) (i : Item) → heldAs i ≡ k → contentsOf i ≡ contentsBy k i
+pub contents-as : (k : Holding) (i : Item) → k ≡ heldAs i → contentsBy k i ≡ contentsOf i
 unfolding contentsOf
 contents-as k i e = rw e
 
-pub length-as : (k : Holding) (i : Item) → heldAs i ≡ k → lengthRight i ≡ lengthBy k i
+pub length-as : (k : Holding) (i : Item) → k ≡ heldAs i → lengthBy k i ≡ lengthRight i
 unfolding lengthRight
 length-as k i e = rw e
 
-pub fault-as : (k : Holding) (i : Item) → heldAs i ≡ k → faultIn i ≡ faultAs k i
+pub fault-as : (k : Holding) (i : Item) → k ≡ heldAs i → faultAs k i ≡ faultIn i
 unfolding faultIn
 fault-as k i e = rw e
 

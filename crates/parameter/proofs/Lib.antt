@@ -1,5 +1,4 @@
 -- Laws that the proofs of this crate cite.
-pub mod Flat
-pub mod Pairs
-pub mod Turns
+pub mod Asked
+pub mod Stored
 pub mod Holdings

@@ -1,5 +1,3 @@
 -- What the contracts of this crate's functions cite beside the definitions of `annex`.
-pub mod Pairs
-pub mod Asked
 pub mod Opening
 pub mod Laying

@@ -1,67 +1,59 @@
 // Laying a transfer parameter of a record out: what refuses it, how long its contents are, and its octets at the front of lent room.
 // The parameter is given as its head and its values.
+use crate::contents::at_header;
 use crate::contents::contents_fault;
-use crate::contents::octet_at;
-use crate::digits::code_of;
-use crate::heads::head_of;
-use crate::heads::often_of;
-use crate::opening::Held;
 use crate::opening::holding_of;
-use crate::opening::octets_from;
-use crate::units::extent_of;
-use crate::units::lead;
-use crate::units::octets_after;
 use annex::Alphabet;
 use annex::Answer;
 use annex::Extent;
 use annex::Fault;
-use annex::HalfOctets;
+use annex::Holding;
+use annex::Marks;
 use annex::Transfer;
+use digits::packing::are_digits;
+use digits::packing::pack_digits;
+use digits::packing::packed_len;
+use heads::head_of;
+use heads::often_of;
 use octets::copy_in;
+use octets::octet_at;
+use octets::octets_from;
+use units::extent_of;
+use units::lead;
+use units::octets_after;
 ghost use mathlib.Core.Path.{_≡_};
 ghost use mathlib.Core.List.{List, []};
-ghost use Prim.Native.Nat.{ℕ, _+_, _/_, _≤_};
+ghost use Prim.Native.Nat.{ℕ, _≤_};
 ghost use lib.Dec.{leb};
 ghost use lib.ListN.{length, getD};
 ghost use Rattle.annex.specs.Promises.{Gives, Stores};
 ghost use Rattle.annex.specs.Units.{extentOf};
-ghost use Rattle.annex.specs.Digits.{isDigit, packed};
 ghost use Rattle.annex.specs.Contents.{formedThen};
-ghost use Rattle.annex.specs.Items.{holdingOf, upperMarks, numberContents, contentsBy, contentsOf, Holding.AsDigits, Holding.AsGeneric};
+ghost use Rattle.annex.specs.Items.{holdingOf, upperMarks, numberContents, contentsBy, contentsOf};
+ghost use Rattle.annex.specs.declared.Holding.the-variants.{AsDigits, AsGeneric};
 ghost use Rattle.annex.specs.Layout.{layoutItem};
-ghost use Rattle.annex.specs.Allowed.{every, lengthFits, lengthRight, marksRight, fieldsRight, withheldRight, numberRight, valuesFault, faultIn};
+ghost use Rattle.annex.specs.Allowed.{lengthFits, lengthRight, marksRight, fieldsRight, withheldRight, numberRight, valuesFault, faultAs};
 ghost use Rattle.annex.specs.Records.{rawItem};
 ghost use Rattle.annex.specs.Writing.{itemWriting};
 ghost use Rattle.laws.specs.Written.{atFront};
-ghost use Rattle.parameter.specs.Opening.{marksOf, asHeld};
 ghost use Rattle.parameter.specs.Laying.{itemFrom};
 
 // How the values under this header are held.
-fn held_as(header: u8, values: &[u8]) -> Held
-    ensures { λ r. ⌜ holdingOf header (getD (now (values .entry)) 0 0) ≡ asHeld r (marksOf header) ⌝ }
+fn held_as(header: u8, values: &[u8]) -> Holding
+    ensures { λ r. ⌜ r ≡ holdingOf header (getD (now (values .entry)) 0 0) ⌝ }
 {
     holding_of(header, octet_at(values, 0))
 }
 
-// How many octets hold so many digits.
-fn packed_len(digits: usize) -> usize
-    ensures { λ r. ⌜ r ≡ (digits + 1) / 2 ⌝ }
-{
-    let count = HalfOctets(digits);
-    let octets = count.octets();
-    octets.0
-}
-
 // How many octets the contents have whose values are held so.
-fn len_as(held: Held, t: Transfer, values: &[u8]) -> usize
-    requires { ⌜ holdingOf (t .header) (getD (now values) 0 0) ≡ asHeld held (marksOf (t .header)) ⌝ }
-    ensures { λ r. ⌜ r ≡ length (contentsOf (itemFrom t (now (values .entry)))) ⌝ }
+fn len_as(held: Holding, t: Transfer, values: &[u8]) -> usize
+    ensures { λ r. ⌜ r ≡ length (contentsBy held (rawItem t (now (values .entry)))) ⌝ }
 {
     match held {
-        Held::Contents => values.len(),
-        Held::Digits => 1 + packed_len(values.len()),
-        Held::Number => 2 + packed_len(values.len()),
-        Held::Generic => {
+        Holding::AsContents => values.len(),
+        Holding::AsDigits(_) => 1 + packed_len(values.len()),
+        Holding::AsNumber => 2 + packed_len(values.len()),
+        Holding::AsGeneric => {
             let digits = octets_from(values, 1);
             3 + packed_len(digits.len())
         }
@@ -89,34 +81,33 @@ fn length_fits(header: u8, s: &[u8]) -> bool
 }
 
 // Whether the contents have the length that the PLI gives, and digits of PLI 10 are not too many.
-fn length_right(held: Held, t: Transfer, values: &[u8]) -> bool
-    requires { ⌜ holdingOf (t .header) (getD (now values) 0 0) ≡ asHeld held (marksOf (t .header)) ⌝ }
+fn length_right(held: Holding, t: Transfer, values: &[u8]) -> bool
+    requires { ⌜ held ≡ holdingOf (t .header) (getD (now values) 0 0) ⌝ }
     ensures { λ r. ⌜ r ≡ lengthRight (rawItem t (now (values .entry))) ⌝ }
 {
     match held {
-        Held::Contents => length_fits(t.header, values),
-        Held::Digits => values.len() <= Transfer::MOST_DIGITS,
-        Held::Number => len_as(held, t, values) <= Transfer::MOST_OCTETS,
-        Held::Generic => len_as(held, t, values) <= Transfer::MOST_OCTETS,
+        Holding::AsContents => length_fits(t.header, values),
+        Holding::AsDigits(_) => values.len() <= Transfer::MOST_DIGITS,
+        Holding::AsNumber => len_as(held, t, values) <= Transfer::MOST_OCTETS,
+        Holding::AsGeneric => len_as(held, t, values) <= Transfer::MOST_OCTETS,
     }
 }
 
 // Whether the marks of a count octet fit their bits.
-fn marks_right(t: Transfer) -> bool
-    ensures { λ r. ⌜ ((vs : List ℕ) → r ≡ marksRight (marksOf (t .header)) (rawItem t vs)) ⌝ }
+fn marks_right(marks: Marks, t: Transfer) -> bool
+    ensures { λ r. ⌜ ((vs : List ℕ) → r ≡ marksRight marks (rawItem t vs)) ⌝ }
 {
-    let header = t.header;
-    match header {
-        Transfer::ORIGINATING_AREA | Transfer::CALLED_TERMINAL => t.notification <= 1,
-        Transfer::ORIGINATING_ID => {
+    match marks {
+        Marks::Unmarked => true,
+        Marks::Notified => t.notification <= 1,
+        Marks::Verified => {
             if 1 < t.notification {
                 false
             } else {
                 t.verification <= 1
             }
         }
-        Transfer::DIALLED_DIGITS => t.dialling <= 3,
-        _ => true,
+        Marks::Typed => t.dialling <= 3,
     }
 }
 
@@ -171,19 +162,6 @@ fn number_right(t: Transfer, digits: &[u8]) -> bool
     withheld_right(t, digits)
 }
 
-// Whether each value is a digit. No turn leaves early, so that the compiler can take many at once.
-fn are_digits(values: &[u8]) -> bool
-    ensures { λ r. ⌜ r ≡ every isDigit (now (values .entry)) ⌝ }
-{
-    let mut good = true;
-    let mut i: usize = 0;
-    while i < values.len() {
-        good = good & (values[i] <= 11);
-        i += 1;
-    }
-    good
-}
-
 // Digits and numbers: a mark or field too large for its bits, then a value that is no digit.
 fn fields_fault(good: bool, digits: &[u8]) -> Fault
     ensures { λ r. ⌜ r ≡ formedThen good (valuesFault (now (digits .entry))) ⌝ }
@@ -199,15 +177,14 @@ fn fields_fault(good: bool, digits: &[u8]) -> Fault
 }
 
 // What is wrong with the values: those that are held as contents have the faults that reading finds.
-fn values_fault(held: Held, t: Transfer, values: &[u8]) -> Fault
-    requires { ⌜ holdingOf (t .header) (getD (now values) 0 0) ≡ asHeld held (marksOf (t .header)) ⌝ }
-    ensures { λ r. ⌜ r ≡ faultIn (rawItem t (now (values .entry))) ⌝ }
+fn values_fault(held: Holding, t: Transfer, values: &[u8]) -> Fault
+    ensures { λ r. ⌜ r ≡ faultAs held (rawItem t (now (values .entry))) ⌝ }
 {
     match held {
-        Held::Contents => contents_fault(t.header, values),
-        Held::Digits => fields_fault(marks_right(t), values),
-        Held::Number => fields_fault(number_right(t, values), values),
-        Held::Generic => fields_fault(fields_right(t), octets_from(values, 1)),
+        Holding::AsContents => contents_fault(t.header, values),
+        Holding::AsDigits(marks) => fields_fault(marks_right(marks, t), values),
+        Holding::AsNumber => fields_fault(number_right(t, values), values),
+        Holding::AsGeneric => fields_fault(fields_right(t), octets_from(values, 1)),
     }
 }
 
@@ -235,10 +212,7 @@ pub fn refusal(times: u8, t: Transfer, values: &[u8]) -> Answer
     let before = 1 + lead(extent_of(header));
     let len = before + len_as(held, t, values);
     let f = values_fault(held, t, values);
-    match f {
-        Fault::Sound => Answer::Accepted(len),
-        Fault::Bad(k, _) => Answer::Refused(k, 0),
-    }
+    at_header(f, len)
 }
 
 // Writes octets at the front of the room.
@@ -249,48 +223,26 @@ fn copy(s: &[u8], room: &mut [u8])
     copy_in(room, 0, s);
 }
 
-// Writes digits at the front of the room, two to an octet, low half first.
-fn pack_digits(z: Alphabet, digits: &[u8], room: &mut [u8])
-    requires { ⌜ (length (now digits) + 1) / 2 ≤ length (now room) ⌝ }
-    ensures { λ r. ⌜ now (room .exit) ≡ atFront (packed z (now (digits .entry))) (now (room .entry)) ⌝ }
-{
-    let n = digits.len() / 2;
-    let mut i: usize = 0;
-    while i < n {
-        let at = 2 * i;
-        let low = code_of(z, digits[at]) as u16;
-        let high = code_of(z, digits[at + 1]) as u16;
-        room[i] = ((low + 16 * high) % 256) as u8;
-        i += 1;
-    }
-    if digits.len() % 2 == 0 {
-        return;
-    }
-    let last = 2 * n;
-    room[n] = code_of(z, digits[last]);
-}
-
 // The upper marks of a count octet.
-fn upper_marks(t: Transfer) -> u16
-    ensures { λ r. ⌜ ((vs : List ℕ) → r ≡ upperMarks (marksOf (t .header)) (rawItem t vs)) ⌝ }
+fn upper_marks(marks: Marks, t: Transfer) -> u16
+    ensures { λ r. ⌜ ((vs : List ℕ) → r ≡ upperMarks marks (rawItem t vs)) ⌝ }
 {
     let notification = t.notification as u16;
-    let header = t.header;
-    match header {
-        Transfer::ORIGINATING_AREA | Transfer::CALLED_TERMINAL => 2 * notification,
-        Transfer::ORIGINATING_ID => 2 * notification + t.verification as u16,
-        Transfer::DIALLED_DIGITS => t.dialling as u16,
-        _ => 0,
+    match marks {
+        Marks::Unmarked => 0,
+        Marks::Notified => 2 * notification,
+        Marks::Verified => 2 * notification + t.verification as u16,
+        Marks::Typed => t.dialling as u16,
     }
 }
 
 // Writes digits of PLI 10: the count octet, then the digits.
-fn put_digits(t: Transfer, digits: &[u8], room: &mut [u8])
-    requires { ⌜ length (contentsBy (AsDigits (marksOf (t .header))) (rawItem t (now digits))) ≤ length (now room) ⌝ }
-    ensures { λ r. ⌜ now (room .exit) ≡ atFront (contentsBy (AsDigits (marksOf (t .header))) (rawItem t (now (digits .entry)))) (now (room .entry)) ⌝ }
+fn put_digits(marks: Marks, t: Transfer, digits: &[u8], room: &mut [u8])
+    requires { ⌜ length (contentsBy (AsDigits marks) (rawItem t (now digits))) ≤ length (now room) ⌝ }
+    ensures { λ r. ⌜ now (room .exit) ≡ atFront (contentsBy (AsDigits marks) (rawItem t (now (digits .entry)))) (now (room .entry)) ⌝ }
 {
-    let marks = upper_marks(t) as usize;
-    let count = 64 * marks + digits.len() % 256;
+    let upper = upper_marks(marks, t) as usize;
+    let count = 64 * upper + digits.len() % 256;
     room[0] = (count % 256) as u8;
     pack_digits(Alphabet::Dialled, digits, &mut room[1..]);
 }
@@ -319,22 +271,21 @@ fn put_generic(t: Transfer, values: &[u8], room: &mut [u8])
 }
 
 // Writes the contents.
-fn put_contents(held: Held, t: Transfer, values: &[u8], room: &mut [u8])
-    requires { ⌜ (holdingOf (t .header) (getD (now values) 0 0) ≡ asHeld held (marksOf (t .header)))
-        × (length (contentsOf (rawItem t (now values))) ≤ length (now room)) ⌝ }
-    ensures { λ r. ⌜ now (room .exit) ≡ atFront (contentsOf (rawItem t (now (values .entry)))) (now (room .entry)) ⌝ }
+fn put_contents(held: Holding, t: Transfer, values: &[u8], room: &mut [u8])
+    requires { ⌜ length (contentsBy held (rawItem t (now values))) ≤ length (now room) ⌝ }
+    ensures { λ r. ⌜ now (room .exit) ≡ atFront (contentsBy held (rawItem t (now (values .entry)))) (now (room .entry)) ⌝ }
 {
     match held {
-        Held::Contents => copy(values, room),
-        Held::Digits => put_digits(t, values, room),
-        Held::Number => put_number(t, values, room),
-        Held::Generic => put_generic(t, values, room),
+        Holding::AsContents => copy(values, room),
+        Holding::AsDigits(marks) => put_digits(marks, t, values, room),
+        Holding::AsNumber => put_number(t, values, room),
+        Holding::AsGeneric => put_generic(t, values, room),
     }
 }
 
 // Writes the header, the length octet that PLI 11 has, and the contents.
-fn put_whole(held: Held, t: Transfer, values: &[u8], room: &mut [u8])
-    requires { ⌜ (holdingOf (t .header) (getD (now values) 0 0) ≡ asHeld held (marksOf (t .header)))
+fn put_whole(held: Holding, t: Transfer, values: &[u8], room: &mut [u8])
+    requires { ⌜ (held ≡ holdingOf (t .header) (getD (now values) 0 0))
         × (length (layoutItem (rawItem t (now values))) ≤ length (now room)) ⌝ }
     ensures { λ r. ⌜ now (room .exit) ≡ atFront (layoutItem (rawItem t (now (values .entry)))) (now (room .entry)) ⌝ }
 {
@@ -349,8 +300,8 @@ fn put_whole(held: Held, t: Transfer, values: &[u8], room: &mut [u8])
 }
 
 // Whether so much room holds the parameter.
-fn fits_in(held: Held, t: Transfer, values: &[u8], room: usize) -> bool
-    requires { ⌜ holdingOf (t .header) (getD (now values) 0 0) ≡ asHeld held (marksOf (t .header)) ⌝ }
+fn fits_in(held: Holding, t: Transfer, values: &[u8], room: usize) -> bool
+    requires { ⌜ held ≡ holdingOf (t .header) (getD (now values) 0 0) ⌝ }
     ensures { λ r. ⌜ r ≡ leb (length (layoutItem (rawItem t (now (values .entry))))) room ⌝ }
 {
     let before = 1 + lead(extent_of(t.header));

@@ -1,22 +1,25 @@
 // One transfer parameter, its header and the octets after it: 8 to 13 in their order, all placed at the header.
+use crate::contents::at_header;
 use crate::contents::fault_under;
-use crate::contents::octet_at;
-use crate::heads::head_of;
-use crate::heads::often_of;
-use crate::units::extent_of;
-use crate::units::lead;
-use crate::units::octets_after;
 use annex::Answer;
-use annex::Fault;
+use heads::Asked;
+use heads::head_of;
+use heads::often_of;
+use octets::octet_at;
+use units::extent_of;
+use units::lead;
+use units::octets_after;
+ghost use mathlib.Core.Path.{_≡_};
 ghost use Rattle.annex.specs.Promises.{Gives};
 ghost use Rattle.annex.specs.Reading.{transferOf};
+ghost use Rattle.heads.specs.Asked.{askedOf};
 
-// The parameter's name stood `times` before; xs are the octets after its header, to the end of the transfer data. Accepted with how many
-// of them are its own.
-pub fn transfer(times: u8, header: u8, xs: &[u8]) -> Answer
-    ensures { λ r. ⌜ Gives (transferOf times header (now (xs .entry))) r ⌝ }
+// The parameter's name stood `times` before; `asked` is what a look-up says of its header; xs are the octets after it, to the end of the
+// transfer data.
+fn judged(asked: Asked, times: u8, header: u8, xs: &[u8]) -> Answer
+    requires { ⌜ asked ≡ askedOf header ⌝ }
+    ensures { λ r. ⌜ r ≡ transferOf times header (now (xs .entry)) ⌝ }
 {
-    let asked = head_of(header);
     if !asked.used {
         return Answer::Refused(Answer::UNUSED_NAME, 0);
     }
@@ -33,10 +36,15 @@ pub fn transfer(times: u8, header: u8, xs: &[u8]) -> Answer
         return Answer::Refused(Answer::CUT_CONTENTS, 0);
     }
     let start = lead(e);
-    let shape = asked.shape;
-    let f = fault_under(asked.zeroes, shape, &xs[start..n]);
-    match f {
-        Fault::Sound => Answer::Accepted(n),
-        Fault::Bad(k, _) => Answer::Refused(k, 0),
-    }
+    let form = asked.form;
+    let f = fault_under(asked.zeroes, form, &xs[start..n]);
+    at_header(f, n)
+}
+
+// Accepted with how many of the octets after the header are the parameter's own.
+pub fn transfer(times: u8, header: u8, xs: &[u8]) -> Answer
+    ensures { λ r. ⌜ Gives (transferOf times header (now (xs .entry))) r ⌝ }
+{
+    let asked = head_of(header);
+    judged(asked, times, header, xs)
 }

@@ -2,9 +2,9 @@
 use annex::Answer;
 use annex::Common;
 use annex::Signal;
-use parameter::contents::octet_at;
-use parameter::units::common_extent_of;
-use parameter::units::octets_after;
+use octets::octet_at;
+use units::common_extent_of;
+use units::octets_after;
 ghost use Rattle.annex.specs.Promises.{Gives};
 ghost use Rattle.annex.specs.Heads.{among, listedHeaders, signalKinds};
 ghost use Rattle.annex.specs.Reading.{octetAllowed, commonForm, endOf};

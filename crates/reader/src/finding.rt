@@ -5,11 +5,11 @@ use annex::Common;
 use annex::Extent;
 use annex::Found;
 use annex::Key;
-use parameter::contents::octet_at;
-use parameter::units::common_extent_of;
-use parameter::units::extent_of;
-use parameter::units::lead;
-use parameter::units::octets_after;
+use octets::octet_at;
+use units::common_extent_of;
+use units::extent_of;
+use units::lead;
+use units::octets_after;
 ghost use mathlib.Core.Path.{_≡_};
 ghost use Rattle.annex.specs.Finding.{findPart};
 ghost use Rattle.annex.specs.Promises.{

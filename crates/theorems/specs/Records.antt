@@ -9,9 +9,10 @@ use lib.Dec.{eqb}
 use lib.ListN.{length, getD, drop, length-append, length-map, length-drop}
 use Rattle.annex.specs.Units.{nameOf, extentOf}
 use Rattle.annex.specs.Heads.{among, heads, freeNames, end-mark, user-class, partners-call, own-call, sequence, signal-kind, transfer-data, commonHeaders, most-commons, most-transfers, most-transfer-octets, nameUsed, pliRight, oftenOf}
-use Rattle.annex.specs.Items.{Item, Part, Holding, contentsOf, contentsBy, heldAs, valuePart}
+use Rattle.annex.specs.Items.{Item, Part, contentsOf, contentsBy, heldAs, valuePart}
+use Rattle.annex.specs.declared.Holding.{Holding}
 use Rattle.annex.specs.Contents.{isSound}
-use Rattle.annex.specs.Items.Holding.{AsContents, AsDigits, AsNumber, AsGeneric}
+use Rattle.annex.specs.declared.Holding.the-variants.{AsContents, AsDigits, AsNumber, AsGeneric}
 use Rattle.annex.specs.Digits.{codeOf, joined, packed}
 use Rattle.annex.specs.Layout.{layoutItem, layoutItems}
 use Rattle.annex.specs.Allowed.{every, Each, timesIn, HeldItem, HeldPart, lengthRight, faultIn, valueRight, valueFits, itemsIn, contentsSum, headersOf, namesOf, partNamesOf, Allowed}

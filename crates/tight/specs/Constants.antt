@@ -1,7 +1,7 @@
 -- Two wrong programs for each function that serves the product's: one that always answers what is right at the first input of its row, one
 -- that always answers what is right at the second. For `Common::none`, `Transfer::none`, `reader::reading::empty` and, in the base, where
 -- every name may stand once, for `often_of` a constant is right, and they have no row.
-use Prim.Native.Nat.{ℕ, _+_}
+use Prim.Native.Nat.{ℕ, _+_, _*_, _/_, min}
 use native.Mathlib.Omega.{arith}
 use mathlib.Core.Path.{_≡_, refl, sym, ap, _∙_}
 use mathlib.Core.Bool.{Bool, true, false, not}
@@ -9,13 +9,14 @@ use mathlib.Core.List.{List, [], _∷_, _++_}
 use borrow.Author.Tests.{eq-eqb}
 use lib.Dec.{eqb, leb}
 use lib.ListN.{length, getD, drop}
-use Rattle.annex.specs.Answers.{numberOf, givenOf, faultNumberOf, stopOf, over-limits, refuse}
+use Rattle.annex.specs.Answers.{numberOf, givenOf, faultNumberOf, stopOf, over-limits, refuse, soundThen, headerAt}
 use Rattle.annex.specs.Units.{octetsOf, afterOf, leadOf, commonExtentOf, extentOf}
 use Rattle.annex.specs.Heads.{among, listedHeaders, isCall, signalOf, nameUsed, pliRight, oftenOf, zeroesOf, formOf}
-use Rattle.annex.specs.Digits.{halves, joined, digitOf, codeOf, isCode, halvesFault, digitsFault, digitsOf, packed}
+use Rattle.annex.specs.Digits.{halves, joined, digitOf, codeOf, isCode, isDigit, halvesFault, digitsFault, digitsOf, packed}
 use Rattle.annex.specs.Contents.{clear, formedThen, dialledFault, faultOf}
 use Rattle.annex.specs.Items.{plainItem, holdingOf, openBy, itemOf, contentsOf, ownOf}
-use Rattle.annex.specs.Items.Holding.{AsContents}
+use Rattle.annex.specs.declared.Holding.{Holding}
+use Rattle.annex.specs.declared.Holding.the-variants.{AsContents, AsDigits, AsNumber, AsGeneric}
 use Rattle.annex.specs.Layout.{layoutItem}
 use Rattle.annex.specs.Allowed.{every, lengthRight, faultIn}
 use Rattle.annex.specs.Walk.{walk}
@@ -28,14 +29,13 @@ use Rattle.annex.specs.Bench.{K, recordOfK, recordOfM}
 use Rattle.annex.specs.declared.Alphabet.the-variants.{Dialled, Numbered}
 use Rattle.annex.specs.declared.Answer.the-variants.{Accepted, Refused}
 use Rattle.annex.specs.declared.Extent.the-variants.{CountOctet, LengthOctet}
-use Rattle.annex.specs.declared.Fault.the-variants.{Sound}
+use Rattle.annex.specs.declared.Fault.the-variants.{Sound, Bad}
 use Rattle.annex.specs.declared.Key.the-variants.{Header, Name}
 use Rattle.laws.specs.Plain.{pars}
 use Rattle.laws.specs.Finding.{soughtIn, searchIn, commonPlain, foundBy}
 use Rattle.octets.specs.Splice.{spliceFits}
-use Rattle.parameter.specs.Opening.{heldBy, headFor, openedHead}
-use Rattle.parameter.specs.declared.opening.Held.{Held}
-use Rattle.parameter.specs.declared.opening.Held.the-variants as held
+use Rattle.heads.specs.Asked.{askedOf}
+use Rattle.parameter.specs.Opening.{headFor, openedHead}
 use Rattle.writer.specs.Along.{usedAt}
 use Rattle.writer.specs.Laying.{headLength}
 use Rattle.writer.specs.Limits.{isOver}
@@ -52,11 +52,11 @@ abbrev flag : Bool → ℕ
 flag true = 1
 flag false = 0
 
-abbrev heldNumber : Held → ℕ
-heldNumber held.Contents = 0
-heldNumber held.Digits = 1
-heldNumber held.Number = 2
-heldNumber held.Generic = 3
+abbrev heldNumber : Holding → ℕ
+heldNumber AsContents = 0
+heldNumber (AsDigits m) = 1
+heldNumber AsNumber = 2
+heldNumber AsGeneric = 3
 
 -- a row to a function: what its definition gives at two inputs, told as numbers
 abbrev pub rows : List (ℕ × ℕ)
@@ -74,17 +74,25 @@ rows =
     (leadOf CountOctet, leadOf LengthOctet) ∷  -- lead
     (flag (nameUsed 0x90), flag (nameUsed 0x08)) ∷  -- name_used
     (flag (pliRight 0x90), flag (pliRight 0xD0)) ∷  -- pli_right
-    (zeroesOf 0x41, zeroesOf 0x42) ∷  -- head_of
+    (askedOf 0x41 .zeroes, askedOf 0x42 .zeroes) ∷  -- head_of
     (faultNumberOf (formedThen (clear 0xFE 1) Sound), faultNumberOf (formedThen (clear 0xFE 2) Sound)) ∷  -- fault_under
     (getD (halves (0x21 ∷ [])) 0 0, getD (halves (0x21 ∷ [])) 1 0) ∷  -- half_at
     (digitOf Dialled 10, digitOf Numbered 10) ∷  -- digit_of
     (codeOf Dialled 0, codeOf Numbered 0) ∷  -- code_of
     (flag (isCode Dialled 10), flag (isCode Numbered 10)) ∷  -- is_code
+    (faultNumberOf (digitsFault Numbered 1 0 (0x0A ∷ [])), faultNumberOf (digitsFault Dialled 1 0 (0x0A ∷ []))) ∷  -- digits_fault
+    (flag (every isDigit (11 ∷ [])), flag (every isDigit (12 ∷ []))) ∷  -- are_digits
+    ((2 + 1) / 2, (3 + 1) / 2) ∷  -- packed_len
+    (min 3 (length {A = ℕ} (0x21 ∷ []) * 2), min 1 (length {A = ℕ} (0x21 ∷ []) * 2)) ∷  -- digits_in
+    (flag (leb (511 + 1) 512), flag (leb (512 + 1) 512)) ∷  -- has_room
+    (flag (leb (length (packed Dialled (1 ∷ 2 ∷ []))) 1), flag (leb (length (packed Dialled (1 ∷ 2 ∷ []))) 0)) ∷  -- pack_digits
+    (flag (leb (511 + length (digitsOf Dialled 1 (0x21 ∷ []))) 512), flag (leb (511 + length (digitsOf Dialled 2 (0x21 ∷ []))) 512)) ∷  -- unpack_digits
+    (numberOf (soundThen (headerAt 0) Sound (Accepted 1)), numberOf (soundThen (headerAt 0) (Bad 13 2) (Accepted 1))) ∷  -- at_header
     (getD (0x21 ∷ 0x43 ∷ []) 0 0, getD (0x21 ∷ 0x43 ∷ []) 1 0) ∷  -- octet_at
     (length {A = ℕ} (drop 0 (0x21 ∷ [])), length {A = ℕ} (drop 1 (0x21 ∷ []))) ∷  -- octets_from
     (faultNumberOf (faultOf 0x90 (0x01 ∷ 0x0A ∷ [])), faultNumberOf (faultOf 0x90 (0x01 ∷ 0x00 ∷ []))) ∷  -- contents_fault
     (numberOf (transferOf 0 0x41 (0x01 ∷ [])), numberOf (transferOf 0 0x41 [])) ∷  -- transfer
-    (heldNumber (heldBy (holdingOf 0xDA 0x06)), heldNumber (heldBy (holdingOf 0xDA 0x07))) ∷  -- holding_of
+    (heldNumber (holdingOf 0xDA 0x06), heldNumber (holdingOf 0xDA 0x07)) ∷  -- holding_of
     (headFor (openBy AsContents 0xCC (1 ∷ [])) 0 .len, headFor (openBy AsContents 0xCC []) 0 .len) ∷  -- open_contents
     (openedHead 0x90 (0x02 ∷ 0x21 ∷ []) 0 .len, openedHead 0x90 (0x01 ∷ 0x01 ∷ []) 0 .len) ∷  -- open
     (length (contentsOf (plainItem 0x41 (1 ∷ []))), length (contentsOf (plainItem 0xCC []))) ∷  -- contents_len

@@ -1,9 +1,9 @@
 // One parameter by the length rule.
 use annex::Extent;
 use annex::Found;
-use parameter::contents::octet_at;
-use parameter::units::lead;
-use parameter::units::octets_after;
+use octets::octet_at;
+use units::lead;
+use units::octets_after;
 ghost use Rattle.annex.specs.Promises.{Gives};
 ghost use Rattle.walk.specs.Stretches.{stretchAt};
 

@@ -9,8 +9,9 @@ use lib.Dec.{leb, ltb}
 use lib.ListN.{length, take, drop, length-take, length-drop}
 use Rattle.annex.specs.Answers.{over-limits, refuse}
 use Rattle.annex.specs.Heads.{most-commons, most-transfers, most-transfer-octets}
-use Rattle.annex.specs.Items.{Item, Holding, heldAs, contentsBy, contentsOf}
-use Rattle.annex.specs.Items.Holding.{AsContents, AsDigits, AsNumber, AsGeneric}
+use Rattle.annex.specs.Items.{Item, heldAs, contentsBy, contentsOf}
+use Rattle.annex.specs.declared.Holding.{Holding}
+use Rattle.annex.specs.declared.Holding.the-variants.{AsContents, AsDigits, AsNumber, AsGeneric}
 use Rattle.annex.specs.Allowed.{contentsSum}
 use Rattle.annex.specs.Records.{viewItems, lengthsOf, transfersSum, viewParts, commonsIn, isWhole, view}
 use Rattle.annex.specs.Walk.{unseen}

@@ -1,16 +1,12 @@
 -- `contents_answer` meets its contract: the length is that of the length rule, and the part handed on is the contents.
 use Prim.Native.Nat.{_+_}
 use native.Mathlib.Omega.{arith}
-use mathlib.Core.Path.{_≡_}
 use borrow.Author.Needs.{needs}
 use borrow.Author.Tests.{eq-eqb, ne-eqb}
 use lib.ListN.{length-drop}
 use lib.Seq.{getD-drop, drop-drop}
-use Rattle.annex.specs.Answers.{soundThen, headerAt}
-use Rattle.annex.specs.declared.Answer.the-variants.{Accepted}
 use Rattle.laws.specs.Extents.{lead-within}
 use Rattle.laws.specs.Parts.{to-end}
-use Rattle.editor.specs.Steps.{contentsAnswer}
 use Rattle.editor.proofs.steps.contents_answer.Statement.{statement}
 use Rattle.editor.proofs.steps.contents_answer.Tie as tie
 
@@ -30,21 +26,15 @@ start-within c =
     omega (arith, l, c .before .if2 .left)
 
 -- past 11: the part handed on is the contents
-past-11 : (c : tie.After-contents-fault) →
-    let a = c .before .before .before .before .before .before .before .before .before .before .args in
-    contentsAnswer (a .new .now) ≡ soundThen (headerAt 0) (c .contents-fault .result) (Accepted 0)
-past-11 c =
-    let l = c .before .before in
+returns-3 : tie.Need-returns-3
+returns-3 c =
+    let f = c .before in
+    let l = f .before .before in
     let n = l .before .before in
     let h = n .before .before in
     let new = h .before .before .before .before .args .new .now in
-    rw (ne-eqb _ 0 (h .before .before .if1 .left), length-drop, getD-drop, ← h .extent-of .ensures, ← n .before .octet-at .ensures, ← n .octets-after .ensures, eq-eqb _ _ (l .before .if2 .left), drop-drop, ← l .lead .ensures, ← to-end (1 + l .lead .result) new, ← c .contents-fault .ensures)
-
-returns-3 : tie.Need-returns-3
-returns-3 c = rw (past-11 (c .before .before), c .enum-told .given .1)
-
-returns-4 : tie.Need-returns-4
-returns-4 c = rw (past-11 (c .before .before .before), c .before .f .given .1)
+    rw (ne-eqb _ 0 (h .before .before .if1 .left), length-drop, getD-drop, ← h .extent-of .ensures, ← n .before .octet-at .ensures, ← n .octets-after .ensures, eq-eqb _ _ (l .before .if2 .left), drop-drop, ← l .lead .ensures, ← to-end (1 + l .lead .result) new, ← f .contents-fault .ensures)
+    (c .at-header .ensures)
 
 pub contents-answer-spec : {M : Type 1} → statement M
 contents-answer-spec =
@@ -63,7 +53,5 @@ contents-answer-spec =
     start-within
     (λ c. search needs)
     (λ c κs. search needs)
-    (λ c. search needs)
-    (λ c. search needs)
-    returns-3
-    returns-4)
+    (λ c κs. search needs)
+    returns-3)

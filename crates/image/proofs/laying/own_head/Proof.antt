@@ -1,20 +1,17 @@
 -- `own_head` meets its contract: each way of holding has its marks and fields.
-use mathlib.Core.Path.{_≡_, _∙_}
+use mathlib.Core.Path.{_≡_, sym, _∙_}
 use borrow.Author.Needs.{needs}
 use lib.ListN.{getD}
 use Rattle.annex.specs.Items.{holdingOf, ownOf}
-use Rattle.parameter.specs.Opening.{marksOf, asHeld, held-again}
-use Rattle.parameter.specs.declared.opening.Held.{Held}
+use Rattle.annex.specs.declared.Holding.{Holding}
 use Rattle.image.proofs.laying.own_head.Statement.{statement}
 use Rattle.image.proofs.laying.own_head.Tie as tie
 
 -- how the values are held
-told : (c : tie.After-holding-of) (v : Held) → c .holding-of .result ≡ v →
+told : (c : tie.After-holding-of) (k : Holding) → c .holding-of .result ≡ k →
     let a = c .before .before .before .args in
-    holdingOf (a .t .header) (getD (a .values .now) 0 0) ≡ asHeld v (marksOf (a .t .header))
-told c v e =
-    let a = c .before .before .before .args in
-    held-again (a .t .header) (getD (a .values .now) 0 0) (c .holding-of .result) v (rw (← c .before .octet-at .ensures) (c .holding-of .ensures)) e
+    holdingOf (a .t .header) (getD (a .values .now) 0 0) ≡ k
+told c k e = sym (rw (← c .before .octet-at .ensures) (c .holding-of .ensures)) ∙ e
 
 returns : tie.Need-returns
 unfolding ownOf
@@ -26,10 +23,10 @@ returns c =
 returns-2 : tie.Need-returns-2
 unfolding ownOf
 returns-2 c =
-    let u = c .before in
+    let u = c .before .before in
     let h = u .before .before in
     let st = h .before .before .before in
-    rw (told h _ (u .enum-told2 .given .1)) (c .own-marks .ensures (st .args .values .now) (st .pre))
+    rw (told h _ (u .held .given .1)) (c .own-marks .ensures (st .args .values .now) (st .pre))
 
 returns-3 : tie.Need-returns-3
 unfolding ownOf
@@ -37,7 +34,7 @@ returns-3 c =
     let u = c .before in
     let h = u .before .before in
     let st = h .before .before .before in
-    rw (told h _ (u .enum-told3 .given .1)) (c .own-fields .ensures (st .args .values .now) (st .pre))
+    rw (told h _ (u .enum-told2 .given .1)) (c .own-fields .ensures (st .args .values .now) (st .pre))
 
 returns-4 : tie.Need-returns-4
 unfolding ownOf
@@ -45,7 +42,7 @@ returns-4 c =
     let u = c .before in
     let h = u .before .before in
     let st = h .before .before .before in
-    rw (told h _ (u .enum-told4 .given .1)) (c .own-fields2 .ensures (st .args .values .now) (st .pre))
+    rw (told h _ (u .enum-told3 .given .1)) (c .own-fields2 .ensures (st .args .values .now) (st .pre))
 
 pub own-head-spec : {M : Type 1} → statement M
 own-head-spec =

@@ -1,7 +1,7 @@
--- `contents_fault` meets its contract: the header's row asks what the definitions ask.
+-- `contents_fault` meets its contract: the look-up asks what the definitions ask.
 use mathlib.Core.Path.{_∙_}
 use borrow.Author.Needs.{needs}
-use Rattle.parameter.specs.Asked.{asked-fault}
+use Rattle.parameter.proofs.Asked.{fault-of}
 use Rattle.parameter.proofs.contents.contents_fault.Statement.{statement}
 use Rattle.parameter.proofs.contents.contents_fault.Tie as tie
 
@@ -9,7 +9,12 @@ returns : tie.Need-returns
 returns c =
     let h = c .before in
     let a = h .before .before .args in
-    c .fault-under .ensures ∙ asked-fault (a .header) (h .head-of .result) (a .s .now) (h .head-of .ensures)
+    c .fault-under .ensures ∙ fault-of (a .header) (h .head-of .result) (h .head-of .ensures) (a .s .now)
 
 pub contents-fault-spec : {M : Type 1} → statement M
-contents-fault-spec = tie.close (tie.spec (λ c κs. search needs) (λ c κs. search needs) returns)
+contents-fault-spec =
+    tie.close
+    (tie.spec
+    (λ c κs. search needs)
+    (λ c κs. search needs)
+    returns)

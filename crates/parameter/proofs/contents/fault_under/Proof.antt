@@ -10,7 +10,7 @@ returns c = rw (← c .before .octet-at .ensures, ne-eqb _ _ (c .if1 .taken))
 returns-2 : tie.Need-returns-2
 returns-2 c =
     let e = c .before in
-    rw (← e .before .octet-at .ensures, eq-eqb _ _ (e .if1 .left)) (c .shape-fault .ensures)
+    rw (← e .before .octet-at .ensures, eq-eqb _ _ (e .if1 .left)) (c .form-fault .ensures)
 
 pub fault-under-spec : {M : Type 1} → statement M
 fault-under-spec = tie.close (tie.spec (λ c κs. search needs) returns (λ c κs. search needs) returns-2)

@@ -2,7 +2,6 @@
 use borrow.Author.Needs.{needs}
 use borrow.Author.Tests.{eq-eqb, ne-eqb}
 use Rattle.annex.specs.Contents.{genericFault}
-use Rattle.laws.specs.Parts.{to-end}
 use Rattle.parameter.proofs.contents.generic_fault.Statement.{statement}
 use Rattle.parameter.proofs.contents.generic_fault.Tie as tie
 
@@ -13,8 +12,8 @@ returns c = rw (eq-eqb _ _ (c .if1 .taken))
 returns-2 : tie.Need-returns-2
 unfolding genericFault
 returns-2 c =
-    let t = c .before .before in
-    rw (ne-eqb _ _ (t .before .before .if1 .left), eq-eqb _ _ (t .if2 .taken), ← to-end) (c .number-fault .ensures)
+    let t = c .before in
+    rw (ne-eqb _ _ (t .before .before .if1 .left), eq-eqb _ _ (t .if2 .taken)) (c .number-fault .ensures)
 
 returns-3 : tie.Need-returns-3
 unfolding genericFault
@@ -25,9 +24,6 @@ generic-fault-spec =
     tie.close
     (tie.spec
     returns
-    (λ c. search needs)
-    (λ c. search needs)
-    (λ c. search needs)
     (λ c. search needs)
     (λ c κs. search needs)
     returns-2

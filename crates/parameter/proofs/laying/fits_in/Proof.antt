@@ -11,7 +11,8 @@ use lib.ListN.{length}
 use Rattle.annex.specs.Units.{leadOf}
 use Rattle.annex.specs.Layout.{layoutItem}
 use Rattle.annex.specs.Records.{rawItem}
-use Rattle.laws.specs.Laid.{own-contents, length-layout, lead-small}
+use Rattle.laws.specs.Laid.{length-layout, lead-small}
+use Rattle.parameter.proofs.Holdings.{contents-as}
 use Rattle.parameter.proofs.laying.fits_in.Statement.{statement}
 use Rattle.parameter.proofs.laying.fits_in.Tie as tie
 
@@ -40,7 +41,7 @@ returns-2 c =
     let x = n .before in
     let a = x .before .before .args in
     let i = rawItem (a .t) (a .values .now) in
-    let s = ap (λ (y : List ℕ). length y) (own-contents i) in
+    let s = ap (λ (y : List ℕ). length y) (contents-as (a .held) i (x .before .before .pre)) in
     less _ _ _ (a .room) (omega (arith, length-layout i, c .len-as .ensures, n .lead .ensures, ap leadOf (x .extent-of .ensures))) (e .if1 .left)
 
 pub fits-in-spec : {M : Type 1} → statement M
@@ -51,5 +52,5 @@ fits-in-spec =
     (λ c κs. search needs)
     add-before
     returns
-    (λ c κs. c .before .before .before .before .pre)
+    (λ c κs. search needs)
     returns-2)

@@ -1,12 +1,10 @@
 -- `length_right` meets its contract: contents are tested by the PLI, digits of PLI 10 by their count, and numbers have a length octet.
 use native.Mathlib.Omega.{arith}
-use mathlib.Core.Path.{_≡_}
+use mathlib.Core.Path.{_≡_, sym, _∙_}
 use borrow.Author.Needs.{needs}
 use Rattle.annex.specs.Items.{heldAs}
-use Rattle.annex.specs.Items.Holding.{AsContents, AsDigits, AsNumber, AsGeneric}
+use Rattle.annex.specs.declared.Holding.the-variants.{AsContents, AsNumber, AsGeneric}
 use Rattle.annex.specs.Records.{rawItem}
-use Rattle.laws.specs.Laid.{own-contents}
-use Rattle.parameter.specs.Opening.{marksOf}
 use Rattle.parameter.proofs.Holdings.{contents-as, length-as, number-led}
 use Rattle.parameter.proofs.laying.length_right.Statement.{statement}
 use Rattle.parameter.proofs.laying.length_right.Tie as tie
@@ -14,38 +12,32 @@ use Rattle.parameter.proofs.laying.length_right.Tie as tie
 returns : tie.Need-returns
 returns c =
     let u = c .before in
-    let h = u .before .before in
-    let a = h .before .args in
-    let i = rawItem (a .t) (a .values .now) in
-    let k : heldAs i ≡ AsContents = rw (u .enum-told .given .1) at (h .before .pre) in
-    rw (length-as AsContents i k, contents-as AsContents i k) (c .length-fits .ensures)
+    let st = u .before .before .before in
+    let i = rawItem (st .args .t) (st .args .values .now) in
+    let k : AsContents ≡ heldAs i = sym (u .enum-told .given .1) ∙ st .pre in
+    rw (← length-as AsContents i k, ← contents-as AsContents i k) (c .length-fits .ensures)
 
 returns-2 : tie.Need-returns-2
 returns-2 c =
-    let h = c .before .before in
-    let a = h .before .args in
-    let i = rawItem (a .t) (a .values .now) in
-    let m = marksOf (a .t .header) in
-    let k : heldAs i ≡ AsDigits m = rw (c .enum-told2 .given .1) at (h .before .pre) in
-    rw (length-as (AsDigits m) i k)
+    let st = c .before .before .before in
+    let i = rawItem (st .args .t) (st .args .values .now) in
+    rw (← length-as _ i (sym (c .enum-told2 .given .1) ∙ st .pre))
 
 returns-3 : tie.Need-returns-3
 returns-3 c =
     let u = c .before in
-    let h = u .before .before in
-    let a = h .before .args in
-    let i = rawItem (a .t) (a .values .now) in
-    let k : heldAs i ≡ AsNumber = rw (u .enum-told3 .given .1) at (h .before .pre) in
-    rw (length-as AsNumber i k, number-led i (omega arith) (rw k tt), ← own-contents i, ← c .len-as .ensures)
+    let st = u .before .before .before in
+    let i = rawItem (st .args .t) (st .args .values .now) in
+    let k : AsNumber ≡ heldAs i = sym (u .enum-told3 .given .1) ∙ st .pre in
+    rw (← length-as AsNumber i k, number-led i (omega arith) (rw (← k) tt), ← contents-as (st .args .held) i (st .pre), ← c .len-as .ensures)
 
 returns-4 : tie.Need-returns-4
 returns-4 c =
     let u = c .before in
-    let h = u .before .before in
-    let a = h .before .args in
-    let i = rawItem (a .t) (a .values .now) in
-    let k : heldAs i ≡ AsGeneric = rw (u .enum-told4 .given .1) at (h .before .pre) in
-    rw (length-as AsGeneric i k, number-led i (omega arith) (rw k tt), ← own-contents i, ← c .len-as2 .ensures)
+    let st = u .before .before .before in
+    let i = rawItem (st .args .t) (st .args .values .now) in
+    let k : AsGeneric ≡ heldAs i = sym (u .enum-told4 .given .1) ∙ st .pre in
+    rw (← length-as AsGeneric i k, number-led i (omega arith) (rw (← k) tt), ← contents-as (st .args .held) i (st .pre), ← c .len-as2 .ensures)
 
 pub length-right-spec : {M : Type 1} → statement M
 length-right-spec =

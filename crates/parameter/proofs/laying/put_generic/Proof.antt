@@ -6,7 +6,7 @@ use mathlib.Core.List.{List, [], _∷_}
 use borrow.Author.Needs.{needs}
 use lib.ListN.{length, drop, length-set, length-drop}
 use Rattle.annex.specs.Items.{numberContents, contentsBy}
-use Rattle.annex.specs.Items.Holding.{AsGeneric}
+use Rattle.annex.specs.declared.Holding.the-variants.{AsGeneric}
 use Rattle.annex.specs.Records.{rawItem}
 use Rattle.laws.specs.Written.{written-length, written-then}
 use Rattle.laws.specs.Parts.{to-end}

@@ -1,17 +1,17 @@
 -- `put_number` meets its contract: two octets of fields stand first, and the digits behind them.
-use Prim.Native.Nat.{ℕ, _+_, _*_, _%_}
+use Prim.Native.Nat.{ℕ, _+_, _-_, _*_, _%_, _≤_}
 use native.Mathlib.Omega.{arith}
 use mathlib.Core.Path.{refl, ap, _∙_}
 use mathlib.Core.List.{List, [], _∷_}
 use borrow.Author.Needs.{needs}
-use lib.ListN.{length, length-set, length-drop}
+use lib.ListN.{length, take, drop, set, length-set, length-drop}
 use Rattle.annex.specs.Digits.{packed}
 use Rattle.annex.specs.Items.{numberContents}
 use Rattle.annex.specs.Records.{rawItem}
 use Rattle.annex.specs.declared.Alphabet.the-variants.{Numbered}
 use Rattle.laws.specs.Written.{lowOctets, written-length, written-then}
-use Rattle.laws.specs.Joined.{length-packed}
 use Rattle.laws.specs.Parts.{to-end}
+use Rattle.parameter.proofs.Stored.{stored}
 use Rattle.parameter.proofs.laying.put_number.Statement.{statement}
 use Rattle.parameter.proofs.laying.put_number.Tie as tie
 
@@ -23,12 +23,6 @@ sub-pack-digits : tie.Need-sub-pack-digits
 sub-pack-digits c =
     simp length-set (omega (arith, c .before .before .before .before .before .before .before .pre))
 
-pack-digits-requires : tie.Need-pack-digits-requires
-pack-digits-requires c κs =
-    let st = c .before .before .before .before .before .before .before .before in
-    rw (to-end 2 _, length-drop 2 _, length-set, length-set)
-    (omega (arith, st .pre, length-packed Numbered (st .args .digits .now)))
-
 returns : tie.Need-returns
 returns c =
     let p = c .before .before in
@@ -38,7 +32,10 @@ returns c =
     let ds = a .digits .now in
     let x = 128 * (length ds % 2) + t .«number_type» in
     let y = 128 * t .incomplete + 16 * t .plan + 4 * t .presentation + t .screening in
-    written-then (a .room .now) (lowOctets (x ∷ y ∷ [])) (x ∷ y ∷ []) (packed Numbered ds) (p .pack-digits .last .1 .1 .0) refl (omega (arith, st .pre)) (p .pack-digits .ensures)
+    let s = set (set (a .room .now) 0 (x % 256)) 1 (y % 256) in
+    let l : length (packed Numbered ds) ≤ length (take (length s - 2) (drop 2 s)) = rw (to-end 2 s, length-drop 2 s, length-set, length-set) (omega (arith, st .pre)) in
+    written-then (a .room .now) (lowOctets (x ∷ y ∷ [])) (x ∷ y ∷ []) (packed Numbered ds) (p .pack-digits .last .1 .1 .0) refl (omega (arith, st .pre))
+    (stored _ _ _ _ _ _ (p .pack-digits .ensures) l)
 
 same-length : tie.Need-same-length
 same-length c =
@@ -71,6 +68,6 @@ put-number-spec =
     sub-pack-digits
     sub-pack-digits
     (λ c. search needs)
-    pack-digits-requires
+    (λ c κs. search needs)
     same-length
     returns)

@@ -6,12 +6,13 @@ use mathlib.Core.List.{List, [], _∷_}
 use borrow.Author.Needs.{needs}
 use lib.ListN.{length, length-set, length-drop}
 use Rattle.annex.specs.Units.{leadOf}
-use Rattle.annex.specs.Items.{contentsOf}
+use Rattle.annex.specs.Items.{contentsBy, contentsOf}
 use Rattle.annex.specs.Layout.{layoutItem}
 use Rattle.annex.specs.Records.{rawItem}
 use Rattle.laws.specs.Written.{lowOctets, written-length, written-then}
-use Rattle.laws.specs.Laid.{own-contents, length-layout, layout-plain, layout-led}
+use Rattle.laws.specs.Laid.{length-layout, layout-plain, layout-led}
 use Rattle.laws.specs.Parts.{to-end}
+use Rattle.parameter.proofs.Holdings.{contents-as}
 use Rattle.parameter.proofs.laying.put_whole.Statement.{statement}
 use Rattle.parameter.proofs.laying.put_whole.Tie as tie
 
@@ -19,6 +20,12 @@ slice-write-room : tie.Need-slice-write-room
 slice-write-room c =
     let st = c .before .before in
     omega (arith, st .pre .1, length-layout (rawItem (st .args .t) (st .args .values .now)))
+
+-- the contents, held as the header says
+kept : (c : tie.Start) →
+    let i = rawItem (c .args .t) (c .args .values .now) in
+    contentsBy (c .args .held) i ≡ contentsOf i
+kept c = contents-as (c .args .held) (rawItem (c .args .t) (c .args .values .now)) (c .pre .0)
 
 -- what the two arms are told of the layout
 plain : (c : tie.Then1) →
@@ -48,7 +55,7 @@ put-contents-requires : tie.Need-put-contents-requires
 put-contents-requires c κs =
     let e = c .before in
     let st = e .before .before .before .before .before in
-    (st .pre .0, rw (to-end 1 _, length-drop 1 _, length-set) (omega (arith, rw (plain e) at (st .pre .1))))
+    rw (kept st, to-end 1 _, length-drop 1 _, length-set) (omega (arith, rw (plain e) at (st .pre .1)))
 
 returns : tie.Need-returns
 returns c =
@@ -60,7 +67,7 @@ returns c =
     let s = contentsOf (rawItem (a .t) (a .values .now)) in
     let b : h ∷ [] ≡ lowOctets (h ∷ []) = ap (λ n. n ∷ []) (omega arith) in
     rw (plain e)
-    (written-then (a .room .now) (h ∷ []) (h ∷ []) s (p .put-contents .last .1 .1 .1 .0) b (omega (arith, rw (plain e) at (st .pre .1))) (p .put-contents .ensures))
+    (written-then (a .room .now) (h ∷ []) (h ∷ []) s (p .put-contents .last .1 .1 .1 .0) b (omega (arith, rw (plain e) at (st .pre .1))) (rw (kept st) at (p .put-contents .ensures)))
 
 same-length : tie.Need-same-length
 same-length c =
@@ -85,7 +92,7 @@ put-contents-requires-2 : tie.Need-put-contents-requires-2
 put-contents-requires-2 c κs =
     let e = c .before .before in
     let st = e .before .before .before .before .before in
-    (st .pre .0, rw (to-end 2 _, length-drop 2 _, length-set, length-set) (omega (arith, rw (led e) at (st .pre .1))))
+    rw (kept st, to-end 2 _, length-drop 2 _, length-set, length-set) (omega (arith, rw (led e) at (st .pre .1)))
 
 returns-2 : tie.Need-returns-2
 returns-2 c =
@@ -98,11 +105,11 @@ returns-2 c =
     let i = rawItem (a .t) (a .values .now) in
     let s = contentsOf i in
     let x = n .len-as .result in
-    let m : x ≡ length s = n .len-as .ensures ∙ ap (λ (l : List ℕ). length l) (own-contents i) in
+    let m : x ≡ length s = rw (kept st) at (n .len-as .ensures) in
     let b : h ≡ h % 256 = omega arith in
     let low : h ∷ x % 256 ∷ [] ≡ lowOctets (h ∷ length s ∷ []) = rw (← m) (ap (λ n. n ∷ x % 256 ∷ []) b) in
     rw (led e)
-    (written-then (a .room .now) (h ∷ x % 256 ∷ []) (h ∷ length s ∷ []) s (p .put-contents2 .last .1 .1 .1 .0) low (omega (arith, rw (led e) at (st .pre .1))) (p .put-contents2 .ensures))
+    (written-then (a .room .now) (h ∷ x % 256 ∷ []) (h ∷ length s ∷ []) s (p .put-contents2 .last .1 .1 .1 .0) low (omega (arith, rw (led e) at (st .pre .1))) (rw (kept st) at (p .put-contents2 .ensures)))
 
 same-length-2 : tie.Need-same-length-2
 same-length-2 c =
@@ -124,7 +131,7 @@ put-whole-spec =
     put-contents-requires
     same-length
     returns
-    (λ c κs. c .before .before .before .before .before .pre .0)
+    (λ c κs. search needs)
     (λ c. search needs)
     slice-write-room-2
     sub-put-contents-2

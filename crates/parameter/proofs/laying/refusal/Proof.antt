@@ -14,8 +14,10 @@ use Rattle.annex.specs.Allowed.{lengthRight, faultIn}
 use Rattle.annex.specs.Records.{rawItem}
 use Rattle.annex.specs.Writing.{itemWriting}
 use Rattle.annex.specs.declared.Answer.the-variants.{Accepted}
-use Rattle.laws.specs.Laid.{own-contents, own-writing, length-layout, length-small, lead-small}
+use Rattle.laws.specs.Laid.{own-writing, length-layout, length-small, lead-small}
 use Rattle.parameter.specs.Laying.{itemFrom}
+use Rattle.parameter.proofs.Asked.{used-of, right-of}
+use Rattle.parameter.proofs.Holdings.{contents-as, fault-as}
 use Rattle.parameter.proofs.laying.refusal.Statement.{statement}
 use Rattle.parameter.proofs.laying.refusal.Tie as tie
 
@@ -24,7 +26,7 @@ unfolding itemWriting
 returns c =
     let h = c .before .before in
     let a = h .before .before .args in
-    rw (own-writing (rawItem (a .t) (a .values .now)) (a .times) 0, ← h .head-of .ensures .used, c .if1 .taken)
+    rw (own-writing (rawItem (a .t) (a .values .now)) (a .times) 0, ← used-of _ _ (h .head-of .ensures), c .if1 .taken)
 
 returns-2 : tie.Need-returns-2
 unfolding itemWriting
@@ -32,7 +34,7 @@ returns-2 c =
     let e = c .before .before in
     let h = e .before .before in
     let a = h .before .before .args in
-    rw (own-writing (rawItem (a .t) (a .values .now)) (a .times) 0, ← h .head-of .ensures .used, e .if1 .left, ← h .head-of .ensures .right, c .if2 .taken)
+    rw (own-writing (rawItem (a .t) (a .values .now)) (a .times) 0, ← used-of _ _ (h .head-of .ensures), e .if1 .left, ← right-of _ _ (h .head-of .ensures), c .if2 .taken)
 
 returns-3 : tie.Need-returns-3
 unfolding itemWriting
@@ -42,7 +44,7 @@ returns-3 c =
     let e = f .before .before in
     let h = e .before .before in
     let a = h .before .before .args in
-    rw (own-writing (rawItem (a .t) (a .values .now)) (a .times) 0, ← h .head-of .ensures .used, e .if1 .left, ← h .head-of .ensures .right, f .if2 .left, ← o .often-of .ensures, le-leb _ _ (c .if3 .taken))
+    rw (own-writing (rawItem (a .t) (a .values .now)) (a .times) 0, ← used-of _ _ (h .head-of .ensures), e .if1 .left, ← right-of _ _ (h .head-of .ensures), f .if2 .left, ← o .often-of .ensures, le-leb _ _ (c .if3 .taken))
 
 -- past 10: length and fault decide
 past-10 : (c : tie.Else3) →
@@ -56,7 +58,7 @@ past-10 c =
     let e = f .before .before in
     let h = e .before .before in
     let a = h .before .before .args in
-    rw (own-writing (rawItem (a .t) (a .values .now)) (a .times) 0, ← h .head-of .ensures .used, e .if1 .left, ← h .head-of .ensures .right, f .if2 .left, ← o .often-of .ensures, lt-leb _ _ (c .if3 .left))
+    rw (own-writing (rawItem (a .t) (a .values .now)) (a .times) 0, ← used-of _ _ (h .head-of .ensures), e .if1 .left, ← right-of _ _ (h .head-of .ensures), f .if2 .left, ← o .often-of .ensures, lt-leb _ _ (c .if3 .left))
 
 returns-4 : tie.Need-returns-4
 returns-4 c =
@@ -74,32 +76,27 @@ add-len c =
     let a = l .before .before .before .before .before .before .before .before .before .before .args in
     let i = rawItem (a .t) (a .values .now) in
     let few = length-small i (sym (l .length-right .ensures) ∙ not-false (l .length-right .result) (g .if4 .left)) in
-    let s = ap (λ (x : List ℕ). length x) (own-contents i) in
+    let o = l .before in
+    let s = ap (λ (x : List ℕ). length x) (contents-as (o .held-as .result) i (o .held-as .ensures)) in
     omega (arith, c .len-as .ensures, n .lead .ensures, lead-small (n .before .extent-of .result))
 
 -- past 11: the fault decides
-past-11 : (c : tie.After-values-fault) →
-    let m = c .before in
-    let l = m .before .before .before .before in
-    let a = l .before .before .before .before .before .before .before .before .before .before .args in
-    itemWriting (a .times) 0 (itemFrom (a .t) (a .values .now)) ≡ soundThen (headerAt 0) (c .values-fault .result) (Accepted (1 + m .before .lead .result + m .len-as .result))
-past-11 c =
-    let m = c .before in
+returns-5 : tie.Need-returns-5
+returns-5 c =
+    let v = c .before in
+    let m = v .before in
     let n = m .before in
     let x = n .before in
     let g = x .before in
     let l = g .before in
-    let a = l .before .before .before .before .before .before .before .before .before .before .args in
+    let o = l .before in
+    let a = o .before .before .before .before .before .before .before .before .before .args in
     let i = rawItem (a .t) (a .values .now) in
-    let s = ap (λ (y : List ℕ). length y) (own-contents i) in
-    rw (past-10 (l .before .before), ← l .length-right .ensures, g .if4 .left, ← c .values-fault .ensures)
-    (ap (λ n. soundThen (headerAt 0) (c .values-fault .result) (Accepted n)) (omega (arith, length-layout i, m .len-as .ensures, n .lead .ensures, ap leadOf (x .extent-of .ensures))))
-
-returns-5 : tie.Need-returns-5
-returns-5 c = rw (past-11 (c .before .before), c .enum-told .given .1)
-
-returns-6 : tie.Need-returns-6
-returns-6 c = rw (past-11 (c .before .before .before), c .before .f .given .1)
+    let k = fault-as (o .held-as .result) i (o .held-as .ensures) in
+    let s = ap (λ (y : List ℕ). length y) (contents-as (o .held-as .result) i (o .held-as .ensures)) in
+    let e : m .len-as .result + (1 + n .lead .result) ≡ 0 + length (layoutItem i) = omega (arith, length-layout i, m .len-as .ensures, n .lead .ensures, ap leadOf (x .extent-of .ensures)) in
+    rw (past-10 (o .before), ← l .length-right .ensures, g .if4 .left, ← k, ← v .values-fault .ensures)
+    (c .at-header .ensures ∙ ap (λ n. soundThen (headerAt 0) (v .values-fault .result) (Accepted n)) (omega arith))
 
 pub refusal-spec : {M : Type 1} → statement M
 refusal-spec =
@@ -116,10 +113,8 @@ refusal-spec =
     (λ c κs. search needs)
     (λ c κs. search needs)
     add-before
-    (λ c κs. c .before .before .before .before .held-as .ensures)
+    (λ c κs. search needs)
     add-len
-    (λ c κs. c .before .before .before .before .before .held-as .ensures)
-    (λ c. search needs)
-    (λ c. search needs)
-    returns-5
-    returns-6)
+    (λ c κs. search needs)
+    (λ c κs. search needs)
+    returns-5)

@@ -12,10 +12,10 @@ use Rattle.parameter.proofs.opening.open_contents.Tie as tie
 fitting : (c : tie.Else1) → c .before .before .before .args .used + length (c .before .before .before .args .s .now) ≤ 512
 fitting c =
     let a = c .before .before .before .args in
-    room-left (a .used) (length (a .s .now)) (c .before .fit-after .result) (c .before .fit-after .ensures) (c .if1 .left)
+    room-left (a .used) (length (a .s .now)) (c .before .has-room .result) (c .before .has-room .ensures) (c .if1 .left)
 
-fit-after-requires : tie.Need-fit-after-requires
-fit-after-requires c κs = search needs
+has-room-requires : tie.Need-has-room-requires
+has-room-requires c κs = search needs
 
 none-requires : tie.Need-none-requires
 none-requires c κs = search needs
@@ -23,7 +23,7 @@ none-requires c κs = search needs
 returns : tie.Need-returns
 returns c =
     let a = c .before .before .before .before .args in
-    let f = c .before .before .fit-after in
+    let f = c .before .before .has-room in
     let i = plainItem (a .header) (a .s .now) in
     let w = without-room i (a .used) (length (a .s .now)) (a .values .now) (f .result) refl (f .ensures) (c .before .if1 .taken) in
     (c .none .ensures ∙ w .0, w .1)
@@ -41,7 +41,7 @@ returns-2 : tie.Need-returns-2
 returns-2 c =
     let r = c .before .before .before in
     let a = r .before .before .before .args in
-    let f = r .before .fit-after in
+    let f = r .before .has-room in
     let i = plainItem (a .header) (a .s .now) in
     let w = with-room i (a .used) (length (a .s .now)) (a .values .now) (f .result) refl (f .ensures) (r .if1 .left) in
     (c .carried .ensures ∙ w .0, c .before .copy-values .ensures ∙ w .1)
@@ -50,7 +50,7 @@ pub open-contents-spec : {M : Type 1} → statement M
 open-contents-spec =
     tie.close
     (tie.spec
-    fit-after-requires
+    has-room-requires
     none-requires
     returns
     copy-values-requires

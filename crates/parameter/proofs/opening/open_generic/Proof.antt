@@ -9,10 +9,12 @@ use lib.Seq.{sets, drop-drop, getD-drop}
 use Rattle.annex.specs.Digits.{digitsOf}
 use Rattle.annex.specs.Contents.{countOf}
 use Rattle.annex.specs.Items.{openBy}
-use Rattle.annex.specs.Items.Holding.{AsGeneric}
+use Rattle.annex.specs.declared.Holding.the-variants.{AsGeneric}
 use Rattle.annex.specs.Records.{headOf}
 use Rattle.annex.specs.declared.Alphabet.the-variants.{Numbered}
-use Rattle.parameter.specs.Opening.{without-room, with-room, room-left, count-within, number-digits}
+use Rattle.digits.specs.Unpacked.{length-there}
+use Rattle.parameter.proofs.Stored.{stored}
+use Rattle.parameter.specs.Opening.{without-room, with-room, room-left, number-digits}
 use borrow.Author.Needs.{needs}
 use Rattle.parameter.proofs.opening.open_generic.Statement.{statement}
 use Rattle.parameter.proofs.opening.open_generic.Tie as tie
@@ -29,28 +31,13 @@ counted c =
 fitting : (c : tie.Else1) → c .before .before .before .before .before .args .used + (c .before .before .count-of .result + 1) ≤ 512
 fitting c =
     let n = c .before .before in
-    room-left (n .before .before .before .args .used) (n .count-of .result + 1) (c .before .fit-after .result) (c .before .fit-after .ensures) (c .if1 .left)
-
-octets-from-requires : tie.Need-octets-from-requires
-octets-from-requires c κs = search needs
-
-count-of-requires : tie.Need-count-of-requires
-count-of-requires c κs = search needs
-
-add-fit-after : tie.Need-add-fit-after
-add-fit-after c = search needs
-
-fit-after-requires : tie.Need-fit-after-requires
-fit-after-requires c κs = search needs
-
-none-requires : tie.Need-none-requires
-none-requires c κs = search needs
+    room-left (n .before .before .before .args .used) (n .count-of .result + 1) (c .before .has-room .result) (c .before .has-room .ensures) (c .if1 .left)
 
 returns : tie.Need-returns
 returns c =
     let n = c .before .before .before in
     let a = n .before .before .before .args in
-    let f = c .before .before .fit-after in
+    let f = c .before .before .has-room in
     let i = openBy AsGeneric (a .header) (a .s .now) in
     let w = without-room i (a .used) (n .count-of .result + 1) (a .values .now) (f .result) (counted n) (f .ensures) (c .before .if1 .taken) in
     (c .none .ensures ∙ w .0, w .1)
@@ -58,33 +45,11 @@ returns c =
 element-write-values : tie.Need-element-write-values
 element-write-values c = omega (arith, fitting c)
 
-octets-from-requires-2 : tie.Need-octets-from-requires-2
-octets-from-requires-2 c κs = search needs
-
 add-unpack-digits : tie.Need-add-unpack-digits
 add-unpack-digits c = omega (arith, fitting (c .before .before))
 
-unpack-digits-requires : tie.Need-unpack-digits-requires
-unpack-digits-requires c κs =
-    let n = c .before .before .before .before in (
-      omega (arith, fitting (c .before .before)),
-      rw (c .before .octets-from2 .ensures, n .count-of .ensures) (count-within (n .before .octets-from .result .now)),
-    )
-
-octet-at-requires : tie.Need-octet-at-requires
-octet-at-requires c κs = search needs
-
-octet-at-requires-2 : tie.Need-octet-at-requires-2
-octet-at-requires-2 c κs = search needs
-
-add-number : tie.Need-add-number
-add-number c = search needs
-
 cast-number : tie.Need-cast-number
 cast-number c = omega (arith, fitting (c .before .before .before .before .before))
-
-number-requires : tie.Need-number-requires
-number-requires c κs = search needs
 
 returns-2 : tie.Need-returns-2
 returns-2 c =
@@ -95,31 +60,33 @@ returns-2 c =
     let a = f .before .before .args in
     let s = a .s .now in
     let i = openBy AsGeneric (a .header) s in
-    let g = r .before .fit-after in
+    let g = r .before .has-room in
     let w = with-room i (a .used) (n .count-of .result + 1) (a .values .now) (g .result) (counted n) (g .ensures) (r .if1 .left) in
     let x : c .before .before .octet-at .result ≡ getD s 1 0 = rw (c .before .before .octet-at .ensures, f .octets-from .ensures) (getD-drop 1 s 0 0) in
     let y : c .before .octet-at2 .result ≡ getD s 2 0 = rw (c .before .octet-at2 .ensures, f .octets-from .ensures) (getD-drop 1 s 1 0) in
     let h : c .number .result ≡ headOf i = rw (c .number .ensures, x, y, counted n) in
-    let v : c .before .before .before .unpack-digits .last .1 .1 .1 .0 ≡ sets (a .values .now) (a .used) (i .values) = rw (c .before .before .before .unpack-digits .ensures, o .octets-from2 .ensures, n .count-of .ensures, f .octets-from .ensures, digits s, add-one) in
+    let ds = digitsOf Numbered (n .count-of .result) (o .octets-from2 .result .now) in
+    let b : a .used + 1 + length ds ≤ 512 = (omega (arith, fitting r, length-there Numbered (n .count-of .result) (o .octets-from2 .result .now))) in
+    let v : c .before .before .before .unpack-digits .last .1 .1 .1 .0 ≡ sets (a .values .now) (a .used) (i .values) = rw (stored _ _ _ _ _ _ (c .before .before .before .unpack-digits .ensures) b, o .octets-from2 .ensures, n .count-of .ensures, f .octets-from .ensures, digits s, add-one) in
     (h ∙ w .0, v ∙ w .1)
 
 pub open-generic-spec : {M : Type 1} → statement M
 open-generic-spec =
     tie.close
     (tie.spec
-    octets-from-requires
-    count-of-requires
-    add-fit-after
-    fit-after-requires
-    none-requires
+    (λ c κs. search needs)
+    (λ c κs. search needs)
+    (λ c. search needs)
+    (λ c κs. search needs)
+    (λ c κs. search needs)
     returns
     element-write-values
-    octets-from-requires-2
+    (λ c κs. search needs)
     add-unpack-digits
-    unpack-digits-requires
-    octet-at-requires
-    octet-at-requires-2
-    add-number
+    (λ c κs. search needs)
+    (λ c κs. search needs)
+    (λ c κs. search needs)
+    (λ c. search needs)
     cast-number
-    number-requires
+    (λ c κs. search needs)
     returns-2)

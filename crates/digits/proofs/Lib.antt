@@ -1,0 +1,5 @@
+-- Laws that the proofs of this crate cite.
+pub mod Flat
+pub mod Pairs
+pub mod Turns
+pub mod Zeroes

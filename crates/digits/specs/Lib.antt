@@ -1,0 +1,3 @@
+-- What the contracts of this crate's functions cite beside the definitions of `annex`.
+pub mod Pairs
+pub mod Unpacked
