@@ -1,26 +1,20 @@
 -- `charging_form` meets its contract: over the numbers of each arm the class is computed.
 use mathlib.Core.List.{[]}
 use native.Mathlib.Omega.{arith}
-use Rattle.annex.specs.Answers.{bad-form}
-use Rattle.annex.specs.Heads.{zeroesOf}
-use Rattle.annex.specs.Classes.{classOf}
 use Rattle.annex.specs.declared.Class.the-variants.{Named, Spare}
-use Rattle.annex.specs.declared.ClassAnswer.the-variants.{Is, Refused}
+use Rattle.annex.specs.declared.ClassAnswer.the-variants.{Is}
+use Rattle.classes.specs.Listed.{listedClass}
 use Rattle.classes.proofs.Arms.{in-range}
 use Rattle.classes.proofs.charging_form.Statement.{statement}
 use Rattle.classes.proofs.charging_form.Tie as tie
 
 returns : tie.Need-returns
-unfolding classOf zeroesOf
+unfolding listedClass
 returns c = in-range 0x67 (Is Named) [] 0 4 tt (c .before .args .octet) tt (omega arith) (omega arith)
 
 returns-2 : tie.Need-returns-2
-unfolding classOf zeroesOf
-returns-2 c = in-range 0x67 (Is Spare) [] 4 4 tt (c .before .before .args .octet) tt (omega arith) (omega arith)
-
-returns-3 : tie.Need-returns-3
-unfolding classOf zeroesOf
-returns-3 c = in-range 0x67 (Refused bad-form 0) [] 8 248 tt (c .before .before .args .octet) tt (omega arith) (omega arith)
+unfolding listedClass
+returns-2 c = in-range 0x67 (Is Spare) [] 4 252 tt (c .before .args .octet) tt (omega arith) (omega arith)
 
 pub charging-form-spec : {M : Type 1} → statement M
-charging-form-spec = tie.close (tie.spec returns returns-2 returns-3)
+charging-form-spec = tie.close (tie.spec returns returns-2)

@@ -1,79 +1,45 @@
--- `class_of` meets its contract: an arm's function answers for the arm's header, headers with the same list have the same class, and a header of
--- no arm is unlisted.
-use Prim.Native.Nat.{ℕ, _+_, _≤_, _<_}
-use native.Mathlib.Omega.{arith}
-use native.Mathlib.Nat.{eq-or-lt-of-le}
-use mathlib.Core.Path.{_≡_, refl, sym, _∙_}
-use mathlib.Core.Bool.{not, _||_}
-use mathlib.Core.List.{List, [], _∷_}
-use mathlib.Core.Logic.{_⊎_, inl, inr}
-use lib.Dec.{T}
+-- `class_of` meets its contract: the list decides, and then the bits that the look-up asks to be 0.
+use mathlib.Core.Path.{_≡_, ap}
 use borrow.Author.Needs.{needs}
-use Rattle.annex.specs.Answers.{no-class-list}
-use Rattle.annex.specs.Heads.{among, zeroesOf}
-use Rattle.annex.specs.Classes.{classLists, classOf}
-use Rattle.annex.specs.declared.ClassAnswer.the-variants.{Refused}
-use Rattle.laws.specs.Octet.{all, amongAny, None, rest}
-use Rattle.classes.proofs.Arms.{listed, unlisted}
+use borrow.Author.Tests.{eq-eqb, ne-eqb}
+use Rattle.annex.specs.Heads.{zeroesOf}
+use Rattle.heads.specs.declared.Asked.{Asked}
+use Rattle.classes.specs.Listed.{class-cleared}
 use Rattle.classes.proofs.class_of.Statement.{statement}
 use Rattle.classes.proofs.class_of.Tie as tie
 
--- the two pairs of headers with the same list
-result-events : (x : ℕ) → classOf 0x79 x ≡ classOf 0x7A x
-unfolding classOf zeroesOf
-result-events x = refl
+-- the bits of the look-up
+zeroes : (c : tie.After-head-of) → c .head-of .result .zeroes ≡ zeroesOf (c .before .before .before .before .args .header)
+zeroes c = ap (λ (r : Asked). r .zeroes) (c .head-of .ensures)
 
-number-types : (x : ℕ) → classOf 0xD7 x ≡ classOf 0xDC x
-unfolding classOf zeroesOf
-number-types x = refl
+returns : tie.Need-returns
+returns c =
+    let l = c .before .before in
+    let a = l .before .args in
+    rw (← class-cleared (a .header) (a .octet), ← l .class-in .ensures, c .enum-told2 .given .1)
 
--- an arm of two headers
-one-of-two : (a b : ℕ) → ((x : ℕ) → classOf a x ≡ classOf b x) → {h : ℕ} → (h ≡ a) ⊎ (h ≡ b) → (x : ℕ) → classOf a x ≡ classOf h x
-one-of-two a b e (inl p) x = rw p
-one-of-two a b e (inr p) x = rw p (e x)
+returns-2 : tie.Need-returns-2
+returns-2 c =
+    let h = c .before .before in
+    let l = h .before .before .before in
+    let a = l .before .args in
+    rw (← class-cleared (a .header) (a .octet), ← l .class-in .ensures, h .before .enum-told .given .1, ← zeroes h, ne-eqb _ _ (c .if1 .taken))
 
--- two headers in a row are a range
-next-or-it : (a : ℕ) {h : ℕ} → a ≤ h → h < a + 2 → (h ≡ a) ⊎ (h ≡ a + 1)
-next-or-it a {h} p q = elim (eq-or-lt-of-le p) [ inl e ↦ inl (sym e) | inr l ↦ inr (omega arith) ]
-
--- the headers that have an arm of their own, the last arm first
-abbrev arms : List (List ℕ)
-arms =
-    (0xD7 ∷ 0xDC ∷ []) ∷ (0x7E ∷ []) ∷ (0x7C ∷ []) ∷ (0x75 ∷ []) ∷ (0x6F ∷ []) ∷ (0x6E ∷ []) ∷ (0x68 ∷ []) ∷ (0x67 ∷ []) ∷ (0x52 ∷ []) ∷
-    (0x46 ∷ []) ∷ (0x42 ∷ []) ∷ []
-
--- a header of no arm
-none-of : (lo n h x : ℕ) → T (all (λ k. amongAny k arms || not (among k (listed classLists))) lo n) → None arms h → lo ≤ h → h < lo + n → Refused no-class-list 0 ≡ classOf h x
-unfolding classOf
-none-of lo n h x t r p q = unlisted classLists h x (rest (λ k. not (among k (listed classLists))) arms lo n t h r p q)
+returns-3 : tie.Need-returns-3
+returns-3 c =
+    let h = c .before .before in
+    let l = h .before .before .before in
+    let a = l .before .args in
+    rw (← class-cleared (a .header) (a .octet), ← l .class-in .ensures, h .before .enum-told .given .1, ← zeroes h, eq-eqb _ _ (c .if1 .left))
 
 pub class-of-spec : {M : Type 1} → statement M
 class-of-spec =
     tie.close
     (tie.spec
     (λ c κs. search needs)
+    (λ c. search needs)
+    (λ c. search needs)
+    returns
     (λ c κs. search needs)
-    (λ c κs. search needs)
-    (λ c κs. search needs)
-    (λ c κs. search needs)
-    (λ c κs. search needs)
-    (λ c κs. search needs)
-    (λ c κs. search needs)
-    (λ c κs. search needs)
-    (λ c κs. search needs)
-    (λ c κs. search needs)
-    (λ c κs. search needs)
-    (λ c. rw (c .before .match .keys1) (c .release-event .ensures))
-    (λ c. rw (c .before .match .keys2) (c .initial-setting .ensures))
-    (λ c. rw (c .before .match .keys3) (c .calling-user-class .ensures))
-    (λ c. rw (c .before .match .keys4) (c .charging-form .ensures))
-    (λ c. rw (c .before .match .keys5) (c .rejected-call .ensures))
-    (λ c. rw (c .before .match .keys6) (c .channel-request .ensures))
-    (λ c. rw (c .before .match .keys7) (c .isup-link .ensures))
-    (λ c. rw (c .before .match .keys8) (c .section-mbi .ensures))
-    (λ c. rw (c .before .match .keys9) (c .charging-order .ensures))
-    (λ c. rw (c .before .match .keys10) (c .adjacent-network .ensures))
-    (λ c. c .number-type .ensures ∙ one-of-two 0xD7 0xDC number-types (c .before .match .keys11) _)
-    (λ c. c .result-event .ensures ∙ one-of-two 0x79 0x7A result-events (next-or-it 0x79 (c .before .before .if1 .left) (c .before .if2 .taken)) _)
-    (λ c. none-of 0 0x79 _ _ tt (c .before .match .rest) (omega arith) (omega arith))
-    (λ c. none-of 0x7B 0x85 _ _ tt (c .before .before .match .rest) (omega arith) (omega arith)))
+    returns-2
+    returns-3)

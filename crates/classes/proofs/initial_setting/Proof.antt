@@ -1,26 +1,24 @@
 -- `initial_setting` meets its contract: over the numbers of each arm the class is computed.
-use mathlib.Core.List.{[], _∷_}
+use mathlib.Core.List.{[]}
 use native.Mathlib.Omega.{arith}
-use Rattle.annex.specs.Answers.{bad-form}
-use Rattle.annex.specs.Heads.{zeroesOf}
-use Rattle.annex.specs.Classes.{classOf}
 use Rattle.annex.specs.declared.Class.the-variants.{Named, Spare}
-use Rattle.annex.specs.declared.ClassAnswer.the-variants.{Is, Refused}
-use Rattle.classes.proofs.Arms.{at-keys, in-range}
+use Rattle.annex.specs.declared.ClassAnswer.the-variants.{Is}
+use Rattle.classes.specs.Listed.{listedClass}
+use Rattle.classes.proofs.Arms.{in-range}
 use Rattle.classes.proofs.initial_setting.Statement.{statement}
 use Rattle.classes.proofs.initial_setting.Tie as tie
 
 returns : tie.Need-returns
-unfolding classOf zeroesOf
-returns c = at-keys 0x46 (Is Spare) (0 ∷ 3 ∷ []) tt _ (c .match .keys1)
+unfolding listedClass
+returns c = in-range 0x46 (Is Named) [] 1 2 tt (c .before .before .args .octet) tt (omega arith) (omega arith)
 
 returns-2 : tie.Need-returns-2
-unfolding classOf zeroesOf
-returns-2 c = in-range 0x46 (Is Named) ((0 ∷ 3 ∷ []) ∷ []) 0 3 tt _ (c .before .match .rest) (omega arith) (omega arith)
+unfolding listedClass
+returns-2 c = in-range 0x46 (Is Spare) [] 0 1 tt (c .before .args .octet) tt (omega arith) (omega arith)
 
 returns-3 : tie.Need-returns-3
-unfolding classOf zeroesOf
-returns-3 c = in-range 0x46 (Refused bad-form 0) ((0 ∷ 3 ∷ []) ∷ []) 3 253 tt _ (c .before .match .rest) (omega arith) (omega arith)
+unfolding listedClass
+returns-3 c = in-range 0x46 (Is Spare) [] 3 253 tt (c .before .before .args .octet) tt (omega arith) (omega arith)
 
 pub initial-setting-spec : {M : Type 1} → statement M
 initial-setting-spec = tie.close (tie.spec returns returns-2 returns-3)
