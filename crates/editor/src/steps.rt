@@ -2,9 +2,8 @@
 use annex::Answer;
 use annex::Found;
 use annex::Key;
-use heads::name_used;
+use heads::head_writing;
 use heads::often_of;
-use heads::pli_right;
 use octets::octet_at;
 use parameter::contents::at_header;
 use parameter::contents::contents_fault;
@@ -33,14 +32,7 @@ fn new_head(new: &[u8]) -> Answer
     if new.len() == 0 {
         return Answer::Refused(Answer::CUT_CONTENTS, 0);
     }
-    let header = new[0];
-    if !name_used(header) {
-        return Answer::Refused(Answer::UNUSED_NAME, 0);
-    }
-    if !pli_right(header) {
-        return Answer::Refused(Answer::OTHER_PLI, 0);
-    }
-    Answer::Accepted(0)
+    head_writing(new[0])
 }
 
 // The header of what an edit brings; a removal brings nothing.

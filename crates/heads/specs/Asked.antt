@@ -23,6 +23,17 @@ asked u r z f = record { used = u; right = r; zeroes = z; form = f }
 abbrev pub askedOf : ℕ → Asked
 askedOf h = asked (nameUsed h) (pliRight h) (zeroesOf h) (formOf h)
 
+-- each thing by itself
+module _ (h : ℕ) (r : Asked) (e : r ≡ askedOf h) where
+  pub used-of : r .used ≡ nameUsed h
+  used-of = rw e
+
+  pub right-of : r .right ≡ pliRight h
+  right-of = rw e
+
+  pub form-of : r .form ≡ formOf h
+  form-of = rw e
+
 -- ---- as the code looks it up
 
 abbrev laid : Bool → ℕ → Form → Layout

@@ -1,4 +1,5 @@
 // The headers of transfer parameters: all that the lists ask of one and of the contents under it, by one look-up.
+use annex::Answer;
 use annex::Check;
 use annex::Form;
 use annex::Marks;
@@ -7,7 +8,9 @@ ghost use mathlib.Core.Path.{_≡_};
 ghost use Prim.Native.Nat.{_<_};
 ghost use Rattle.annex.specs.Promises.{Gives};
 ghost use Rattle.annex.specs.Units.{pliOf};
-ghost use Rattle.annex.specs.Heads.{among, freeNames, nameUsed, pliRight, oftenOf};
+ghost use Rattle.annex.specs.Heads.{among, freeNames, oftenOf};
+ghost use Rattle.annex.specs.Writing.{headWriting};
+ghost use Rattle.annex.specs.declared.Answer.the-variants.{Accepted};
 ghost use Rattle.heads.specs.Asked.{layoutOf, nameListed, unlistedForm, askedOf};
 
 // A row of the lists: whether there is one, the bits of the first octet of the contents that must be 0, the form.
@@ -181,20 +184,18 @@ pub fn head_of(header: u8) -> Asked
     }
 }
 
-// Whether the name has no layout, or is listed under some PLI.
-pub fn name_used(header: u8) -> bool
-    ensures { λ r. ⌜ Gives (nameUsed header) r ⌝ }
+// 8, then 9, of a header that is to be written, in a record or as the new parameter of an edit.
+pub fn head_writing(header: u8) -> Answer
+    ensures { λ r. ⌜ Gives (headWriting 0 header (Accepted 0)) r ⌝ }
 {
     let asked = head_of(header);
-    asked.used
-}
-
-// Whether the PLI is that name's.
-pub fn pli_right(header: u8) -> bool
-    ensures { λ r. ⌜ Gives (pliRight header) r ⌝ }
-{
-    let asked = head_of(header);
-    asked.right
+    if !asked.used {
+        return Answer::Refused(Answer::UNUSED_NAME, 0);
+    }
+    if !asked.right {
+        return Answer::Refused(Answer::OTHER_PLI, 0);
+    }
+    Answer::Accepted(0)
 }
 
 // How often a name may stand.

@@ -1,5 +1,5 @@
 -- Laws of the steps of reading: what an accepted step says, and that its octets, and a refusal's place, lie within what it was handed.
-use mathlib.Core.Path.{_≡_, refl, sym, _∙_}
+use mathlib.Core.Path.{_≡_, refl, sym, ap, _∙_}
 use mathlib.Core.Bool.{Bool, true, false, cond, not}
 use mathlib.Core.List.{List, [], _∷_}
 use Prim.Native.Nat.{ℕ, zero, suc, _+_, _-_, _≤_, _<_}
@@ -30,6 +30,7 @@ use Rattle.annex.specs.Heads.{among, listedHeaders, end-mark, transfer-data, na
 use Rattle.annex.specs.Contents.{Rule}
 use Rattle.annex.specs.Walk.{Seen, unseen, counted, Step, walk, judging, byStep}
 use Rattle.annex.specs.Reading.{octetAllowed, commonForm, endOf, transferBy, transfersVerdictBy, dataBy, commonBy, transferStepBy}
+use Rattle.annex.specs.Writing.{headWriting}
 use Rattle.annex.specs.declared.Answer.{Answer}
 use Rattle.annex.specs.declared.Answer.the-variants.{Accepted, Refused}
 use Rattle.annex.specs.declared.Fault.{Fault}
@@ -54,6 +55,17 @@ then-passed (Refused k p) f n e = absurd (let z : _≡_ {A = ℕ} 0 1 = cc in om
 pub sounded : (place : ℕ → ℕ → ℕ) (f : Fault) (n : ℕ) (a : Answer) → soundThen place f a ≡ Accepted n → (f ≡ Sound) × (a ≡ Accepted n)
 sounded place Sound n a e = (refl, e)
 sounded place (Bad k i) n a e = absurd (let z : _≡_ {A = ℕ} 0 1 = cc in omega arith)
+
+-- 8 and 9 of a header to be written come before what follows
+pub head-then : (p h : ℕ) (a : Answer) (f : ℕ → Answer) → andThen (headWriting p h a) f ≡ headWriting p h (andThen a f)
+head-then p h a f =
+    refuse-then (not (nameUsed h)) unused-name p _ f ∙ ap (refuse (not (nameUsed h)) unused-name p) (refuse-then (not (pliRight h)) other-pli p a f)
+
+pub head-passed : (p h n : ℕ) (a : Answer) → headWriting p h (Accepted 0) ≡ Accepted n → headWriting p h a ≡ a
+head-passed p h n a e = sym (head-then p h (Accepted 0) (λ _. a)) ∙ rw e
+
+pub head-refused : (p h k q : ℕ) (a : Answer) → headWriting p h (Accepted 0) ≡ Refused k q → headWriting p h a ≡ Refused k q
+head-refused p h k q a e = sym (head-then p h (Accepted 0) (λ _. a)) ∙ rw e
 
 -- where an answer is a refusal, its place is at most l
 pub record PlaceTo (l : ℕ) (a : Answer) : Type 0 where

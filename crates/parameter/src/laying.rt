@@ -13,7 +13,7 @@ use annex::Transfer;
 use digits::packing::are_digits;
 use digits::packing::pack_digits;
 use digits::packing::packed_len;
-use heads::head_of;
+use heads::head_writing;
 use heads::often_of;
 use octets::copy_in;
 use octets::octet_at;
@@ -194,13 +194,10 @@ pub fn refusal(times: u8, t: Transfer, values: &[u8]) -> Answer
     ensures { λ r. ⌜ Gives (itemWriting times 0 (itemFrom t (now (values .entry)))) r ⌝ }
 {
     let header = t.header;
-    let asked = head_of(header);
-    if !asked.used {
-        return Answer::Refused(Answer::UNUSED_NAME, 0);
-    }
-    if !asked.right {
-        return Answer::Refused(Answer::OTHER_PLI, 0);
-    }
+    let head = head_writing(header);
+    let Answer::Accepted(_) = head else {
+        return head;
+    };
     let most = often_of(header % 64);
     if most <= times {
         return Answer::Refused(Answer::REPEATED_NAME, 0);

@@ -23,7 +23,7 @@ use Rattle.annex.specs.Walk.{walk}
 use Rattle.annex.specs.Reading.{transferOf, octetAllowed, commonForm, endOf, transferBy, commonBy, messageVerdictBy, verdictBy, commonsBy}
 use Rattle.annex.specs.Finding.{commonIn, commonFound, findAnswer}
 use Rattle.annex.specs.Records.{valueHead, dataHead, carriedHead, dialledHead, numberHead, pad, valuesOf, pack, viewItems, lengthsOf, transfersSum, viewParts, commonsIn, isWhole, view}
-use Rattle.annex.specs.Writing.{itemWriting, overLimits}
+use Rattle.annex.specs.Writing.{headWriting, itemWriting, overLimits}
 use Rattle.annex.specs.Promises.{Gives}
 use Rattle.annex.specs.Bench.{K, recordOfK, recordOfM}
 use Rattle.annex.specs.declared.Alphabet.the-variants.{Dialled, Numbered}
@@ -72,8 +72,7 @@ rows =
     (afterOf (commonExtentOf 0x01) 0, afterOf (commonExtentOf 0x83) 0) ∷  -- common_extent_of
     (afterOf CountOctet 4, afterOf LengthOctet 4) ∷  -- octets_after
     (leadOf CountOctet, leadOf LengthOctet) ∷  -- lead
-    (flag (nameUsed 0x90), flag (nameUsed 0x08)) ∷  -- name_used
-    (flag (pliRight 0x90), flag (pliRight 0xD0)) ∷  -- pli_right
+    (numberOf (headWriting 0 0x90 (Accepted 0)), numberOf (headWriting 0 0xD0 (Accepted 0))) ∷  -- head_writing
     (askedOf 0x41 .zeroes, askedOf 0x42 .zeroes) ∷  -- head_of
     (faultNumberOf (formedThen (clear 0xFE 1) Sound), faultNumberOf (formedThen (clear 0xFE 2) Sound)) ∷  -- fault_under
     (getD (halves (0x21 ∷ [])) 0 0, getD (halves (0x21 ∷ [])) 1 0) ∷  -- half_at

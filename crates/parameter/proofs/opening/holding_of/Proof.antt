@@ -2,7 +2,7 @@
 use borrow.Author.Needs.{needs}
 use borrow.Author.Tests.{eq-eqb, ne-eqb}
 use Rattle.annex.specs.Items.{holdingOf}
-use Rattle.parameter.proofs.Asked.{form-of}
+use Rattle.heads.specs.Asked.{form-of}
 use Rattle.parameter.proofs.opening.holding_of.Statement.{statement}
 use Rattle.parameter.proofs.opening.holding_of.Tie as tie
 
