@@ -10,7 +10,7 @@ use Rattle.annex.specs.Records.{readingOf}
 use Rattle.annex.specs.Writing.{structWriting, writingOf, writtenOf}
 use Rattle.annex.specs.Image.{imagingOf, imagedIn, imagedOf}
 use Rattle.annex.specs.Finding.{commonFound, transferFound, findAnswer, findPart}
-use Rattle.annex.specs.Spans.{rowAt, spansOf, tableOf}
+use Rattle.annex.specs.Spans.{spansOf, tableOf}
 use Rattle.annex.specs.Editing.{Edit, editingOf, bufferOf}
 use Rattle.annex.specs.Classes.{classOf}
 use Rattle.annex.specs.Packed.{
@@ -59,13 +59,13 @@ FindTransferAnswerPromise m x r = r ≡ findAnswer m (transferFound x 0 m)
 abbrev pub SpansCheckPromise : List ℕ → ℕ → Answer → Type 0
 SpansCheckPromise m room r = r ≡ spansOf m room
 
--- reader::rows::row_at
-abbrev pub RowPromise : List ℕ → ℕ → Row → Type 0
-RowPromise m k r = r ≡ rowAt m k
-
 -- rows::spans
 abbrev pub SpansPromise : List ℕ → List Row → Answer → List Row → Type 0
 SpansPromise m table r now = (r ≡ spansOf m (length table)) × (now ≡ tableOf m table)
+
+-- rows::octets::octet_spans
+abbrev pub OctetSpansPromise : List ℕ → List ℕ → Answer → List ℕ → Type 0
+OctetSpansPromise m table r now = (r ≡ octetSpans m (length table)) × (now ≡ octetTable m table)
 
 -- writer::writing::write
 abbrev pub WritePromise : Record → List ℕ → Answer → List ℕ → Type 0

@@ -4,7 +4,7 @@ use Prim.Native.Nat.{ℕ, _+_, _-_}
 use mathlib.Core.Bool.{cond}
 use mathlib.Core.List.{List, [], _∷_, _++_}
 use lib.Dec.{eqb, ltb}
-use lib.ListN.{length, getD}
+use lib.ListN.{length}
 use Rattle.annex.specs.Answers.{no-room, refuse, andThen, roomAfter}
 use Rattle.annex.specs.Units.{leadOf, extentOf, commonExtentOf}
 use Rattle.annex.specs.Heads.{transfer-data}
@@ -43,10 +43,6 @@ noRow = record { offset = 0; header = 0; len = 0 }
 abbrev pub rowsBy : Answer → List Row → List Row
 rowsBy (Accepted n) rows = rows
 rowsBy (Refused k p) rows = []
-
--- row k, or the empty row
-unfoldable pub rowAt : List ℕ → ℕ → Row
-rowAt m k = getD (rowsBy (verdictOf m) (rowsOf m)) k noRow
 
 -- the row count, or number and place
 unfoldable pub spansOf : List ℕ → ℕ → Answer

@@ -3,38 +3,21 @@
 use annex::Answer;
 use annex::Class;
 use annex::ClassAnswer;
-use annex::Common;
-use annex::Extent;
 use annex::Key;
-use annex::Row;
 use classes::class_of;
 use editor::append;
 use editor::remove;
 use editor::replace;
 use image::laying::to_image;
 use image::reading::from_image;
-use octets::octet_at;
 use reader::finding::find_both;
 use reader::reading::read;
-use reader::rows::check;
-use units::common_extent_of;
-use units::extent_of;
-use units::lead;
-use units::octets_after;
+use rows::octets::octet_spans;
 use writer::writing::write;
 ghost use mathlib.Core.Path.{_≡_};
-ghost use Prim.Native.Nat.{_+_, _≤_, _<_};
-ghost use lib.ListN.{length};
-ghost use lib.Seq.{sets};
 ghost use Rattle.annex.specs.Answers.{classValueOf};
 ghost use Rattle.annex.specs.Editing.{Edit.Replacing, Edit.Appending, Edit.Removing};
-ghost use Rattle.annex.specs.Packed.{oneNumber, packedAnswer, packedLength, rowOctets, rowsOctets};
-ghost use Rattle.annex.specs.Units.{leadOf, commonExtentOf};
-ghost use Rattle.annex.specs.Reading.{transfersOf};
-ghost use Rattle.annex.specs.Spans.{transferRows, innerRows, rowsOf};
-ghost use Rattle.laws.specs.Plain.{InnerSound};
-ghost use Rattle.laws.specs.Rows.{Accepts, AcceptsTransfers, LeadIn, parAt, rowFor};
-ghost use Rattle.boundary.specs.Tables.{Puts};
+ghost use Rattle.annex.specs.Packed.{oneNumber, packedAnswer, packedLength};
 ghost use Rattle.annex.specs.Promises.{TkReadPromise, TkWritePromise, TkRowsPromise, TkFindCommonPromise, TkFindTransferPromise, TkClassPromise, TkEditPromise};
 
 fn pack(number: u8, place: usize, value: usize) -> u64
@@ -73,74 +56,6 @@ fn class_value(c: Class) -> usize
     }
 }
 
-// Writes the row of a parameter at this offset, of whose octets after the header n are its own, from `at` on: offset, header, length of the
-// contents; the two numbers in two octets each, least first.
-fn put_row(e: Extent, offset: usize, header: u8, n: usize, at: usize, table: &mut [u8])
-    requires { ⌜ (leadOf e ≤ n) × (at + 5 ≤ length (now table)) ⌝ }
-    ensures { λ _. ⌜ now (table .exit) ≡ sets (now (table .entry)) at (rowOctets (rowFor e offset header n)) ⌝ }
-{
-    let len = n - lead(e);
-    table[at] = (offset % 256) as u8;
-    table[at + 1] = (offset / 256 % 256) as u8;
-    table[at + 2] = header;
-    table[at + 3] = (len % 256) as u8;
-    table[at + 4] = (len / 256 % 256) as u8;
-}
-
-// Writes the rows of transfer data t that is accepted and starts at s, from `at` on: where they end.
-fn put_transfers(t: &[u8], s: usize, at: usize, table: &mut [u8]) -> usize
-    requires { ⌜ AcceptsTransfers (now t) × (s + length (now t) < 18446744073709551616)
-        × (at + length (rowsOctets (transferRows s (transfersOf (now t)))) ≤ length (now table)) ⌝ }
-    ensures { λ r. ⌜ Puts (transferRows s (transfersOf (now (t .entry)))) at (now (table .entry)) r (now (table .exit)) ⌝ }
-{
-    let mut place = at;
-    let mut i: usize = 0;
-    while i < t.len() {
-        let h = t[i];
-        let from = i + 1;
-        let e = extent_of(h);
-        let n = octets_after(e, octet_at(t, from));
-        put_row(e, s + i, h, n, place, table);
-        place += Row::OCTETS;
-        i = from + n;
-    }
-    place
-}
-
-// Writes the rows inside a common parameter, at this offset and with these octets of its own, from `at` on: where they end.
-fn put_inner(offset: usize, header: u8, own: &[u8], at: usize, table: &mut [u8]) -> usize
-    requires { ⌜ InnerSound (parAt offset header (now own)) × LeadIn commonExtentOf (parAt offset header (now own))
-        × (offset + 2 + length (now own) < 18446744073709551616)
-        × (at + length (rowsOctets (innerRows (parAt offset header (now own)))) ≤ length (now table)) ⌝ }
-    ensures { λ r. ⌜ Puts (innerRows (parAt offset header (now (own .entry)))) at (now (table .entry)) r (now (table .exit)) ⌝ }
-{
-    if header == Common::TRANSFER_DATA {
-        return put_transfers(&own[1..], offset + 2, at, table);
-    }
-    at
-}
-
-// Writes the rows of an accepted message from the table's front on, in one walk: where they end.
-fn put_rows(m: &[u8], table: &mut [u8]) -> usize
-    requires { ⌜ Accepts (now m) × (length (rowsOctets (rowsOf (now m))) ≤ length (now table)) ⌝ }
-    ensures { λ r. ⌜ Puts (rowsOf (now (m .entry))) 0 (now (table .entry)) r (now (table .exit)) ⌝ }
-{
-    let mut place: usize = 0;
-    let mut i: usize = 0;
-    while i < m.len() {
-        let h = m[i];
-        let from = i + 1;
-        let e = common_extent_of(h);
-        let n = octets_after(e, octet_at(m, from));
-        let end = from + n;
-        put_row(e, i, h, n, place, table);
-        let behind = place + Row::OCTETS;
-        place = put_inner(i, h, &m[from..end], behind, table);
-        i = end;
-    }
-    place
-}
-
 // The record of a message, as its image at the front of the lent octets: how many octets it has. A refusal leaves them as they were.
 #[no_mangle]
 pub extern "C" fn tk_read(message: &[u8], image: &mut [u8]) -> u64
@@ -174,12 +89,7 @@ pub extern "C" fn tk_write(image: &[u8], room: &mut [u8]) -> u64
 pub extern "C" fn tk_rows(message: &[u8], table: &mut [u8]) -> u64
     ensures { λ r. ⌜ TkRowsPromise (now (message .entry)) (now (table .entry)) r (now (table .exit)) ⌝ }
 {
-    let a = check(message, table.len() / Row::OCTETS);
-    let Answer::Accepted(_) = a else {
-        return pack_answer(a);
-    };
-    put_rows(message, table);
-    pack_answer(a)
+    pack_answer(octet_spans(message, table))
 }
 
 // The contents of a common parameter: where they start, and how many octets they have.

@@ -1,2 +1,3 @@
--- The table while the rows are stored.
+-- The tables while the rows are stored.
 pub mod Rows
+pub mod Tables

@@ -39,7 +39,8 @@ length-filled m table i w =
     omega (arith, w .roomy, length-append (take i (listed m)) (drop i table), length-take-le i (listed m) (w .there), length-drop i table)
 
 -- a turn: the row behind i rows is stored
-pub filled-more : (m : List ℕ) (table : List Row) (i : ℕ) → Within m (length table) (suc i) → set (filled m table i) i (rowHere m (cursorAt m i)) ≡ filled m table (suc i)
+pub filled-more : (m : List ℕ) (table : List Row) (i : ℕ) → Within m (length table) (suc i)
+    → set (filled m table i) i (rowHere m (cursorAt m i)) ≡ filled m table (suc i)
 unfolding filled
 filled-more m table i w =
     let t : i < length (listed m) = omega (arith, w .there) in
@@ -55,7 +56,8 @@ pub filled-all : (m : List ℕ) (table : List Row) → filled m table (givenOf (
 unfolding filled spansOf tableOf
 filled-all m table = go (verdictOf m) (ltb (length table) (length (rowsOf m))) refl
   where
-    go : (a : Answer) (b : Bool) → verdictOf m ≡ a → take (givenOf (spansBy a b m)) (listed m) ++ drop (givenOf (spansBy a b m)) table ≡ roomAfter (spansBy a b m) (rowsOf m) table
+    go : (a : Answer) (b : Bool) → verdictOf m ≡ a
+        → take (givenOf (spansBy a b m)) (listed m) ++ drop (givenOf (spansBy a b m)) table ≡ roomAfter (spansBy a b m) (rowsOf m) table
     go (Accepted q) true e = refl
     go (Accepted q) false e = rw (e, take-all (length (rowsOf m)) (rowsOf m) (omega arith))
     go (Refused k p) b e = refl

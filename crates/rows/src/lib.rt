@@ -1,4 +1,6 @@
-// The lent table of rows: one thin function over the count of a message's rows and the walk from one to the next.
+// The lent table of rows, as octets and as structs: here one thin function over the count of the rows and the walk from one to the next.
+pub mod octets;
+
 use annex::Answer;
 use annex::Row;
 use reader::rows::check;

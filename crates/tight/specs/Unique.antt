@@ -13,8 +13,8 @@ use Rattle.annex.specs.Promises.{
   FindTransferPromise,
   FindTransferAnswerPromise,
   SpansCheckPromise,
-  RowPromise,
   SpansPromise,
+  OctetSpansPromise,
   WritePromise,
   RecordRefusalPromise,
   EditPromise,
@@ -67,15 +67,15 @@ one-transfer-answer m x a b p q = same p q
 pub one-check : (m : List ℕ) (room : ℕ) (a b : Answer) → SpansCheckPromise m room a → SpansCheckPromise m room b → a ≡ b
 one-check m room a b p q = same p q
 
-pub one-row : (m : List ℕ) (k : ℕ) (a b : Row) → RowPromise m k a → RowPromise m k b → a ≡ b
-one-row m k a b p q = same p q
-
 pub one-refusal : (held : Record) (a b : Answer) → RecordRefusalPromise held a → RecordRefusalPromise held b → a ≡ b
 one-refusal held a b p q = same p q
 
 -- with lent memory
 pub one-listing : (m : List ℕ) (table : List Row) (a b : Answer) (s t : List Row) → SpansPromise m table a s → SpansPromise m table b t → (a ≡ b) × (s ≡ t)
 one-listing m table a b s t p q = both p q
+
+pub one-octet-listing : (m table : List ℕ) (a b : Answer) (s t : List ℕ) → OctetSpansPromise m table a s → OctetSpansPromise m table b t → (a ≡ b) × (s ≡ t)
+one-octet-listing m table a b s t p q = both p q
 
 pub one-writing : (held : Record) (room : List ℕ) (a b : Answer) (s t : List ℕ) → WritePromise held room a s → WritePromise held room b t → (a ≡ b) × (s ≡ t)
 one-writing held room a b s t p q = both p q

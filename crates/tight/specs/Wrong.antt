@@ -30,7 +30,7 @@ use Rattle.annex.specs.Writing.{
   writtenOf,
 }
 use Rattle.annex.specs.Finding.{commonIn, commonFound, transferIn, transferAmong, transferFound, findAnswer, findPart}
-use Rattle.annex.specs.Spans.{transferRows, commonRows, rowsOf, rowAt, spansOf}
+use Rattle.annex.specs.Spans.{transferRows, commonRows, rowsOf, spansOf}
 use Rattle.annex.specs.Editing.{Edit, editRefusal, instead, editedItems, edited, recordEditing, editingOf, bufferOf}
 use Rattle.annex.specs.Editing.Edit.{Replacing, Appending, Removing}
 use Rattle.annex.specs.Promises.{
@@ -41,7 +41,6 @@ use Rattle.annex.specs.Promises.{
   FindTransferPromise,
   FindTransferAnswerPromise,
   SpansCheckPromise,
-  RowPromise,
   WritePromise,
   RecordRefusalPromise,
   EditPromise,
@@ -51,7 +50,6 @@ use Rattle.annex.specs.declared.Answer.{Answer}
 use Rattle.annex.specs.declared.Answer.the-variants.{Accepted, Refused}
 use Rattle.annex.specs.declared.Record.{Record}
 use Rattle.annex.specs.declared.Reading.{Reading}
-use Rattle.annex.specs.declared.Row.{Row}
 
 -- case 2: the shortest message; and an edit of each kind of M
 abbrev pub short : List ℕ
@@ -80,8 +78,6 @@ pub record Said : Type 0 where
   pub no-name : findAnswer M (transferFound 0x3F 0 M) ≡ Refused 16 0
   pub nine-rows : spansOf M most-rows ≡ Accepted 9
   pub no-room : spansOf M 8 ≡ Refused 15 0
-  pub area-row : rowAt M 5 ≡ record { offset = 12; header = 0x90; len = 3 }
-  pub no-row : rowAt M 9 ≡ record { offset = 0; header = 0; len = 0 }
   pub nothing-held : structWriting (pack []) ≡ Refused 6 0
   pub least-held : structWriting (pack recordOfK) ≡ Accepted 5
   pub written : writtenOf (pack recordOfK) (replicate 6 0xEE) ≡ short ++ (0xEE ∷ [])
@@ -95,7 +91,7 @@ pub record Said : Type 0 where
   pub removed-rest : getD (bufferOf (Removing 0x18 0) M 23) 19 0 ≡ 0x00
 
 pub said : Said
-unfolding afterOf leadOf commonExtentOf extentOf nameUsed pliRight oftenOf zeroesOf formOf halves joined digitOf codeOf isCode halvesFault digitsFault digitsOf packed numberFault callingFault genericFault dialledFault twoFault faultOf holdingOf itemOf contentsOf ownOf layoutItem layoutItems layoutPart layout lengthRight faultIn valueRight valueFits walk transferBy transfersVerdictBy octetAllowed commonForm endOf dataBy commonBy messageVerdictBy verdictBy commonsBy transfersBy openCommonBy recordBy pad valuesOf pack viewItems lengthsOf transfersSum viewParts isWhole view readingOf itemWriting itemsWriting dataWriting partWriting partsWriting overLimits recordWriting structWriting writingOf writtenOf commonIn commonFound transferIn transferAmong transferFound transferRows commonRows rowsOf rowAt spansOf editRefusal instead editedItems edited recordEditing editingOf bufferOf
+unfolding afterOf leadOf commonExtentOf extentOf nameUsed pliRight oftenOf zeroesOf formOf halves joined digitOf codeOf isCode halvesFault digitsFault digitsOf packed numberFault callingFault genericFault dialledFault twoFault faultOf holdingOf itemOf contentsOf ownOf layoutItem layoutItems layoutPart layout lengthRight faultIn valueRight valueFits walk transferBy transfersVerdictBy octetAllowed commonForm endOf dataBy commonBy messageVerdictBy verdictBy commonsBy transfersBy openCommonBy recordBy pad valuesOf pack viewItems lengthsOf transfersSum viewParts isWhole view readingOf itemWriting itemsWriting dataWriting partWriting partsWriting overLimits recordWriting structWriting writingOf writtenOf commonIn commonFound transferIn transferAmong transferFound transferRows commonRows rowsOf spansOf editRefusal instead editedItems edited recordEditing editingOf bufferOf
 said =
     record {
       verdict-cut = refl;
@@ -109,8 +105,6 @@ said =
       no-name = refl;
       nine-rows = refl;
       no-room = refl;
-      area-row = refl;
-      no-row = refl;
       nothing-held = refl;
       least-held = refl;
       written = refl;
@@ -182,20 +176,13 @@ transfer-always-there n p = let z : _≡_ {A = ℕ} 0 16 = ap numberOf (p ∙ sa
 pub transfer-at-header : FindTransferAnswerPromise M 0x18 (Accepted 18) → ⊥
 transfer-at-header p = let z : _≡_ {A = ℕ} 18 19 = ap givenOf (p ∙ said .dialled-at) in omega arith
 
--- ---- rows: one that makes up its count; one that ignores the room; a row with the length of the whole parameter; a row
--- past the last
+-- ---- rows: one that makes up its count; one that ignores the room
 
 pub invented-count : SpansCheckPromise M most-rows (Accepted 10) → ⊥
 invented-count p = let z : _≡_ {A = ℕ} 10 9 = ap givenOf (p ∙ said .nine-rows) in omega arith
 
 pub ignores-room : SpansCheckPromise M 8 (Accepted 9) → ⊥
 ignores-room p = let z : _≡_ {A = ℕ} 0 15 = ap numberOf (p ∙ said .no-room) in omega arith
-
-pub counts-header : RowPromise M 5 (record { offset = 12; header = 0x90; len = 4 }) → ⊥
-counts-header p = let z : _≡_ {A = ℕ} 4 3 = ap (λ (r : Row). r .len) (p ∙ said .area-row) in omega arith
-
-pub row-past-end : (o h : ℕ) → RowPromise M 9 (record { offset = o; header = h; len = 1 }) → ⊥
-row-past-end o h p = let z : _≡_ {A = ℕ} 1 0 = ap (λ (r : Row). r .len) (p ∙ said .no-row) in omega arith
 
 -- ---- write: one that answers the length and writes nothing; one that clears the room past the message
 

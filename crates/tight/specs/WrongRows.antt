@@ -49,3 +49,12 @@ lost-row-breaks table now r h p =
     let e : tableOf short table ≡ shortRows ++ drop 3 table = rw (l .0, l .1, le-ltb (length table) 3 h) in
     let z : _≡_ {A = ℕ} 4 2 = ap (λ (t : List Row). getD t 1 noRow .offset) (p .1 ∙ e) in
     omega arith
+
+-- a row with the length of the whole parameter: the header counted
+pub header-counted-breaks : (table now : List Row) (r : Answer) → 3 ≤ length table → SpansPromise short table r (rowFor 0 0x01 2 ∷ now) → ⊥
+unfolding tableOf
+header-counted-breaks table now r h p =
+    let l = short-listed (length table) in
+    let e : tableOf short table ≡ shortRows ++ drop 3 table = rw (l .0, l .1, le-ltb (length table) 3 h) in
+    let z : _≡_ {A = ℕ} 2 1 = ap (λ (t : List Row). getD t 0 noRow .len) (p .1 ∙ e) in
+    omega arith

@@ -20,7 +20,6 @@ use Rattle.annex.specs.declared.Answer.the-variants.{Accepted, Refused}
 use Rattle.annex.specs.declared.Extent.{Extent}
 use Rattle.annex.specs.declared.Extent.the-variants.{Fixed, CountOctet, LengthOctet}
 use Rattle.annex.specs.declared.Found.the-variants.{At}
-use Rattle.annex.specs.declared.Row.{Row}
 use Rattle.annex.specs.Contents.{faultOf}
 use Rattle.laws.specs.Extents.{lead-within}
 use Rattle.laws.specs.Listed.{listed}
@@ -28,8 +27,8 @@ use Rattle.laws.specs.Members.{sumOf}
 use Rattle.laws.specs.Parts.{from-to}
 use Rattle.laws.specs.Plain.{Size, commonSize, transferSize, pars, pars-end, commons-plain, transfers-plain, InnerSound, commons-inner}
 use Rattle.laws.specs.Rows.{parAt, octetsIn, Accepts, AcceptsTransfers, Filled, Turned, filled-turn, commons-filled, transfers-filled, rowFor, transfer-turn, common-turn}
-use Rattle.walk.specs.Stretches.{stretchAt, stretch-whole}
-use Rattle.walk.specs.Cursors.{cursorTo, firstCursor, extentHere, stretchHere, rowBetween, rowHere, nextBehind, nextOf, cursorAt, rowsFrom}
+use Rattle.walk.specs.Stretches.{stretch-whole}
+use Rattle.walk.specs.Cursors.{cursorTo, firstCursor, extentHere, stretchHere, rowHere, nextOf, cursorAt, rowsFrom}
 use Rattle.walk.specs.declared.cursor.Cursor.{Cursor}
 
 -- the parameters up to the end of C5 fill it, those behind it fill the message, and their transfer data is accepted
@@ -57,7 +56,8 @@ module _ (size : Size) where
   sums-same p r zero (x ∷ xs) = go (leb (size x xs) (length xs)) (sums-same (p + 1) (r + 1) (size x xs) xs)
     where
       go : (b : Bool) → sumOf octetsIn (pars size (size x xs) (p + 1) xs) ≡ sumOf octetsIn (pars size (size x xs) (r + 1) xs)
-          → sumOf octetsIn (cond b (parAt p x (take (size x xs) xs) ∷ pars size (size x xs) (p + 1) xs) []) ≡ sumOf octetsIn (cond b (parAt r x (take (size x xs) xs) ∷ pars size (size x xs) (r + 1) xs) [])
+          → sumOf octetsIn (cond b (parAt p x (take (size x xs) xs) ∷ pars size (size x xs) (p + 1) xs) [])
+          ≡ sumOf octetsIn (cond b (parAt r x (take (size x xs) xs) ∷ pars size (size x xs) (r + 1) xs) [])
       go true ih = omega arith
       go false ih = refl
 
@@ -71,7 +71,8 @@ rows-same s p (suc k) (x ∷ xs) = let e : s + (p + 1) ≡ s + p + 1 = omega ari
 rows-same s p zero (x ∷ xs) = go (transferSize x xs) (leb (transferSize x xs) (length xs)) (rows-same s (p + 1) (transferSize x xs) xs)
   where
     go : (n : ℕ) (b : Bool) → transferRows s (pars transferSize n (p + 1) xs) ≡ transferRows 0 (pars transferSize n (s + (p + 1)) xs)
-        → transferRows s (cond b (parAt p x (take n xs) ∷ pars transferSize n (p + 1) xs) []) ≡ transferRows 0 (cond b (parAt (s + p) x (take n xs) ∷ pars transferSize n (s + p + 1) xs) [])
+        → transferRows s (cond b (parAt p x (take n xs) ∷ pars transferSize n (p + 1) xs) [])
+        ≡ transferRows 0 (cond b (parAt (s + p) x (take n xs) ∷ pars transferSize n (s + p + 1) xs) [])
     go n true ih = let e : s + (p + 1) ≡ s + p + 1 = omega arith in rw (ih, e, zero-add (s + p))
     go n false ih = refl
 
@@ -105,7 +106,8 @@ rows-none m c a h =
 -- ---- a turn
 
 -- the row of a whole parameter with n octets of its own
-row-whole : (m : List ℕ) (c : Cursor) (e : Extent) (n : ℕ) → extentHere m c ≡ e → stretchHere m c ≡ At (c .at + 1 + leadOf e) (c .at + 1 + n) → rowHere m c ≡ rowFor e (c .at) (getD m (c .at) 0) n
+row-whole : (m : List ℕ) (c : Cursor) (e : Extent) (n : ℕ) → extentHere m c ≡ e
+    → stretchHere m c ≡ At (c .at + 1 + leadOf e) (c .at + 1 + n) → rowHere m c ≡ rowFor e (c .at) (getD m (c .at) 0) n
 unfolding rowHere
 row-whole m c e n f s =
     let k : c .at + 1 + n - (c .at + 1 + leadOf e) ≡ n - leadOf e = omega arith in
@@ -127,7 +129,8 @@ module _ (m : List ℕ) (at end n : ℕ) (low : at < end) (high : end ≤ length
   head-inside : getD (take end m) at 0 ≡ getD m at 0
   head-inside = getD-take end m at 0 low
 
-  size-inside : (e : Extent) → n ≡ afterOf e (getD (drop (at + 1) (take end m)) 0 0) → n ≤ length (drop (at + 1) (take end m)) → n ≡ afterOf e (getD m (at + 1) 0)
+  size-inside : (e : Extent) → n ≡ afterOf e (getD (drop (at + 1) (take end m)) 0 0) → n ≤ length (drop (at + 1) (take end m))
+      → n ≡ afterOf e (getD m (at + 1) 0)
   size-inside e s l = go (ltb (at + 1) end) refl
     where
       go : (b : Bool) → ltb (at + 1) end ≡ b → n ≡ afterOf e (getD m (at + 1) 0)
@@ -153,10 +156,12 @@ module _ (m : List ℕ) (at end : ℕ) (low : at < end) where
       let u : Turned transferSize at n t = filled-turn transferSize at n t (omega arith) refl (a .inside) in
       let h : getD t at 0 ≡ getD m at 0 = head-inside m at end n low (a .within) in
       let f : extentOf (getD t at 0) ≡ e = ap extentOf h in
-      let s : n ≡ afterOf e (getD m (at + 1) 0) = size-inside m at end n low (a .within) e (ap (λ (x : Extent). afterOf x (getD (drop (at + 1) t) 0 0)) f) (u .within) in
+      let s : n ≡ afterOf e (getD m (at + 1) 0) =
+      size-inside m at end n low (a .within) e (ap (λ (x : Extent). afterOf x (getD (drop (at + 1) t) 0 0)) f) (u .within) in
       let w : n ≤ end - (at + 1) = omega (arith, u .within, length-drop (at + 1) t) in
       let here : extentHere m (cursorTo at end) ≡ e = rw (lt-ltb at end low) in
-      let st : stretchHere m (cursorTo at end) ≡ At (at + 1 + leadOf e) (at + 1 + n) = rw here (stretch-whole m at n e (omega (arith, a .within)) s (omega (arith, a .within))) in
+      let st : stretchHere m (cursorTo at end) ≡ At (at + 1 + leadOf e) (at + 1 + n) =
+      rw here (stretch-whole m at n e (omega (arith, a .within)) s (omega (arith, a .within))) in
       let nx : nextOf m (cursorTo at end) ≡ cursorTo (at + 1 + n) end = next-inside st in
       record {
         rows = rw (nx, row-whole m (cursorTo at end) e n here st, transfer-turn 0 at n t u, h, zero-add at);
@@ -179,7 +184,8 @@ module _ (m : List ℕ) (at : ℕ) where
     stretch : stretchHere m (cursorTo at at) ≡ At (at + 1 + leadOf (commonExtentOf (getD m at 0))) (at + 1 + outer)
     row : rowHere m (cursorTo at at) ≡ rowFor (commonExtentOf (getD m at 0)) at (getD m at 0) outer
     sound : InnerSound outerPar × Each InnerSound (pars commonSize 0 (at + 1 + outer) (drop (at + 1 + outer) m))
-    rows : rowsFrom m (cursorTo at at) ≡ rowFor (commonExtentOf (getD m at 0)) at (getD m at 0) outer ∷ (innerRows outerPar ++ commonRows (pars commonSize 0 (at + 1 + outer) (drop (at + 1 + outer) m)))
+    rows : rowsFrom m (cursorTo at at) ≡ rowFor (commonExtentOf (getD m at 0)) at (getD m at 0) outer
+        ∷ (innerRows outerPar ++ commonRows (pars commonSize 0 (at + 1 + outer) (drop (at + 1 + outer) m)))
 
   outer-known : Ahead m (cursorTo at at) → at < length m → Outer
   unfolding stretchHere rowsFrom transferRows pars
@@ -200,7 +206,8 @@ module _ (m : List ℕ) (at : ℕ) where
       }
 
   -- a parameter with no rows inside
-  next-plain : {s x : ℕ} → stretchHere m (cursorTo at at) ≡ At s x → eqb (getD m at 0) transfer-data ≡ false → nextOf m (cursorTo at at) ≡ cursorTo x x
+  next-plain : {s x : ℕ} → stretchHere m (cursorTo at at) ≡ At s x → eqb (getD m at 0) transfer-data ≡ false
+      → nextOf m (cursorTo at at) ≡ cursorTo x x
   unfolding nextOf
   next-plain st f = rw (st, le-ltb at at (omega arith), f)
 
@@ -211,12 +218,19 @@ module _ (m : List ℕ) (at : ℕ) where
       let none = none-inside m (at + 1 + outer) (o .within) in
       record {
         rows = o .rows ∙ rw (nx, o .row, f, none);
-        again = rw nx (record { ordered = omega arith; within = o .within; inside = rw none (record { sum = refl }); outside = o .turned .rest; sound = o .sound .1 });
+        again = rw nx (record {
+          ordered = omega arith;
+          within = o .within;
+          inside = rw none (record { sum = refl });
+          outside = o .turned .rest;
+          sound = o .sound .1;
+        });
         farther = rw nx (omega arith);
       }
 
   -- C5
-  next-data : {s x : ℕ} → stretchHere m (cursorTo at at) ≡ At s x → eqb (getD m at 0) transfer-data ≡ true → nextOf m (cursorTo at at) ≡ cursorTo s x
+  next-data : {s x : ℕ} → stretchHere m (cursorTo at at) ≡ At s x → eqb (getD m at 0) transfer-data ≡ true
+      → nextOf m (cursorTo at at) ≡ cursorTo s x
   unfolding nextOf
   next-data st f = rw (st, le-ltb at at (omega arith), f)
 
@@ -229,7 +243,8 @@ module _ (m : List ℕ) (at : ℕ) where
   unfolding leadOf commonExtentOf
   data-inside =
       let z : outer ≡ at + 1 + outer - (at + 1) = omega arith in
-      ap (λ (k : ℕ). drop 1 (take k (drop (at + 1) m))) z ∙ rw (from-to (at + 1) (at + 1 + outer) m, drop-drop 1 (at + 1) (take (at + 1 + outer) m))
+      ap (λ (k : ℕ). drop 1 (take k (drop (at + 1) m))) z
+      ∙ rw (from-to (at + 1) (at + 1 + outer) m, drop-drop 1 (at + 1) (take (at + 1 + outer) m))
 
   turn-data : Outer → eqb (getD m at 0) transfer-data ≡ true → Turn m (cursorTo at at)
   unfolding rowsFrom InnerSound
@@ -241,7 +256,8 @@ module _ (m : List ℕ) (at : ℕ) where
       let nx : nextOf m (cursorTo at at) ≡ cursorTo (at + 1 + 1) (at + 1 + outer) = rw one at (next-data (o .stretch) f) in
       let long : 1 ≤ outer = rw one at (lead-within (commonExtentOf (getD m at 0)) (getD (drop (at + 1) m) 0 0)) in
       let place : at + 2 + 0 ≡ at + 1 + 1 = omega arith in
-      let inner : innerRows outerPar ≡ transferRows 0 (pars transferSize 0 (at + 1 + 1) d) = rw (f, data-inside, transfers-plain faultOf d (ok .0) (ok .1), rows-same (at + 2) 0 0 d, place) in
+      let inner : innerRows outerPar ≡ transferRows 0 (pars transferSize 0 (at + 1 + 1) d) =
+      rw (f, data-inside, transfers-plain faultOf d (ok .0) (ok .1), rows-same (at + 2) 0 0 d, place) in
       record {
         rows = o .rows ∙ rw (nx, o .row, inner);
         again = rw nx (record {
@@ -284,13 +300,15 @@ turn-at m c k a e h = go (ltb (c .at) (length m)) refl
         absurd (omega (arith, ap length z, length-drop k (rowsOf m)))
 
 -- behind k rows, the others are left
-behind : (m : List ℕ) → Accepts m → (k : ℕ) → k ≤ length (rowsOf m) → Ahead m (cursorAt m k) × (rowsFrom m (cursorAt m k) ≡ drop k (rowsOf m))
+behind : (m : List ℕ) → Accepts m → (k : ℕ) → k ≤ length (rowsOf m)
+    → Ahead m (cursorAt m k) × (rowsFrom m (cursorAt m k) ≡ drop k (rowsOf m))
 unfolding cursorAt
 behind m a zero h = (ahead-first m a, rows-first m a)
 behind m a (suc k) h =
     let b = behind m a k (omega arith) in
     let t = turn-at m (cursorAt m k) k (b .0) (b .1) h in
-    let e : rowHere m (cursorAt m k) ∷ rowsFrom m (nextOf m (cursorAt m k)) ≡ getD (rowsOf m) k noRow ∷ drop (suc k) (rowsOf m) = sym (t .rows) ∙ b .1 ∙ drop-cons (rowsOf m) k noRow h in
+    let e : rowHere m (cursorAt m k) ∷ rowsFrom m (nextOf m (cursorAt m k)) ≡ getD (rowsOf m) k noRow ∷ drop (suc k) (rowsOf m) =
+    sym (t .rows) ∙ b .1 ∙ drop-cons (rowsOf m) k noRow h in
     (t .again, cc)
 
 -- the row there is row k
@@ -301,6 +319,7 @@ row-behind m k h = go (verdictOf m) refl h
     go (Accepted q) e l =
         let b = behind m (q, e) k (omega arith) in
         let t = turn-at m (cursorAt m k) k (b .0) (b .1) l in
-        let f : rowHere m (cursorAt m k) ∷ rowsFrom m (nextOf m (cursorAt m k)) ≡ getD (rowsOf m) k noRow ∷ drop (suc k) (rowsOf m) = sym (t .rows) ∙ b .1 ∙ drop-cons (rowsOf m) k noRow l in
+        let f : rowHere m (cursorAt m k) ∷ rowsFrom m (nextOf m (cursorAt m k)) ≡ getD (rowsOf m) k noRow ∷ drop (suc k) (rowsOf m) =
+        sym (t .rows) ∙ b .1 ∙ drop-cons (rowsOf m) k noRow l in
         cc
     go (Refused n p) e l = absurd (omega arith)

@@ -62,4 +62,5 @@ cursor-more m k = refl
 -- the rows that are left: those up to the end of C5, and those behind it
 unfoldable pub rowsFrom : List ℕ → Cursor → List Row
 rowsFrom m c =
-    transferRows 0 (pars transferSize 0 (c .at) (drop (c .at) (take (c .end) m))) ++ commonRows (pars commonSize 0 (c .end) (drop (c .end) m))
+    transferRows 0 (pars transferSize 0 (c .at) (drop (c .at) (take (c .end) m)))
+    ++ commonRows (pars commonSize 0 (c .end) (drop (c .end) m))

@@ -20,7 +20,8 @@ stretchAt t i e =
     cond (ltb i (length t)) (cond (leb n (length t - (i + 1))) (At (i + 1 + leadOf e) (i + 1 + n)) Nowhere) Nowhere
 
 -- one that is whole
-pub stretch-whole : (t : List ℕ) (i n : ℕ) (e : Extent) → i < length t → n ≡ afterOf e (getD t (i + 1) 0) → n ≤ length t - (i + 1) → stretchAt t i e ≡ At (i + 1 + leadOf e) (i + 1 + n)
+pub stretch-whole : (t : List ℕ) (i n : ℕ) (e : Extent) → i < length t → n ≡ afterOf e (getD t (i + 1) 0) → n ≤ length t - (i + 1)
+    → stretchAt t i e ≡ At (i + 1 + leadOf e) (i + 1 + n)
 unfolding stretchAt
 stretch-whole t i n e h s l = rw (lt-ltb i (length t) h, ← s, le-leb n (length t - (i + 1)) l)
 

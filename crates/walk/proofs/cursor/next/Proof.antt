@@ -1,5 +1,4 @@
 -- `next` meets its contract.
-use mathlib.Core.Path.{sym, _∙_}
 use borrow.Author.Needs.{needs}
 use borrow.Author.Tests.{lt-ltb, le-ltb, ne-eqb}
 use Rattle.walk.specs.Cursors.{nextOf}
@@ -21,14 +20,16 @@ unfolding nextOf
 returns-3 c =
     let o = c .before in
     let s = o .before .before .before .before in
-    rw (← s .before .before .stretch-here .ensures, s .start .given .1, le-ltb _ _ (o .before .if1 .left), ← o .octet-at .ensures, c .if2 .taken)
+    let out = le-ltb _ _ (o .before .if1 .left) in
+    rw (← s .before .before .stretch-here .ensures, s .start .given .1, out, ← o .octet-at .ensures, c .if2 .taken)
 
 returns-4 : tie.Need-returns-4
 unfolding nextOf
 returns-4 c =
     let o = c .before in
     let s = o .before .before .before .before in
-    rw (← s .before .before .stretch-here .ensures, s .start .given .1, le-ltb _ _ (o .before .if1 .left), ← o .octet-at .ensures, ne-eqb _ _ (c .if2 .left))
+    let out = le-ltb _ _ (o .before .if1 .left) in
+    rw (← s .before .before .stretch-here .ensures, s .start .given .1, out, ← o .octet-at .ensures, ne-eqb _ _ (c .if2 .left))
 
 pub next-spec : {M : Type 1} → statement M
 next-spec =

@@ -7,11 +7,15 @@ use Rattle.walk.proofs.cursor.stretch_here.Tie as tie
 
 returns : tie.Need-returns
 unfolding stretchHere
-returns c = rw (lt-ltb _ _ (c .before .before .if1 .taken), c .stretch-at .ensures, c .before .extent-of .ensures, c .before .before .before .before .octet-at .ensures)
+returns c =
+    let t = c .before .before in
+    rw (lt-ltb _ _ (t .if1 .taken), c .stretch-at .ensures, c .before .extent-of .ensures, t .before .before .octet-at .ensures)
 
 returns-2 : tie.Need-returns-2
 unfolding stretchHere
-returns-2 c = rw (le-ltb _ _ (c .before .before .if1 .left), c .stretch-at2 .ensures, c .before .common-extent-of .ensures, c .before .before .before .before .octet-at .ensures)
+returns-2 c =
+    let t = c .before .before in
+    rw (le-ltb _ _ (t .if1 .left), c .stretch-at2 .ensures, c .before .common-extent-of .ensures, t .before .before .octet-at .ensures)
 
 pub stretch-here-spec : {M : Type 1} → statement M
 stretch-here-spec =

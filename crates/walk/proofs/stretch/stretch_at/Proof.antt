@@ -3,7 +3,7 @@ use native.Mathlib.Omega.{arith}
 use borrow.Author.Needs.{needs}
 use borrow.Author.Tests.{lt-ltb, le-ltb, le-leb, lt-leb}
 use Rattle.laws.specs.Extents.{lead-within}
-use Rattle.walk.specs.Stretches.{stretchAt, stretch-whole}
+use Rattle.walk.specs.Stretches.{stretchAt}
 use Rattle.walk.proofs.stretch.stretch_at.Statement.{statement}
 use Rattle.walk.proofs.stretch.stretch_at.Tie as tie
 
@@ -20,13 +20,15 @@ returns-2 c =
 add-start : tie.Need-add-start
 add-start c =
     let a = c .before .before in
-    omega (arith, c .lead .ensures, a .octets-after .ensures, lead-within (a .before .before .before .before .args .e) (a .before .octet-at .result))
+    let e = a .before .before .before .before .args .e in
+    omega (arith, c .lead .ensures, a .octets-after .ensures, lead-within e (a .before .octet-at .result))
 
 returns-3 : tie.Need-returns-3
 unfolding stretchAt
 returns-3 c =
     let a = c .before .before in
-    rw (lt-ltb _ _ (a .before .before .if1 .left), ← a .before .octet-at .ensures, ← a .octets-after .ensures, le-leb _ _ (c .before .if2 .left), c .lead .ensures)
+    let fits = le-leb _ _ (c .before .if2 .left) in
+    rw (lt-ltb _ _ (a .before .before .if1 .left), ← a .before .octet-at .ensures, ← a .octets-after .ensures, fits, c .lead .ensures)
 
 pub stretch-at-spec : {M : Type 1} → statement M
 stretch-at-spec =

@@ -1,17 +1,17 @@
--- The caller's table of octets while the rows of a message are stored in one walk: what is left to store decides what it will hold.
+-- The caller's table of octets while the rows of a message are stored: what is left to store decides what it will hold.
 use Prim.Native.Nat.{ℕ, suc, _+_, _*_, _/_, _≤_}
 use native.Mathlib.Nat.{add-zero}
 use native.Mathlib.Omega.{arith}
-use mathlib.Core.Path.{_≡_, refl, sym, ap, _∙_}
+use mathlib.Core.Path.{_≡_, refl, sym, _∙_}
 use mathlib.Core.Bool.{Bool, true, false}
-use mathlib.Core.List.{List, [], _∷_, _++_, append-assoc}
+use mathlib.Core.List.{List, [], _∷_, _++_}
 use borrow.Author.Tests.{ltb-false}
 use lib.Dec.{ltb}
-use lib.ListN.{length, getD, drop, set, length-append}
-use lib.Seq.{sets, length-sets, getD-drop}
+use lib.ListN.{length, set, length-append}
+use lib.Seq.{sets, length-sets}
 use Rattle.annex.specs.Reading.{verdictOf}
 use Rattle.annex.specs.Spans.{rowsOf, spansOf}
-use Rattle.annex.specs.Packed.{row-octets, rowOctets, rowsOctets, octetSpans, octetsBy, octetTable}
+use Rattle.annex.specs.Packed.{row-octets, rowOctets, rowsOctets, octetSpans, octetTable}
 use Rattle.annex.specs.declared.Answer.{Answer}
 use Rattle.annex.specs.declared.Answer.the-variants.{Accepted, Refused}
 use Rattle.annex.specs.declared.Row.{Row}
@@ -26,21 +26,12 @@ unfolding rowsOctets
 length-rows [] = refl
 length-rows (r ∷ rs) = omega (arith, length-append (rowOctets r) (rowsOctets rs), length-rows rs)
 
-rows-append : (rs ts : List Row) → rowsOctets (rs ++ ts) ≡ rowsOctets rs ++ rowsOctets ts
-unfolding rowsOctets
-rows-append [] ts = refl
-rows-append (r ∷ rs) ts = rw (rows-append rs ts, append-assoc (rowOctets r) (rowsOctets rs) (rowsOctets ts))
-
 -- a run of stores in two
 sets-append : (l : List ℕ) (i : ℕ) (xs ys : List ℕ) → sets l i (xs ++ ys) ≡ sets (sets l i xs) (i + length xs) ys
 sets-append l i [] ys = rw (add-zero i)
 sets-append l i (x ∷ xs) ys =
     let e : i + suc (length xs) ≡ suc i + length xs = omega arith in
     rw e (sets-append (set l i x) (suc i) xs ys)
-
--- the octet after a header
-pub first-of : (i : ℕ) (t : List ℕ) → getD (drop i t) 0 0 ≡ getD t i 0
-first-of i t = getD-drop i t 0 0 ∙ rw (add-zero i)
 
 -- ---- stored
 
@@ -59,42 +50,27 @@ pub left-all : (rows : List Row) (at : ℕ) (now : List ℕ) → Left rows at no
 left-all rows at now = record { ends = refl; put = refl; long = refl }
 
 module _ {all : List Row} {first : ℕ} {before : List ℕ} where
-  -- some of them stored
-  pub left-some : (xs ys : List Row) (at r : ℕ) (now after : List ℕ) → Left all first before (xs ++ ys) at now → Puts xs at now r after → Left all first before ys r after
-  left-some xs ys at r now after l p =
-      let e = length-append (rowsOctets xs) (rowsOctets ys) in
-      let f = ap (λ (s : List ℕ). length s) (rows-append xs ys) in
-      record {
-        ends = omega (arith, l .ends, p .ends);
-        put = l .put ∙ rw (rows-append xs ys, p .put, p .ends) (sets-append now at (rowsOctets xs) (rowsOctets ys));
-        long = rw (p .put, length-sets now at (rowsOctets xs)) (l .long);
-      }
-
   -- one of them stored
-  pub left-one : (x : Row) (ys : List Row) (at : ℕ) (now after : List ℕ) → Left all first before (x ∷ ys) at now → after ≡ sets now at (rowOctets x) → Left all first before ys (at + row-octets) after
+  pub left-one : (x : Row) (ys : List Row) (at : ℕ) (now after : List ℕ) → Left all first before (x ∷ ys) at now
+      → after ≡ sets now at (rowOctets x) → Left all first before ys (at + row-octets) after
   unfolding rowsOctets
   left-one x ys at now after l e =
-      left-some (x ∷ []) ys at (at + row-octets) now after l
-      (record { ends = refl; put = e })
+      record {
+        ends = omega (arith, l .ends, length-append (rowOctets x) (rowsOctets ys));
+        put = l .put ∙ rw e (sets-append now at (rowOctets x) (rowsOctets ys));
+        long = rw (e, length-sets now at (rowOctets x)) (l .long);
+      }
 
   -- none left
   pub left-none : (at : ℕ) (now : List ℕ) → Left all first before [] at now → Puts all first before at now
   unfolding rowsOctets
   left-none at now l = record { ends = omega (arith, l .ends); put = sym (l .put) }
 
-  -- there is room for what is left
-  pub left-fits : (rows : List Row) (at : ℕ) (now : List ℕ) → Left all first before rows at now → first + length (rowsOctets all) ≤ length before → at + length (rowsOctets rows) ≤ length now
-  left-fits rows at now l h = omega (arith, l .ends, l .long)
-
-  pub left-fits-one : (x : Row) (rows : List Row) (at : ℕ) (now : List ℕ) → Left all first before (x ∷ rows) at now → first + length (rowsOctets all) ≤ length before → at + row-octets ≤ length now
+  -- there is room for the next
+  pub left-fits-one : (x : Row) (rows : List Row) (at : ℕ) (now : List ℕ) → Left all first before (x ∷ rows) at now
+      → first + length (rowsOctets all) ≤ length before → at + row-octets ≤ length now
   left-fits-one x rows at now l h =
       omega (arith, l .ends, l .long, length-rows (x ∷ rows))
-
-  pub left-fits-some : (xs ys : List Row) (at : ℕ) (now : List ℕ) → Left all first before (xs ++ ys) at now → first + length (rowsOctets all) ≤ length before → at + length (rowsOctets xs) ≤ length now
-  left-fits-some xs ys at now l h =
-      let e = length-append (rowsOctets xs) (rowsOctets ys) in
-      let f = ap (λ (s : List ℕ). length s) (rows-append xs ys) in
-      omega (arith, l .ends, l .long)
 
 -- ---- what the listing answers
 
@@ -117,7 +93,8 @@ pub listing-fits : (m table : List ℕ) (n : ℕ) → Listing m (length table / 
 listing-fits m table n l = omega (arith, length-rows (rowsOf m), l .roomy)
 
 -- the table after an accepted listing, and after a refused one
-pub table-put : (m table now : List ℕ) (n r : ℕ) → octetSpans m (length table) ≡ Accepted n → Puts (rowsOf m) 0 table r now → now ≡ octetTable m table
+pub table-put : (m table now : List ℕ) (n r : ℕ) → octetSpans m (length table) ≡ Accepted n → Puts (rowsOf m) 0 table r now
+    → now ≡ octetTable m table
 unfolding octetTable
 table-put m table now n r e p =
     let l = listing m (length table / row-octets) n e in

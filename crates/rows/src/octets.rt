@@ -1,0 +1,57 @@
+// The table of rows as octets, for callers that lend no structs.
+use annex::Answer;
+use annex::Row;
+use reader::rows::check;
+use walk::cursor::first;
+use walk::cursor::next;
+use walk::cursor::row_here;
+ghost use mathlib.Core.Path.{_≡_};
+ghost use Prim.Native.Nat.{_+_, _≤_};
+ghost use lib.ListN.{length};
+ghost use lib.Seq.{sets};
+ghost use Rattle.annex.specs.Packed.{rowOctets, rowsOctets};
+ghost use Rattle.annex.specs.Promises.{OctetSpansPromise};
+ghost use Rattle.annex.specs.Spans.{rowsOf};
+ghost use Rattle.laws.specs.Rows.{Accepts};
+ghost use Rattle.rows.specs.Tables.{Puts};
+
+// Writes a row from `at` on: offset, header, length of the contents; the two numbers in two octets each, least first.
+fn put_row(row: Row, at: usize, table: &mut [u8])
+    requires { ⌜ at + 5 ≤ length (now table) ⌝ }
+    ensures { λ _. ⌜ now (table .exit) ≡ sets (now (table .entry)) at (rowOctets row) ⌝ }
+{
+    let offset = row.offset;
+    let len = row.len;
+    table[at] = (offset % 256) as u8;
+    table[at + 1] = (offset / 256 % 256) as u8;
+    table[at + 2] = row.header;
+    table[at + 3] = (len % 256) as u8;
+    table[at + 4] = (len / 256 % 256) as u8;
+}
+
+// Writes the rows of an accepted message from the table's front on: where they end.
+fn put_rows(m: &[u8], table: &mut [u8]) -> usize
+    requires { ⌜ Accepts (now m) × (length (rowsOctets (rowsOf (now m))) ≤ length (now table)) ⌝ }
+    ensures { λ r. ⌜ Puts (rowsOf (now (m .entry))) 0 (now (table .entry)) r (now (table .exit)) ⌝ }
+{
+    let mut place: usize = 0;
+    let mut c = first();
+    while c.at < m.len() {
+        put_row(row_here(m, c), place, table);
+        place += Row::OCTETS;
+        c = next(m, c);
+    }
+    place
+}
+
+// The rows of a message, five octets each, from the table's front on. Octets past the last stay, and a refusal leaves all.
+pub fn octet_spans(m: &[u8], table: &mut [u8]) -> Answer
+    ensures { λ r. ⌜ OctetSpansPromise (now (m .entry)) (now (table .entry)) r (now (table .exit)) ⌝ }
+{
+    let a = check(m, table.len() / Row::OCTETS);
+    let Answer::Accepted(_) = a else {
+        return a;
+    };
+    put_rows(m, table);
+    a
+}
