@@ -1,5 +1,4 @@
 // Reading: the verdict of a message, its record, finding contents, and the rows of a listing.
-pub mod common;
 pub mod finding;
 pub mod reading;
 pub mod rows;

@@ -5,6 +5,8 @@ use annex::Common;
 use annex::Reading;
 use annex::Record;
 use annex::Transfer;
+use common::call::call_value;
+use common::call::is_call;
 use octets::octet_at;
 use parameter::opening::open;
 use units::common_extent_of;
@@ -14,8 +16,8 @@ use units::octets_after;
 ghost use mathlib.Core.Path.{_≡_};
 ghost use Prim.Native.Nat.{_+_, _≤_};
 ghost use lib.ListN.{length};
-ghost use Rattle.annex.specs.Heads.{isCall, most-transfers};
-ghost use Rattle.annex.specs.Reading.{callNumber, verdictOf, recordOf};
+ghost use Rattle.annex.specs.Heads.{most-transfers};
+ghost use Rattle.annex.specs.Reading.{verdictOf, recordOf};
 ghost use Rattle.annex.specs.declared.Answer.the-variants.{Accepted};
 ghost use Rattle.annex.specs.Records.{valuesOf, pack};
 ghost use Rattle.annex.specs.Promises.{ReadPromise, Gives};
@@ -41,26 +43,6 @@ pub fn empty() -> Record
         transfer: [t; Transfer::MOST],
         values: [0u8; Transfer::MOST_VALUES],
     }
-}
-
-// Whether a common parameter is a call number.
-pub fn is_call(header: u8) -> bool
-    ensures { λ r. ⌜ Gives (isCall header) r ⌝ }
-{
-    if header == Common::PARTNERS_CALL {
-        return true;
-    }
-    header == Common::OWN_CALL
-}
-
-// A call number of 24 bits, least octet first.
-fn call_value(own: &[u8]) -> u32
-    ensures { λ r. ⌜ Gives (callNumber (now (own .entry))) r ⌝ }
-{
-    let low = octet_at(own, 0) as u32;
-    let middle = octet_at(own, 1) as u32;
-    let high = octet_at(own, 2) as u32;
-    low + 256 * middle + 65536 * high
 }
 
 // The head of a common parameter with these octets of its own; a C5's has so many transfer parameters.

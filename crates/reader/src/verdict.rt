@@ -1,10 +1,10 @@
 // The verdict of a message: 1 first, then left to right, parameter by parameter.
-use super::common::common_form;
-use super::common::end_mark;
 use annex::Answer;
 use annex::Common;
 use annex::Message;
 use annex::Transfer;
+use common::form::common_form;
+use common::form::end_mark;
 use parameter::transfer::transfer;
 ghost use mathlib.Core.Path.{_≡_};
 ghost use mathlib.Core.Bool.{_&&_};

@@ -1,6 +1,6 @@
 -- Two wrong programs for each function that serves the product's: one that always answers what is right at the first input of its row, one
--- that always answers what is right at the second. For `Common::none`, `Transfer::none`, `reader::reading::empty` and, in the base, where
--- every name may stand once, for `often_of` a constant is right, and they have no row.
+-- that always answers what is right at the second. For `Common::none`, `Transfer::none`, `walk::cursor::first`, `reader::reading::empty` and,
+-- in the base, where every name may stand once, for `often_of` a constant is right, and they have no row.
 use Prim.Native.Nat.{ℕ, _+_, _*_, _/_, min}
 use native.Mathlib.Omega.{arith}
 use mathlib.Core.Path.{_≡_, refl, sym, ap, _∙_}
@@ -17,10 +17,10 @@ use Rattle.annex.specs.Contents.{clear, formedThen, dialledFault, faultOf}
 use Rattle.annex.specs.Items.{plainItem, holdingOf, openBy, itemOf, contentsOf, ownOf}
 use Rattle.annex.specs.declared.Holding.{Holding}
 use Rattle.annex.specs.declared.Holding.the-variants.{AsContents, AsDigits, AsNumber, AsGeneric}
-use Rattle.annex.specs.Layout.{layoutItem}
+use Rattle.annex.specs.Layout.{layoutItem, callOctets}
 use Rattle.annex.specs.Allowed.{every, lengthRight, faultIn}
 use Rattle.annex.specs.Walk.{walk}
-use Rattle.annex.specs.Reading.{transferOf, octetAllowed, commonForm, endOf, transferBy, commonBy, messageVerdictBy, verdictBy, commonsBy}
+use Rattle.annex.specs.Reading.{transferOf, octetAllowed, commonForm, endOf, transferBy, commonBy, messageVerdictBy, verdictBy, commonsBy, callNumber}
 use Rattle.annex.specs.Finding.{commonIn, commonFound, findAnswer}
 use Rattle.annex.specs.Records.{valueHead, dataHead, carriedHead, dialledHead, numberHead, pad, valuesOf, pack, viewItems, lengthsOf, transfersSum, viewParts, commonsIn, isWhole, view}
 use Rattle.annex.specs.Writing.{headWriting, itemWriting, overLimits}
@@ -36,6 +36,8 @@ use Rattle.laws.specs.Finding.{soughtIn, searchIn, commonPlain, foundBy}
 use Rattle.octets.specs.Splice.{spliceFits}
 use Rattle.heads.specs.Asked.{askedOf}
 use Rattle.parameter.specs.Opening.{headFor, openedHead}
+use Rattle.walk.specs.Stretches.{stretchAt}
+use Rattle.walk.specs.Cursors.{cursorTo, stretchHere, rowHere, nextOf}
 use Rattle.writer.specs.Along.{usedAt}
 use Rattle.writer.specs.Laying.{headLength}
 use Rattle.writer.specs.Limits.{isOver}
@@ -102,6 +104,11 @@ rows =
     (numberOf (commonForm 0 0x01 (0x01 ∷ [])), numberOf (commonForm 1 0x01 (0x01 ∷ []))) ∷  -- common_form
     (numberOf (endOf true []), numberOf (endOf false [])) ∷  -- end_mark
     (flag (isCall 0x83), flag (isCall 0x04)) ∷  -- is_call
+    (callNumber (0x01 ∷ []), callNumber (0x02 ∷ [])) ∷  -- call_value
+    (getD (callOctets 0x01) 0 0, getD (callOctets 0x02) 0 0) ∷  -- call_octets
+    (stopOf (stretchAt K 0 LengthOctet), stopOf (stretchAt [] 0 LengthOctet)) ∷  -- stretch_at
+    (rowHere K (cursorTo 0 0) .offset, rowHere K (cursorTo 2 2) .offset) ∷  -- row_here
+    (nextOf K (cursorTo 0 0) .at, nextOf K (cursorTo 2 2) .at) ∷  -- next
     (stopOf (searchIn (Name 0x01 0) (0x41 ∷ 0x01 ∷ [])), stopOf (searchIn (Name 0x01 1) (0x41 ∷ 0x01 ∷ []))) ∷  -- search
     (stopOf (commonPlain 0x01 K), stopOf (commonPlain 0x06 K)) ∷  -- common_plain
     (givenOf (findAnswer short (foundBy (Header 0x01) short)), givenOf (findAnswer short (foundBy (Header 0x06) short))) ∷  -- find_both
@@ -114,5 +121,5 @@ rows =
     (flag (spliceFits (0x00 ∷ []) 1 0 0 []), flag (spliceFits (0x00 ∷ []) 2 0 0 [])) ∷ []  -- splice
 
 pub rows-differ : every (λ (r : ℕ × ℕ). not (eqb (r .0) (r .1))) rows ≡ true
-unfolding afterOf extentOf commonExtentOf leadOf nameUsed pliRight oftenOf zeroesOf formOf halves joined digitOf codeOf isCode halvesFault digitsFault digitsOf packed dialledFault faultOf holdingOf itemOf contentsOf ownOf layoutItem lengthRight faultIn walk transferBy octetAllowed commonForm endOf commonBy messageVerdictBy verdictBy commonsBy commonIn commonFound pad valuesOf pack lengthsOf transfersSum isWhole viewItems viewParts view overLimits itemWriting pars soughtIn
+unfolding afterOf extentOf commonExtentOf leadOf nameUsed pliRight oftenOf zeroesOf formOf halves joined digitOf codeOf isCode halvesFault digitsFault digitsOf packed dialledFault faultOf holdingOf itemOf contentsOf ownOf layoutItem lengthRight faultIn walk transferBy octetAllowed commonForm endOf commonBy messageVerdictBy verdictBy commonsBy commonIn commonFound pad valuesOf pack lengthsOf transfersSum isWhole viewItems viewParts view overLimits itemWriting pars soughtIn stretchAt stretchHere rowHere nextOf
 rows-differ = refl

@@ -6,9 +6,10 @@ use annex::Answer;
 use annex::Common;
 use annex::Record;
 use annex::Transfer;
+use common::call::call_octets;
+use common::call::is_call;
 use parameter::laying::contents_len;
 use parameter::laying::put;
-use reader::reading::is_call;
 use units::extent_of;
 use units::lead;
 ghost use mathlib.Core.Path.{_≡_};
@@ -67,7 +68,7 @@ fn put_data(q: Record, first: usize, n: usize, room: &mut [u8]) -> usize
     whole
 }
 
-// Lays out a common parameter that is no C5. A call number stands with its least octet first.
+// Lays out a common parameter that is no C5.
 fn put_head(c: Common, room: &mut [u8])
     requires { ⌜ length (headOctets c) ≤ length (now room) ⌝ }
     ensures { λ r. ⌜ now (room .exit) ≡ atFront (headOctets c) (now (room .entry)) ⌝ }
@@ -75,9 +76,10 @@ fn put_head(c: Common, room: &mut [u8])
     let value = c.value;
     room[0] = c.header;
     if is_call(c.header) {
-        room[1] = (value % 256) as u8;
-        room[2] = (value / 256 % 256) as u8;
-        room[3] = (value / 65536 % 256) as u8;
+        let octets = call_octets(value);
+        room[1] = octets[0];
+        room[2] = octets[1];
+        room[3] = octets[2];
         return;
     }
     room[1] = (value % 256) as u8;

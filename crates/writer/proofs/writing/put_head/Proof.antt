@@ -19,20 +19,22 @@ four c =
     omega (arith, length-head (st .args .c), st .pre)
 
 slice-write-room-2 : tie.Need-slice-write-room-2
-slice-write-room-2 c = simp length-set (omega (arith, four c))
+slice-write-room-2 c = simp length-set (omega (arith, four (c .before)))
 
 slice-write-room-3 : tie.Need-slice-write-room-3
-slice-write-room-3 c = simp length-set (omega (arith, four c))
+slice-write-room-3 c = simp length-set (omega (arith, four (c .before)))
 
 slice-write-room-4 : tie.Need-slice-write-room-4
-slice-write-room-4 c = simp length-set (omega (arith, four c))
+slice-write-room-4 c = simp length-set (omega (arith, four (c .before)))
 
 returns : tie.Need-returns
 returns c =
-    let k = c .before in
+    let t = c .before in
+    let k = t .before in
     let st = k .before .before in
     let a = st .args in
-    sym (stored (a .room .now) (headOctets (a .c)) (st .pre) ∙ ap (sets (a .room .now) 0) (low-call (a .c) (omega arith) (sym (k .is-call .ensures) ∙ c .if1 .taken)))
+    rw (c .call-octets .ensures)
+    (sym (stored (a .room .now) (headOctets (a .c)) (st .pre) ∙ ap (sets (a .room .now) 0) (low-call (a .c) (omega arith) (sym (k .is-call .ensures) ∙ t .if1 .taken))))
 
 slice-write-room-5 : tie.Need-slice-write-room-5
 slice-write-room-5 c =
@@ -51,6 +53,7 @@ put-head-spec =
     tie.close
     (tie.spec
     (λ c. search needs)
+    (λ c κs. search needs)
     (λ c κs. search needs)
     (λ c. search needs)
     slice-write-room-2

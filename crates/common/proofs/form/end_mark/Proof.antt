@@ -1,8 +1,8 @@
 -- `end_mark` meets its contract: its tests are those of the definition, in their order.
 use borrow.Author.Tests.{lt-ltb, le-ltb}
 use Rattle.annex.specs.Reading.{endOf}
-use Rattle.reader.proofs.common.end_mark.Statement.{statement}
-use Rattle.reader.proofs.common.end_mark.Tie as tie
+use Rattle.common.proofs.form.end_mark.Statement.{statement}
+use Rattle.common.proofs.form.end_mark.Tie as tie
 
 returns : tie.Need-returns
 unfolding endOf

@@ -1,7 +1,7 @@
 -- `call_value` meets its contract: the first octet is the least.
 use borrow.Author.Needs.{needs}
-use Rattle.reader.proofs.reading.call_value.Statement.{statement}
-use Rattle.reader.proofs.reading.call_value.Tie as tie
+use Rattle.common.proofs.call.call_value.Statement.{statement}
+use Rattle.common.proofs.call.call_value.Tie as tie
 
 returns : tie.Need-returns
 returns c = search needs

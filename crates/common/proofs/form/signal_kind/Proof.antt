@@ -5,8 +5,8 @@ use mathlib.Core.List.{List, [], _∷_}
 use Prim.Native.Nat.{ℕ}
 use Rattle.annex.specs.Heads.{among, signalKinds}
 use Rattle.laws.specs.Octet.{span, one-of}
-use Rattle.reader.proofs.common.signal_kind.Statement.{statement}
-use Rattle.reader.proofs.common.signal_kind.Tie as tie
+use Rattle.common.proofs.form.signal_kind.Statement.{statement}
+use Rattle.common.proofs.form.signal_kind.Tie as tie
 
 abbrev isKind : ℕ → Bool
 isKind x = among x signalKinds

@@ -1,7 +1,7 @@
 -- `is_call` meets its contract: its tests are those of the definition, in their order.
 use borrow.Author.Tests.{eq-eqb, ne-eqb}
-use Rattle.reader.proofs.reading.is_call.Statement.{statement}
-use Rattle.reader.proofs.reading.is_call.Tie as tie
+use Rattle.common.proofs.call.is_call.Statement.{statement}
+use Rattle.common.proofs.call.is_call.Tie as tie
 
 returns : tie.Need-returns
 returns c = rw (eq-eqb _ _ (c .if1 .taken))

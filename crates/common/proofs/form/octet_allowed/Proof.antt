@@ -2,8 +2,8 @@
 use borrow.Author.Needs.{needs}
 use borrow.Author.Tests.{ne-eqb}
 use Rattle.annex.specs.Reading.{octetAllowed}
-use Rattle.reader.proofs.common.octet_allowed.Statement.{statement}
-use Rattle.reader.proofs.common.octet_allowed.Tie as tie
+use Rattle.common.proofs.form.octet_allowed.Statement.{statement}
+use Rattle.common.proofs.form.octet_allowed.Tie as tie
 
 signal-kind-requires : tie.Need-signal-kind-requires
 signal-kind-requires c κs = search needs

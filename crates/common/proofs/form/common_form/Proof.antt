@@ -9,8 +9,8 @@ use borrow.Author.Tests.{lt-ltb, le-ltb}
 use Rattle.annex.specs.Answers.{refuse, cut-short, not-allowed}
 use Rattle.annex.specs.Reading.{commonForm, octetAllowed}
 use Rattle.annex.specs.declared.Answer.the-variants.{Accepted}
-use Rattle.reader.proofs.common.common_form.Statement.{statement}
-use Rattle.reader.proofs.common.common_form.Tie as tie
+use Rattle.common.proofs.form.common_form.Statement.{statement}
+use Rattle.common.proofs.form.common_form.Tie as tie
 
 returns : tie.Need-returns
 unfolding commonForm

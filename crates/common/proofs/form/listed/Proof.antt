@@ -5,8 +5,8 @@ use mathlib.Core.List.{List, [], _∷_}
 use Prim.Native.Nat.{ℕ}
 use Rattle.annex.specs.Heads.{among, listedHeaders}
 use Rattle.laws.specs.Octet.{span, one-of}
-use Rattle.reader.proofs.common.listed.Statement.{statement}
-use Rattle.reader.proofs.common.listed.Tie as tie
+use Rattle.common.proofs.form.listed.Statement.{statement}
+use Rattle.common.proofs.form.listed.Tie as tie
 
 abbrev isListed : ℕ → Bool
 isListed x = among x listedHeaders
