@@ -91,7 +91,7 @@ pub enum Marks {
     Typed,
 }
 
-// What is checked of contents that a record holds as they are: nothing more, so many octets, or two octets of whose second these bits are 0.
+// What is checked of contents that a record holds as they are: nothing more, so many octets, or two octets, these bits of the second 0.
 pub enum Check {
     Nothing,
     Long(u8),

@@ -1,5 +1,5 @@
-// The class of a code value: document 01, "Classes of code values". A function for each list of values, `class_in` picks it by the header, and
-// `class_of` asks first whether the bits that must be 0 are.
+// The class of a code value: document 01, "Classes of code values". A function for each list of values, `class_in` picks it by the
+// header, and `class_of` asks the bits that must be 0 after it.
 use annex::Answer;
 use annex::Class;
 use annex::ClassAnswer;

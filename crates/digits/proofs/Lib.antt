@@ -2,4 +2,3 @@
 pub mod Flat
 pub mod Pairs
 pub mod Turns
-pub mod Zeroes

@@ -1,9 +1,9 @@
 // What is wrong with octets that hold digits: the place of the first half-octet that is not as it must be.
-use crate::codes::half_at;
-use crate::codes::is_code;
 use annex::Alphabet;
 use annex::Answer;
 use annex::Fault;
+use codes::half_at;
+use codes::is_code;
 ghost use mathlib.Core.Path.{_≡_};
 ghost use mathlib.Core.Bool.{true, cond};
 ghost use Prim.Native.Nat.{ℕ, _+_, _^_, _<_};

@@ -1,4 +1,3 @@
-// Digits in half-octets, the low half first: their codes, what is wrong with the octets that hold them, packing and unpacking.
-pub mod codes;
+// Digits in octets, two to an octet: what is wrong with octets that hold them, packing and unpacking.
 pub mod judging;
 pub mod packing;

@@ -1,9 +1,10 @@
-// Digits packed into octets, and out of them into a record's array of values. Where they do not fit, nothing is written and the answer is false.
-use crate::codes::code_of;
-use crate::codes::digit_of;
+// Digits packed into octets, and out of them into a record's array of values. Where they do not fit, nothing is written and the answer
+// is false.
 use annex::Alphabet;
 use annex::HalfOctets;
 use annex::Transfer;
+use codes::code_of;
+use codes::digit_of;
 ghost use mathlib.Core.Path.{_≡_};
 ghost use Prim.Native.Nat.{_+_, _*_, _/_, _≤_, min};
 ghost use lib.Dec.{leb};

@@ -20,7 +20,7 @@ ghost use Rattle.annex.specs.Records.{headOf, rawItem, view};
 ghost use Rattle.annex.specs.Image.{imageHead, imageItem, imageItems, imageCommon, imageParts, imageOf};
 ghost use Rattle.annex.specs.Promises.{ToImagePromise};
 ghost use Rattle.laws.specs.Written.{atFront};
-ghost use Rattle.parameter.specs.Laying.{itemFrom};
+ghost use Rattle.layout.specs.Laying.{itemFrom};
 ghost use Rattle.writer.specs.Along.{itemsAt, Within, Whole};
 ghost use Rattle.image.specs.Laying.{ownCommon, partOctets};
 

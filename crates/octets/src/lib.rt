@@ -1,5 +1,5 @@
-// Octets of a slice, also past its end; copying, moving and clearing within lent octets. Where a request does not fit, nothing is written and
-// the answer is false.
+// Octets of a slice, also past its end; copying, moving and clearing within lent octets. Where a request does not fit, nothing is
+// written and the answer is false.
 ghost use mathlib.Core.Path.{_≡_};
 ghost use mathlib.Core.Bool.{_&&_};
 ghost use Prim.Native.Nat.{_+_, _-_, _≤_};

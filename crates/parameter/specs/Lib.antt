@@ -1,3 +1,4 @@
--- What the contracts of this crate's functions cite beside the definitions of `annex`.
+-- What the contracts of this crate's functions cite beside the definitions of `annex`, and laws of what they promise.
+pub mod Asked
 pub mod Opening
-pub mod Laying
+pub mod Stored

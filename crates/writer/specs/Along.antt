@@ -15,7 +15,7 @@ use Rattle.annex.specs.Records.{noCommon, noTransfer, viewItems, lengthsOf, tra
 use Rattle.annex.specs.declared.Common.{Common}
 use Rattle.annex.specs.declared.Transfer.{Transfer}
 use Rattle.annex.specs.declared.Record.{Record}
-use Rattle.parameter.specs.Laying.{itemFrom}
+use Rattle.layout.specs.Laying.{itemFrom}
 
 -- the common parameter with this head and these transfer parameters; what it does not have is no part of it
 abbrev pub partFrom : Common → List Item → Part

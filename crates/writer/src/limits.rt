@@ -3,7 +3,7 @@ use annex::Answer;
 use annex::Common;
 use annex::Record;
 use annex::Transfer;
-use parameter::laying::contents_len;
+use layout::contents_len;
 ghost use mathlib.Core.Path.{_≡_};
 ghost use mathlib.Core.Bool.{not};
 ghost use Prim.Native.Nat.{_≤_};

@@ -9,7 +9,7 @@ use annex::Transfer;
 use common::call::is_call;
 use common::form::listed;
 use common::form::octet_allowed;
-use parameter::laying::refusal;
+use layout::refusal;
 ghost use mathlib.Core.Path.{_≡_};
 ghost use Prim.Native.Nat.{_+_, _≤_};
 ghost use Rattle.annex.specs.Promises.{Gives, RecordRefusalPromise};

@@ -1,6 +1,5 @@
 -- `head_of` meets its contract: each arm is a case of what the row asks, and that table is the definitions'.
 use native.Mathlib.Omega.{arith}
-use mathlib.Core.Path.{sym, _∙_}
 use borrow.Author.Needs.{needs}
 use Rattle.heads.specs.Asked.{asks}
 use Rattle.heads.proofs.head_of.Statement.{statement}

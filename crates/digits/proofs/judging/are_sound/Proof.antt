@@ -1,13 +1,12 @@
 -- `are_sound` meets its contract: whole octets hold two digits each, and an odd last digit stands alone in its octet.
-use Prim.Native.Nat.{ℕ, _/_, _%_, _≤_}
+use Prim.Native.Nat.{ℕ, _/_}
 use native.Mathlib.Omega.{arith}
-use mathlib.Core.Path.{_≡_, refl, sym, _∙_}
-use mathlib.Core.Bool.{true, false}
-use mathlib.Core.List.{List, [], _∷_}
+use mathlib.Core.Path.{_≡_, sym, _∙_}
+use mathlib.Core.Bool.{true}
 use borrow.Author.Needs.{needs}
-use borrow.Author.Tests.{not-true, not-false}
-use lib.ListN.{length, getD, drop, take, drop-of-length-le}
-use lib.Seq.{drop-cons, length-take-le}
+use borrow.Author.Tests.{not-false}
+use lib.ListN.{getD, take, drop-of-length-le}
+use lib.Seq.{length-take-le}
 use Rattle.annex.specs.Allowed.{every}
 use Rattle.digits.specs.Pairs.{isPair}
 use Rattle.digits.proofs.Pairs.{even-sound, odd-sound, alone}

@@ -1,5 +1,4 @@
 -- `pair_right` meets its contract: its two tests are those of the definition.
-use mathlib.Core.Path.{refl}
 use borrow.Author.Needs.{needs}
 use Rattle.digits.proofs.judging.pair_right.Statement.{statement}
 use Rattle.digits.proofs.judging.pair_right.Tie as tie

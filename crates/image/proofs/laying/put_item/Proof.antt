@@ -9,7 +9,7 @@ use Rattle.annex.specs.Records.{rawItem}
 use Rattle.annex.specs.Image.{imageHead}
 use Rattle.laws.specs.Written.{atFront, octets-every}
 use Rattle.laws.specs.Laid.{own-values}
-use Rattle.parameter.specs.Laying.{itemFrom}
+use Rattle.layout.specs.Laying.{itemFrom}
 use Rattle.octets.specs.Copied.{copied-behind}
 use Rattle.image.specs.Laying.{item-octets}
 use Rattle.image.proofs.laying.put_item.Statement.{statement}

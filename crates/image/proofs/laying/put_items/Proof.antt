@@ -10,7 +10,7 @@ use Rattle.annex.specs.Items.{Item}
 use Rattle.annex.specs.Records.{rawItem}
 use Rattle.annex.specs.Image.{imageItem, imageItems}
 use Rattle.laws.specs.Laid.{own-values}
-use Rattle.parameter.specs.Laying.{itemFrom}
+use Rattle.layout.specs.Laying.{itemFrom}
 use Rattle.writer.specs.Along.{transferAt, ownAt, usedAt, itemsAt, Turn, turn, items-end, length-mapped}
 use Rattle.writer.proofs.Rooms.{Laid, laid-start, laid-length, laid-at, laid-count, laid-end, laid-fits, laid-room, laid-turn}
 use Rattle.image.specs.Laying.{own-long, length-item}

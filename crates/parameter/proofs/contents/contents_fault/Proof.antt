@@ -1,7 +1,7 @@
 -- `contents_fault` meets its contract: the look-up asks what the definitions ask.
 use mathlib.Core.Path.{_∙_}
 use borrow.Author.Needs.{needs}
-use Rattle.parameter.proofs.Asked.{fault-of}
+use Rattle.parameter.specs.Asked.{fault-of}
 use Rattle.parameter.proofs.contents.contents_fault.Statement.{statement}
 use Rattle.parameter.proofs.contents.contents_fault.Tie as tie
 

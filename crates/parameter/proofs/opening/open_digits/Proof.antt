@@ -1,6 +1,6 @@
 -- `open_digits` meets its contract: the octets behind the count octet hold the digits that it tells, or fewer where they end.
 use mathlib.Core.Path.{_≡_, refl, sym, _∙_}
-use Prim.Native.Nat.{ℕ, _+_, _*_, _/_, _%_}
+use Prim.Native.Nat.{ℕ, _+_, _/_, _%_}
 use mathlib.Core.List.{List}
 use lib.Dec.{leb}
 use lib.ListN.{length, getD, drop}
@@ -14,7 +14,7 @@ use Rattle.annex.specs.declared.Marks.the-variants.{Unmarked, Notified, Verifie
 use Rattle.annex.specs.declared.Holding.the-variants.{AsDigits}
 use Rattle.annex.specs.declared.Alphabet.the-variants.{Dialled}
 use Rattle.digits.specs.Unpacked.{length-there}
-use Rattle.parameter.proofs.Stored.{not-stored, all-stored}
+use Rattle.parameter.specs.Stored.{not-stored, all-stored}
 use borrow.Author.Needs.{needs}
 use Rattle.parameter.proofs.opening.open_digits.Statement.{statement}
 use Rattle.parameter.proofs.opening.open_digits.Tie as tie

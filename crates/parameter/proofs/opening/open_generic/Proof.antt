@@ -13,7 +13,7 @@ use Rattle.annex.specs.declared.Holding.the-variants.{AsGeneric}
 use Rattle.annex.specs.Records.{headOf}
 use Rattle.annex.specs.declared.Alphabet.the-variants.{Numbered}
 use Rattle.digits.specs.Unpacked.{length-there}
-use Rattle.parameter.proofs.Stored.{stored}
+use Rattle.parameter.specs.Stored.{stored}
 use Rattle.parameter.specs.Opening.{without-room, with-room, room-left, number-digits}
 use borrow.Author.Needs.{needs}
 use Rattle.parameter.proofs.opening.open_generic.Statement.{statement}

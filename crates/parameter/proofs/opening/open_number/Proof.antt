@@ -14,7 +14,7 @@ use Rattle.annex.specs.Records.{headOf}
 use Rattle.annex.specs.declared.Holding.the-variants.{AsNumber}
 use Rattle.annex.specs.declared.Alphabet.the-variants.{Numbered}
 use Rattle.parameter.specs.Opening.{number-digits}
-use Rattle.parameter.proofs.Stored.{not-stored, all-stored, few-stored}
+use Rattle.parameter.specs.Stored.{not-stored, all-stored, few-stored}
 use borrow.Author.Needs.{needs}
 use Rattle.parameter.proofs.opening.open_number.Statement.{statement}
 use Rattle.parameter.proofs.opening.open_number.Tie as tie

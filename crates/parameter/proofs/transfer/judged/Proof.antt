@@ -13,7 +13,7 @@ use Rattle.annex.specs.declared.Answer.the-variants.{Accepted}
 use Rattle.laws.specs.Extents.{lead-within}
 use Rattle.laws.specs.Parts.{from-to}
 use Rattle.heads.specs.Asked.{used-of, right-of}
-use Rattle.parameter.proofs.Asked.{fault-of}
+use Rattle.parameter.specs.Asked.{fault-of}
 use Rattle.parameter.proofs.transfer.judged.Statement.{statement}
 use Rattle.parameter.proofs.transfer.judged.Tie as tie
 

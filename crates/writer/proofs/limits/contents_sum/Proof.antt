@@ -8,7 +8,7 @@ use Rattle.annex.specs.Heads.{most-transfers}
 use Rattle.annex.specs.Allowed.{contentsSum}
 use Rattle.annex.specs.Records.{rawItem, lengthsOf}
 use Rattle.laws.specs.Laid.{own-values}
-use Rattle.parameter.specs.Laying.{itemFrom}
+use Rattle.layout.specs.Laying.{itemFrom}
 use Rattle.writer.specs.Along.{transferAt, ownAt, usedAt, itemsAt, Turn, turn, items-end, length-mapped}
 use Rattle.writer.specs.Limits.{contents-most}
 use Rattle.writer.proofs.limits.contents_sum.Statement.{statement}

@@ -13,7 +13,7 @@ use Rattle.annex.specs.Walk.{unseen, timesSeen}
 use Rattle.annex.specs.Writing.{itemsWriting}
 use Rattle.laws.specs.Often.{few-often}
 use Rattle.laws.specs.Laid.{own-header}
-use Rattle.parameter.specs.Laying.{itemFrom}
+use Rattle.layout.specs.Laying.{itemFrom}
 use Rattle.writer.specs.Along.{transferAt, ownAt, usedAt, itemsAt, Turn, turn, items-end, length-mapped}
 use Rattle.writer.specs.Refusing.{ItemPassed, item-passed, items-refused, items-accepted, items-over}
 use Rattle.writer.proofs.refusing.items_refusal.Statement.{statement}

@@ -6,7 +6,7 @@ use lib.ListN.{length}
 use Rattle.annex.specs.Units.{leadOf, extentOf}
 use Rattle.annex.specs.Records.{rawItem}
 use Rattle.laws.specs.Laid.{own-values, own-contents, own-layout, length-layout, lead-small}
-use Rattle.parameter.specs.Laying.{itemFrom}
+use Rattle.layout.specs.Laying.{itemFrom}
 use Rattle.writer.specs.Limits.{contents-most}
 use Rattle.writer.proofs.writing.item_len.Statement.{statement}
 use Rattle.writer.proofs.writing.item_len.Tie as tie

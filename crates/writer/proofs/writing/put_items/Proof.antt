@@ -10,7 +10,7 @@ use Rattle.annex.specs.Heads.{most-transfers}
 use Rattle.annex.specs.Items.{Item}
 use Rattle.annex.specs.Layout.{layoutItem, layoutItems}
 use Rattle.laws.specs.Written.{atFront}
-use Rattle.parameter.specs.Laying.{itemFrom}
+use Rattle.layout.specs.Laying.{itemFrom}
 use Rattle.writer.specs.Along.{transferAt, ownAt, usedAt, itemsAt, Turn, turn, items-end, length-mapped}
 use Rattle.writer.proofs.Rooms.{Laid, laid-start, laid-length, laid-at, laid-count, laid-end, laid-fits, laid-room, laid-turn}
 use Rattle.writer.proofs.writing.put_items.Statement.{statement}
