@@ -1,15 +1,14 @@
--- Laws of finding by the length rule alone: one turn of the search, that what is found lies within the octets, and that in an accepted
--- message it is what the definition finds.
+-- Laws of finding by the length rule alone: what is found lies within the octets, and is what the definition finds in an accepted message.
 use mathlib.Core.Path.{_≡_, refl, ap, _∙_}
 use mathlib.Core.Bool.{Bool, true, false, cond}
 use mathlib.Core.List.{List, [], _∷_}
-use Prim.Native.Nat.{ℕ, zero, suc, _+_, _-_, _≤_, _<_}
+use Prim.Native.Nat.{ℕ, zero, suc, _+_, _-_, _≤_}
 use native.Mathlib.Omega.{arith}
 use borrow.Author.Tests.{eqb-true}
 use lib.Dec.{eqb}
-use lib.ListN.{length, getD, take, drop, length-drop, length-take}
-use lib.Seq.{drop-drop, length-take-le}
-use Rattle.annex.specs.Units.{nameOf, afterOf, leadOf, extentOf, commonExtentOf}
+use lib.ListN.{length, getD, take, drop, length-take}
+use lib.Seq.{drop-drop}
+use Rattle.annex.specs.Units.{nameOf, leadOf, extentOf, commonExtentOf}
 use Rattle.annex.specs.Heads.{end-mark, transfer-data, kth}
 use Rattle.annex.specs.Allowed.{Each}
 use Rattle.annex.specs.Walk.{Par}
@@ -24,21 +23,8 @@ use Rattle.annex.specs.declared.Found.the-variants.{At, Nowhere}
 use Rattle.annex.specs.Contents.{faultOf}
 use Rattle.laws.specs.Extents.{lead-within}
 use Rattle.laws.specs.Parts.{from-to}
-use Rattle.laws.specs.Plain.{
-  sizeBy,
-  commonSize,
-  transferSize,
-  pars,
-  pars-end,
-  pars-short,
-  pars-next,
-  Lies,
-  pars-lie,
-  transfers-plain,
-  commons-plain,
-  InnerSound,
-  commons-inner,
-}
+use Rattle.laws.specs.Plain.{sizeBy, commonSize, transferSize, pars, Lies, pars-lie}
+use Rattle.laws.specs.Plain.{transfers-plain, commons-plain, InnerSound, commons-inner}
 
 -- ---- the parameter that a key asks for
 
@@ -78,24 +64,6 @@ contentsAt k t Nowhere = Nowhere
 
 abbrev pub contentsFound : Key → List ℕ → Found
 contentsFound k t = contentsAt k t (searchIn k t)
-
--- ---- one turn of the search
-
-module _ (k : Key) (which : ℕ) (t : List ℕ) (i : ℕ) where
-  pub search-end : length t ≤ i → searchFrom k which i t ≡ Nowhere
-  unfolding soughtIn
-  search-end h = rw (pars-end (sizeBy (extentBy k)) i i t h)
-
-  module _ (x n : ℕ) (inside : i < length t) (next : x ≡ getD t (i + 1) 0) (told : n ≡ afterOf (extentBy k (getD t i 0)) x) where
-    pub search-cut : length t - (i + 1) < n → searchFrom k which i t ≡ Nowhere
-    unfolding soughtIn
-    search-cut h = rw (pars-short (extentBy k) t i x n inside next told h)
-
-    pub search-turn : n ≤ length t - (i + 1)
-        → searchFrom k which i t
-        ≡ cond (isSought k (getD t i 0)) (kth which (At i (i + 1 + n)) (λ w. searchFrom k w (i + 1 + n) t)) (searchFrom k which (i + 1 + n) t)
-    unfolding soughtIn
-    search-turn h = rw (pars-next (extentBy k) t i x n inside next told h, length-take-le n (drop (i + 1) t) (rw length-drop h))
 
 -- ---- what is found lies within n octets
 

@@ -77,12 +77,14 @@ module _ (size : Size) where
   pars-turn p q i n t h e l w =
       rw (drop-cons t i 0, ← add-one i, ← w, ← drop-drop n (i + 1) t) (pars-head p (getD t i 0) n (drop (i + 1) t) e l)
 
--- the same, where n is told by the octet x right behind the header
-module _ (ext : ℕ → Extent) (t : List ℕ) (i x n : ℕ) (inside : i < length t) (next : x ≡ getD t (i + 1) 0) (told : n ≡ afterOf (ext (getD t i 0)) x) where
+-- the octet behind a header
+pub octet-behind : (t : List ℕ) (i : ℕ) → getD (drop (i + 1) t) 0 0 ≡ getD t (i + 1) 0
+octet-behind t i = let z : i + 1 + 0 ≡ i + 1 = omega arith in getD-drop (i + 1) t 0 0 ∙ rw z
+
+-- one turn, where n is told by that octet
+module _ (ext : ℕ → Extent) (t : List ℕ) (i n : ℕ) (inside : i < length t) (told : n ≡ afterOf (ext (getD t i 0)) (getD t (i + 1) 0)) where
   sized : n ≡ sizeBy ext (getD t i 0) (drop (i + 1) t)
-  sized =
-      let z : i + 1 + 0 ≡ i + 1 = omega arith in
-      told ∙ rw (next, getD-drop (i + 1) t 0 0, z)
+  sized = told ∙ rw (octet-behind t i)
 
   pub pars-short : length t - (i + 1) < n → pars (sizeBy ext) 0 i (drop i t) ≡ []
   pars-short h = pars-cut (sizeBy ext) i i t inside (rw (← sized, length-drop) h)

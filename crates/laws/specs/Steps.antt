@@ -157,7 +157,7 @@ then-place l n (Accepted k) g = accepted-place l n
 then-place l n (Refused k p) g = g
 
 -- C5 by the part behind its length octet
-pub data-part : (n : ℕ) (xs : List ℕ) → contentsIn (commonExtentOf transfer-data) (take n xs) ≡ take (n - 1) (drop 1 xs)
+data-part : (n : ℕ) (xs : List ℕ) → contentsIn (commonExtentOf transfer-data) (take n xs) ≡ take (n - 1) (drop 1 xs)
 unfolding commonExtentOf leadOf
 data-part n xs = sym (from-to 1 n xs)
 

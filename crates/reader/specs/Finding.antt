@@ -1,12 +1,18 @@
--- What finding gives.
+-- What finding gives, and one turn of its search.
 use Prim.Native.Nat.{ℕ, _-_, _≤_}
 use native.Mathlib.Omega.{arith}
 use mathlib.Core.Path.{_≡_, sym, ap, _∙_}
+use mathlib.Core.Bool.{cond}
 use mathlib.Core.List.{List}
-use lib.ListN.{length, take, drop, length-drop}
+use lib.ListN.{length, getD, take, drop, length-drop}
 use lib.Seq.{length-take-le}
 use Rattle.annex.specs.Finding.{findAnswer, findPart}
+use Rattle.annex.specs.Heads.{kth}
 use Rattle.annex.specs.declared.Found.{Found}
+use Rattle.annex.specs.declared.Found.the-variants.{At, Nowhere}
+use Rattle.annex.specs.declared.Key.{Key}
+use Rattle.laws.specs.Finding.{isSought, extentBy, soughtIn, searchFrom}
+use Rattle.walk.specs.Stretches.{stretchAt, Whole, stretch-none}
 use Rattle.reader.specs.declared.finding.Finding.{Finding}
 use Rattle.reader.specs.declared.finding.Stretch.{Stretch}
 
@@ -27,3 +33,15 @@ both-told m f r t =
     let long = length-take-le (r .2 - r .1) (drop (r .1) m) k in
     let len : r .2 - r .1 ≡ length (findPart m f) = sym long ∙ ap (λ (p : List ℕ). length p) (t .part) in
     rw (t .answer, len)
+
+-- ---- one turn of the search
+
+module _ (k : Key) (which : ℕ) (t : List ℕ) (i : ℕ) where
+  pub search-none : stretchAt t i (extentBy k (getD t i 0)) ≡ Nowhere → searchFrom k which i t ≡ Nowhere
+  unfolding soughtIn
+  search-none h = rw (stretch-none (extentBy k) t i h)
+
+  pub search-turn : {s x : ℕ} → Whole (extentBy k) t i s x
+      → searchFrom k which i t ≡ cond (isSought k (getD t i 0)) (kth which (At i x) (λ w. searchFrom k w x t)) (searchFrom k which x t)
+  unfolding soughtIn
+  search-turn w = rw (w .next, w .long)

@@ -9,7 +9,7 @@ use octets::octet_at;
 use units::common_extent_of;
 use units::extent_of;
 use units::lead;
-use units::octets_after;
+use walk::stretch::stretch_at;
 ghost use mathlib.Core.Path.{_≡_};
 ghost use Rattle.annex.specs.Finding.{findPart};
 ghost use Rattle.annex.specs.Promises.{
@@ -61,14 +61,11 @@ pub fn search(t: &[u8], k: Key) -> Found
 {
     let mut left = which_of(k);
     let mut i = 0;
-    while i < t.len() {
-        let h = t[i];
-        let from = i + 1;
-        let n = octets_after(extent_by(k, h), octet_at(t, from));
-        if t.len() - from < n {
+    loop {
+        let h = octet_at(t, i);
+        let Found::At(_, end) = stretch_at(t, i, extent_by(k, h)) else {
             return Found::Nowhere;
-        }
-        let end = from + n;
+        };
         if is_sought(k, h) {
             if left == 0 {
                 return Found::At(i, end);
@@ -78,7 +75,6 @@ pub fn search(t: &[u8], k: Key) -> Found
         }
         i = end;
     }
-    Found::Nowhere
 }
 
 // The contents of that parameter.

@@ -2,6 +2,7 @@
 use super::verdict::verdict;
 use annex::Answer;
 use annex::Common;
+use annex::Found;
 use annex::Reading;
 use annex::Record;
 use annex::Transfer;
@@ -11,8 +12,7 @@ use octets::octet_at;
 use parameter::opening::open;
 use units::common_extent_of;
 use units::extent_of;
-use units::lead;
-use units::octets_after;
+use walk::stretch::stretch_at;
 ghost use mathlib.Core.Path.{_≡_};
 ghost use Prim.Native.Nat.{_+_, _≤_};
 ghost use lib.ListN.{length};
@@ -67,16 +67,11 @@ fn with_transfers(begun: Record, t: &[u8], transfers: usize, taken: usize) -> Fi
     let mut k = transfers;
     let mut used = taken;
     let mut i = 0;
-    while i < t.len() {
-        let h = t[i];
-        let from = i + 1;
-        let e = extent_of(h);
-        let n = octets_after(e, octet_at(t, from));
-        if t.len() - from < n {
+    loop {
+        let h = octet_at(t, i);
+        let Found::At(start, to) = stretch_at(t, i, extent_of(h)) else {
             break;
-        }
-        let to = from + n;
-        let start = from + lead(e);
+        };
         let x = open(h, &t[start..to], &mut q.values, used);
         q.transfer[k] = x;
         k += 1;
@@ -99,21 +94,18 @@ fn fill(m: &[u8]) -> Record
     let mut transfers: usize = 0;
     let mut used: usize = 0;
     let mut i = 0;
-    while i < m.len() {
-        let h = m[i];
+    loop {
+        let h = octet_at(m, i);
+        let Found::At(start, to) = stretch_at(m, i, common_extent_of(h)) else {
+            break;
+        };
         let from = i + 1;
+        i = to;
         if h == Common::END_MARK {
-            i = from;
             continue;
         }
-        let n = octets_after(common_extent_of(h), octet_at(m, from));
-        if m.len() - from < n {
-            break;
-        }
-        let to = from + n;
         let before = transfers;
         if h == Common::TRANSFER_DATA {
-            let start = from + 1;
             let f = with_transfers(q, &m[start..to], transfers, used);
             q = f.held;
             transfers = f.transfers;
@@ -123,7 +115,6 @@ fn fill(m: &[u8]) -> Record
         let k = q.commons as usize;
         q.common[k] = c;
         q.commons = (k + 1) as u8;
-        i = to;
     }
     q
 }

@@ -8,7 +8,7 @@ use mathlib.Core.List.{List, [], _∷_, _++_}
 use borrow.Author.Tests.{lt-ltb, le-ltb, ltb-true, ltb-false, eqb-true}
 use lib.Dec.{eqb, ltb, leb}
 use lib.ListN.{length, getD, take, drop, length-drop, drop-of-length-le}
-use lib.Seq.{getD-drop, getD-take, drop-cons, drop-drop, length-take-le}
+use lib.Seq.{getD-take, drop-cons, drop-drop, length-take-le}
 use Rattle.annex.specs.Units.{afterOf, leadOf, extentOf, commonExtentOf}
 use Rattle.annex.specs.Heads.{transfer-data}
 use Rattle.annex.specs.Allowed.{Each}
@@ -25,7 +25,8 @@ use Rattle.laws.specs.Extents.{lead-within}
 use Rattle.laws.specs.Listed.{listed}
 use Rattle.laws.specs.Members.{sumOf}
 use Rattle.laws.specs.Parts.{from-to}
-use Rattle.laws.specs.Plain.{Size, commonSize, transferSize, pars, pars-end, commons-plain, transfers-plain, InnerSound, commons-inner}
+use Rattle.laws.specs.Plain.{Size, commonSize, transferSize, pars, pars-end, octet-behind}
+use Rattle.laws.specs.Plain.{commons-plain, transfers-plain, InnerSound, commons-inner}
 use Rattle.laws.specs.Rows.{parAt, octetsIn, Accepts, AcceptsTransfers, Filled, Turned, filled-turn, commons-filled, transfers-filled, rowFor, transfer-turn, common-turn}
 use Rattle.walk.specs.Stretches.{stretch-whole}
 use Rattle.walk.specs.Cursors.{cursorTo, firstCursor, extentHere, stretchHere, rowHere, nextOf, cursorAt, rowsFrom}
@@ -112,10 +113,6 @@ unfolding rowHere
 row-whole m c e n f s =
     let k : c .at + 1 + n - (c .at + 1 + leadOf e) ≡ n - leadOf e = omega arith in
     rw (s, k)
-
--- the octet behind a header
-octet-behind : (m : List ℕ) (i : ℕ) → getD (drop (i + 1) m) 0 0 ≡ getD m (i + 1) 0
-octet-behind m i = let z : i + 1 + 0 ≡ i + 1 = omega arith in getD-drop (i + 1) m 0 0 ∙ rw z
 
 -- a header with no octets after it needs none to say so
 after-none : (e : Extent) (x y : ℕ) → afterOf e x ≤ 0 → afterOf e y ≡ afterOf e x

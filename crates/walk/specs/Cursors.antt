@@ -23,8 +23,11 @@ abbrev pub firstCursor : Cursor
 firstCursor = cursorTo 0 0
 
 -- what the PLI of the next header says: in C5 by the transfer rule, else by the common one
+abbrev pub extentIn : Cursor → ℕ → Extent
+extentIn c h = cond (ltb (c .at) (c .end)) (extentOf h) (commonExtentOf h)
+
 abbrev pub extentHere : List ℕ → Cursor → Extent
-extentHere m c = cond (ltb (c .at) (c .end)) (extentOf (getD m (c .at) 0)) (commonExtentOf (getD m (c .at) 0))
+extentHere m c = extentIn c (getD m (c .at) 0)
 
 unfoldable pub stretchHere : List ℕ → Cursor → Found
 stretchHere m c = stretchAt m (c .at) (extentHere m c)

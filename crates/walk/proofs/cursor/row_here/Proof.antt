@@ -1,8 +1,8 @@
 -- `row_here` meets its contract.
 use mathlib.Core.Path.{sym, _∙_}
 use borrow.Author.Needs.{needs}
-use Rattle.walk.specs.Stretches.{stretch-ordered}
-use Rattle.walk.specs.Cursors.{stretchHere, rowHere}
+use Rattle.walk.specs.Stretches.{stretch-told}
+use Rattle.walk.specs.Cursors.{extentIn, stretchHere, rowHere}
 use Rattle.walk.proofs.cursor.row_here.Statement.{statement}
 use Rattle.walk.proofs.cursor.row_here.Tie as tie
 
@@ -14,7 +14,8 @@ sub-t8 : tie.Need-sub-t8
 unfolding stretchHere
 sub-t8 c =
     let s = c .before .before in
-    stretch-ordered _ _ _ _ _ (sym (s .before .before .stretch-here .ensures) ∙ s .start .given .1)
+    let at = s .before .before .before .before .args .c in
+    stretch-told (extentIn at) _ _ (sym (s .before .before .stretch-here .ensures) ∙ s .start .given .1) .ordered
 
 returns-2 : tie.Need-returns-2
 unfolding rowHere
