@@ -104,8 +104,8 @@ numberRight i = fieldsRight i && cond (eqb (i .header) calling-number && eqb (i 
 abbrev pub valuesFault : List ℕ → Fault
 valuesFault ds = cond (every isDigit ds) Sound (Bad bad-digit 0)
 
--- Writing, 12 and then 13: contents held as they are have the faults of contents; of digits and numbers, a mark or field has too many bits, or a
--- value is no digit
+-- Writing, 12 and then 13: contents held as they are have the faults of contents; of digits and numbers, a mark or field has too many
+-- bits, or a value is no digit
 abbrev pub faultAs : Holding → Item → Fault
 faultAs AsContents i = faultOf (i .header) (i .values)
 faultAs (AsDigits m) i = formedThen (marksRight m i) (valuesFault (i .values))

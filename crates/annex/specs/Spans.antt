@@ -1,5 +1,5 @@
--- Spans: document 01, "Spans": the rows of a message, those of C5 right behind its own, the end mark's last; 15 comes after reading's numbers;
--- and what the table then holds.
+-- Spans: document 01, "Spans": the rows of a message, those of C5 right behind its own, the end mark's last; 15 comes after reading's
+-- numbers; and what the table then holds. As reading is, they are by a rule of contents; the names without `By` are by the rule in force.
 use Prim.Native.Nat.{ℕ, _+_, _-_}
 use mathlib.Core.Bool.{cond}
 use mathlib.Core.List.{List, [], _∷_, _++_}
@@ -8,8 +8,9 @@ use lib.ListN.{length}
 use Rattle.annex.specs.Answers.{no-room, refuse, andThen, roomAfter}
 use Rattle.annex.specs.Units.{leadOf, extentOf, commonExtentOf}
 use Rattle.annex.specs.Heads.{transfer-data}
+use Rattle.annex.specs.Contents.{Rule, faultOf}
 use Rattle.annex.specs.Walk.{Par}
-use Rattle.annex.specs.Reading.{verdictOf, commonsOf, transfersOf, dataIn}
+use Rattle.annex.specs.Reading.{dataIn, verdictBy, commonsBy, transfersBy}
 use Rattle.annex.specs.declared.Extent.{Extent}
 use Rattle.annex.specs.declared.Row.{Row}
 use Rattle.annex.specs.declared.Answer.{Answer}
@@ -24,17 +25,23 @@ unfoldable pub transferRows : ℕ → List Par → List Row
 transferRows s [] = []
 transferRows s (q ∷ qs) = rowBy (extentOf (q .head)) s q ∷ transferRows s qs
 
--- the rows inside a common parameter: those of a C5
-abbrev pub innerRows : Par → List Row
-innerRows q = cond (eqb (q .head) transfer-data) (transferRows (q .place + 2) (transfersOf (dataIn q))) []
+module _ (rule : Rule) where
+  -- the rows inside a common parameter: those of a C5
+  abbrev pub innerRowsBy : Par → List Row
+  innerRowsBy q = cond (eqb (q .head) transfer-data) (transferRows (q .place + 2) (transfersBy rule (dataIn q))) []
 
-unfoldable pub commonRows : List Par → List Row
-commonRows [] = []
-commonRows (q ∷ qs) = rowBy (commonExtentOf (q .head)) 0 q ∷ (innerRows q ++ commonRows qs)
+  unfoldable pub commonRowsBy : List Par → List Row
+  commonRowsBy [] = []
+  commonRowsBy (q ∷ qs) = rowBy (commonExtentOf (q .head)) 0 q ∷ (innerRowsBy q ++ commonRowsBy qs)
 
--- the rows of an accepted message
-unfoldable pub rowsOf : List ℕ → List Row
-rowsOf m = commonRows (commonsOf m)
+  -- the rows of an accepted message
+  unfoldable pub messageRowsBy : List ℕ → List Row
+  messageRowsBy m = commonRowsBy (commonsBy rule m)
+
+  -- the row count, or number and place
+  unfoldable pub messageSpansBy : List ℕ → ℕ → Answer
+  messageSpansBy m room =
+      andThen (verdictBy rule m) (λ _. refuse (ltb room (length (messageRowsBy m))) no-room 0 (Accepted (length (messageRowsBy m))))
 
 abbrev pub noRow : Row
 noRow = record { offset = 0; header = 0; len = 0 }
@@ -44,9 +51,19 @@ abbrev pub rowsBy : Answer → List Row → List Row
 rowsBy (Accepted n) rows = rows
 rowsBy (Refused k p) rows = []
 
--- the row count, or number and place
-unfoldable pub spansOf : List ℕ → ℕ → Answer
-spansOf m room = andThen (verdictOf m) (λ _. refuse (ltb room (length (rowsOf m))) no-room 0 (Accepted (length (rowsOf m))))
+-- ---- by the rule in force
+
+abbrev pub innerRows : Par → List Row
+innerRows = innerRowsBy faultOf
+
+abbrev pub commonRows : List Par → List Row
+commonRows = commonRowsBy faultOf
+
+abbrev pub rowsOf : List ℕ → List Row
+rowsOf = messageRowsBy faultOf
+
+abbrev pub spansOf : List ℕ → ℕ → Answer
+spansOf = messageSpansBy faultOf
 
 -- what the table then holds
 unfoldable pub tableOf : List ℕ → List Row → List Row

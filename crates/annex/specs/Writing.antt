@@ -46,13 +46,13 @@ use Rattle.annex.specs.declared.Record.{Record}
 use Rattle.annex.specs.declared.Answer.{Answer}
 use Rattle.annex.specs.declared.Answer.the-variants.{Accepted}
 
--- 8 and 9 of a header that is to be written, its place p, in a record or as the new parameter of an edit; and then what follows. A header that may
--- be read and not written would be refused here, after 9
+-- 8 and 9 of a header that is to be written, its place p, in a record or as the new parameter of an edit; and then what follows. A header
+-- that may be read and not written would be refused here, after 9
 abbrev pub headWriting : ℕ → ℕ → Answer → Answer
 headWriting p h a = refuse (not (nameUsed h)) unused-name p (refuse (not (pliRight h)) other-pli p a)
 
--- a transfer parameter whose name stood so many times before, its header at the place p: 8 to 11, what is wrong with its values, or the place
--- behind it
+-- a transfer parameter whose name stood so many times before, its header at the place p: 8 to 11, what is wrong with its values, or the
+-- place behind it
 unfoldable pub itemWriting : ℕ → ℕ → Item → Answer
 itemWriting times p i =
     headWriting p (i .header)

@@ -46,7 +46,7 @@ use Rattle.annex.specs.Walk.{Seen, unseen, timesSeen, counted, Step, byStep, wa
 use Rattle.annex.specs.Reading.{transferStep, transfersVerdict, octetAllowed, wholeIn, commonForm, endOf, dataOf, commonStep, commonClose, messageVerdict, verdictOf, recordOf, transferBy, transfersVerdictBy, dataBy, commonBy, messageVerdictBy, verdictBy}
 use Rattle.annex.specs.Packed.{oneNumber, packedAnswer, row-octets, octetSpans}
 use Rattle.annex.specs.Finding.{foundAnswer, foundPart, findAnswer, findPart}
-use Rattle.annex.specs.Spans.{rowsOf, spansOf}
+use Rattle.annex.specs.Spans.{rowsOf, messageSpansBy}
 use Rattle.annex.specs.Editing.{Edit, newHeader, newAfter, newContents, editRefusal, edited, recordEditing, editingOf}
 use Rattle.annex.specs.Editing.Edit.{Replacing, Appending, Removing}
 use Rattle.annex.specs.Classes.{ClassList, classLists, classBy, classIn, classOf}
@@ -186,7 +186,7 @@ verdict-upto m = go (eqb (length m) 0 || ltb most-octets (length m)) refl
 -- ---- rows
 
 pub rows-upto : (m : List ℕ) (room : ℕ) → Upto 274 (octetSpans m room)
-unfolding spansOf
+unfolding messageSpansBy
 rows-upto m room =
     let given = Accepted (length (rowsOf m)) in
     let full = ltb (room / row-octets) (length (rowsOf m)) in

@@ -2,17 +2,16 @@
 use Prim.Native.Nat.{ℕ, zero, suc, _+_, _*_, _/_, _%_, _≤_, _<_}
 use native.Mathlib.Omega.{arith}
 use mathlib.Core.Path.{_≡_, refl, sym, ap, _∙_}
-use mathlib.Core.Bool.{true, not}
+use mathlib.Core.Bool.{true}
 use mathlib.Core.List.{List, [], _∷_}
-use borrow.Author.Tests.{leb-true}
-use lib.Dec.{eqb, leb}
 use lib.ListN.{length, getD, take, drop, set, drop-of-length-le}
 use lib.Seq.{sets, drop-cons}
-use Rattle.annex.specs.Digits.{halves, digitOf, codeOf, isCode, spareUnder13, halvesFault, digitsFault, digitsOf, packed}
+use Rattle.annex.specs.Digits.{halves, digitOf, codeOf, isCode, halvesFault, digitsFault, digitsOf, packed}
 use Rattle.annex.specs.Allowed.{every}
 use Rattle.annex.specs.declared.Alphabet.{Alphabet}
 use Rattle.annex.specs.declared.Fault.the-variants.{Sound}
 use Rattle.laws.specs.Bools.{and-left, and-right}
+use Rattle.laws.specs.Joined.{code-small}
 use Rattle.laws.specs.Halves.{halves-even, halves-odd, digitsOf-at}
 use Rattle.laws.specs.Stores.{sets-turn}
 use Rattle.laws.specs.Laid.{packed-at, code-here, code-past}
@@ -30,10 +29,6 @@ pairs-sound z (suc k) m (x ∷ s) e f p =
     let r = and-right (isPair z x) (every (isPair z) (take k s)) e in
     rw (n, and-left (isCode z (x % 16)) (isCode z (x / 16)) b, and-right (isCode z (x % 16)) (isCode z (x / 16)) b)
     (pairs-sound z k m s r f (p + 1 + 1))
-
-code-small : (z : Alphabet) (x : ℕ) → isCode z x ≡ true → x ≤ 12
-unfolding isCode
-code-small z x e = leb-true x 12 (and-left (leb x 12) (not (eqb x (spareUnder13 z))) e)
 
 -- an even count of digits fills its octets
 pub even-sound : (z : Alphabet) (n k at : ℕ) (s : List ℕ) → n ≡ k * 2 → drop k s ≡ [] → every (isPair z) (take k s) ≡ true → digitsFault z n at s ≡ Sound

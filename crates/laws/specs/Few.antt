@@ -13,7 +13,7 @@ use Rattle.annex.specs.Units.{nameOf}
 use Rattle.annex.specs.Heads.{among, listedHeaders, transfer-data, nameUsed, oftenOf, most-transfers, most-rows}
 use Rattle.annex.specs.Walk.{Seen, unseen, timesSeen, counted, Par, Step, byStep, walk, listing}
 use Rattle.annex.specs.Reading.{transferStep, transfersOf, commonStep, commonsOf, dataIn, commonsBy, transfersBy}
-use Rattle.annex.specs.Spans.{transferRows, innerRows, commonRows, rowsOf}
+use Rattle.annex.specs.Spans.{transferRows, innerRows, commonRows, rowsOf, commonRowsBy, messageRowsBy}
 use Rattle.annex.specs.declared.Answer.{Answer}
 use Rattle.annex.specs.declared.Answer.the-variants.{Accepted, Refused}
 use Rattle.annex.specs.Contents.{faultOf}
@@ -115,11 +115,11 @@ common-spends seen p h xs n e =
     rw (t .once) (omega (arith, inner-few p h (take n xs) (t .listed)))
 
 length-rows : (qs : List Par) → length (commonRows qs) ≡ sumOf rowsIn qs
-unfolding commonRows
+unfolding commonRowsBy
 length-rows [] = refl
 length-rows (q ∷ qs) = rw (length-append (innerRows q) (commonRows qs)) (omega (arith, length-rows qs))
 
 -- no more of them
 pub rows-few : (m : List ℕ) → length (rowsOf m) ≤ most-rows
-unfolding rowsOf commonsBy commonAllows allowance
+unfolding messageRowsBy commonsBy commonAllows allowance
 rows-few m = omega (arith, length-rows (commonsOf m), spent commonAllows commonStep rowsIn common-spends m unseen 0 0 refl)

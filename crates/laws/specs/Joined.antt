@@ -60,7 +60,7 @@ unfolding decodedTest digitOf codeOf isCode
 decoded-all Dialled h l = T-true _ (range (decodedTest Dialled) 0 13 tt h (omega arith) (omega arith))
 decoded-all Numbered h l = T-true _ (range (decodedTest Numbered) 0 13 tt h (omega arith) (omega arith))
 
-code-small : (z : Alphabet) (h : ℕ) → isCode z h ≡ true → h ≤ 12
+pub code-small : (z : Alphabet) (h : ℕ) → isCode z h ≡ true → h ≤ 12
 unfolding isCode
 code-small z h c = leb-true h 12 (and-left (leb h 12) (not (eqb h (spareUnder13 z))) c)
 

@@ -9,7 +9,7 @@ use lib.ListN.{length}
 use borrow.Author.Tests.{ltb-false}
 use Rattle.annex.specs.Answers.{no-room, givenOf, refuse, andThen}
 use Rattle.annex.specs.Reading.{verdictOf}
-use Rattle.annex.specs.Spans.{rowsOf, rowsBy, spansOf}
+use Rattle.annex.specs.Spans.{rowsOf, rowsBy, spansOf, messageSpansBy}
 use Rattle.annex.specs.declared.Answer.{Answer}
 use Rattle.annex.specs.declared.Answer.the-variants.{Accepted, Refused}
 use Rattle.annex.specs.declared.Row.{Row}
@@ -28,7 +28,7 @@ abbrev pub spansBy : Answer → Bool → List ℕ → Answer
 spansBy a b m = andThen a (λ _. refuse b no-room 0 (Accepted (length (rowsOf m))))
 
 pub given-within : (m : List ℕ) (room : ℕ) → Within m room (givenOf (spansOf m room))
-unfolding spansOf
+unfolding messageSpansBy
 given-within m room = go (verdictOf m) (ltb room (length (rowsOf m))) refl (ltb-false room (length (rowsOf m)))
   where
     go : (a : Answer) (b : Bool) → verdictOf m ≡ a → (b ≡ false → length (rowsOf m) ≤ room) → Within m room (givenOf (spansBy a b m))

@@ -17,7 +17,7 @@ use Rattle.annex.specs.Heads.{transfer-data, most-octets}
 use Rattle.annex.specs.Allowed.{Each}
 use Rattle.annex.specs.Walk.{Seen, unseen, counted, Par, Step, byStep, walk, judging, listing}
 use Rattle.annex.specs.Reading.{transferStep, transfersVerdict, transfersOf, commonStep, commonClose, messageVerdict, verdictOf, commonsOf, dataIn, transfersVerdictBy, messageVerdictBy, verdictBy, commonsBy, transfersBy}
-use Rattle.annex.specs.Spans.{rowBy, transferRows, innerRows, commonRows}
+use Rattle.annex.specs.Spans.{rowBy, transferRows, innerRows, commonRows, commonRowsBy}
 use Rattle.annex.specs.declared.Answer.{Answer}
 use Rattle.annex.specs.declared.Answer.the-variants.{Accepted, Refused}
 use Rattle.annex.specs.declared.Row.{Row}
@@ -128,7 +128,7 @@ unfolding transferRows
 transfer-turn s i n t u = rw (u .next, length-take-le n (drop (i + 1) t) (u .within))
 
 pub common-turn : (i n : ℕ) (m : List ℕ) → Turned commonSize i n m → commonRows (pars commonSize 0 i (drop i m)) ≡ rowFor (commonExtentOf (getD m i 0)) i (getD m i 0) n ∷ (innerRows (parAt i (getD m i 0) (take n (drop (i + 1) m))) ++ commonRows (pars commonSize 0 (i + 1 + n) (drop (i + 1 + n) m)))
-unfolding commonRows
+unfolding commonRowsBy
 common-turn i n m u = rw (u .next, length-take-le n (drop (i + 1) m) (u .within), zero-add i)
 
 -- ---- what the rows add up to

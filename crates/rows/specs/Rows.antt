@@ -10,7 +10,7 @@ use lib.ListN.{length, getD, set, take, drop, length-append, length-drop}
 use lib.Seq.{take-suc, take-all, length-take-le, drop-cons, set-at, append-snoc}
 use Rattle.annex.specs.Answers.{givenOf, roomAfter}
 use Rattle.annex.specs.Reading.{verdictOf}
-use Rattle.annex.specs.Spans.{rowsOf, noRow, spansOf, tableOf}
+use Rattle.annex.specs.Spans.{rowsOf, noRow, spansOf, tableOf, messageSpansBy}
 use Rattle.annex.specs.declared.Answer.{Answer}
 use Rattle.annex.specs.declared.Answer.the-variants.{Accepted, Refused}
 use Rattle.annex.specs.declared.Row.{Row}
@@ -53,7 +53,7 @@ filled-more m table i w =
 
 -- with all rows stored that the listing gives, the table is what it has to be
 pub filled-all : (m : List ℕ) (table : List Row) → filled m table (givenOf (spansOf m (length table))) ≡ tableOf m table
-unfolding filled spansOf tableOf
+unfolding filled messageSpansBy tableOf
 filled-all m table = go (verdictOf m) (ltb (length table) (length (rowsOf m))) refl
   where
     go : (a : Answer) (b : Bool) → verdictOf m ≡ a

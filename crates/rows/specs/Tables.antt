@@ -10,11 +10,12 @@ use lib.Dec.{ltb}
 use lib.ListN.{length, set, length-append}
 use lib.Seq.{sets, length-sets}
 use Rattle.annex.specs.Reading.{verdictOf}
-use Rattle.annex.specs.Spans.{rowsOf, spansOf}
+use Rattle.annex.specs.Spans.{rowsOf, spansOf, messageSpansBy}
 use Rattle.annex.specs.Packed.{row-octets, rowOctets, rowsOctets, octetSpans, octetTable}
 use Rattle.annex.specs.declared.Answer.{Answer}
 use Rattle.annex.specs.declared.Answer.the-variants.{Accepted, Refused}
 use Rattle.annex.specs.declared.Row.{Row}
+use Rattle.laws.specs.Filling.{sets-append}
 use Rattle.laws.specs.Fronts.{front-all}
 use Rattle.laws.specs.Listed.{spansBy}
 use Rattle.laws.specs.Rows.{Accepts}
@@ -25,13 +26,6 @@ pub length-rows : (rs : List Row) → length (rowsOctets rs) ≡ row-octets * le
 unfolding rowsOctets
 length-rows [] = refl
 length-rows (r ∷ rs) = omega (arith, length-append (rowOctets r) (rowsOctets rs), length-rows rs)
-
--- a run of stores in two
-sets-append : (l : List ℕ) (i : ℕ) (xs ys : List ℕ) → sets l i (xs ++ ys) ≡ sets (sets l i xs) (i + length xs) ys
-sets-append l i [] ys = rw (add-zero i)
-sets-append l i (x ∷ xs) ys =
-    let e : i + suc (length xs) ≡ suc i + length xs = omega arith in
-    rw e (sets-append (set l i x) (suc i) xs ys)
 
 -- ---- stored
 
@@ -57,7 +51,7 @@ module _ {all : List Row} {first : ℕ} {before : List ℕ} where
   left-one x ys at now after l e =
       record {
         ends = omega (arith, l .ends, length-append (rowOctets x) (rowsOctets ys));
-        put = l .put ∙ rw e (sets-append now at (rowOctets x) (rowsOctets ys));
+        put = l .put ∙ rw e (sets-append (rowOctets x) (rowsOctets ys) now at);
         long = rw (e, length-sets now at (rowOctets x)) (l .long);
       }
 
@@ -81,7 +75,7 @@ pub record Listing (m : List ℕ) (room n : ℕ) : Type 0 where
   pub roomy : length (rowsOf m) ≤ room
 
 pub listing : (m : List ℕ) (room n : ℕ) → spansOf m room ≡ Accepted n → Listing m room n
-unfolding spansOf
+unfolding messageSpansBy
 listing m room n e = go (verdictOf m) (ltb room (length (rowsOf m))) refl (ltb-false room (length (rowsOf m))) e
   where
     go : (a : Answer) (b : Bool) → verdictOf m ≡ a → (b ≡ false → length (rowsOf m) ≤ room) → spansBy a b m ≡ Accepted n → Listing m room n

@@ -8,7 +8,7 @@ use mathlib.Core.List.{List, [], _∷_, _++_, append-assoc}
 use lib.ListN.{length, take, drop, length-append}
 use lib.Seq.{take-append-add, take-append-seam, drop-append-add, drop-drop}
 use Rattle.annex.specs.Units.{nameOf, leadOf, extentOf, contentsIn}
-use Rattle.annex.specs.Heads.{transfer-data}
+use Rattle.annex.specs.Heads.{transfer-data, oftenOf}
 use Rattle.annex.specs.Items.{Item, Part}
 use Rattle.annex.specs.Layout.{layoutItem, layoutItems, layout}
 use Rattle.annex.specs.Allowed.{every, timesIn, isOctet, itemsIn, namesOf, Allowed}
@@ -26,7 +26,7 @@ use Rattle.theorems.specs.Reasons.{NewRight, edit-taken}
 use Rattle.theorems.specs.Edits.{OfOctets, new-read, changed, items-edited, data-edited, message-allowed, edited-allowed}
 use Rattle.theorems.specs.Buffers.{buffer-edited}
 use Rattle.theorems.specs.Splices.{layout-one, layout-with}
-use Rattle.theorems.specs.Undone.{timesOf}
+use Rattle.theorems.specs.Undone.{timesOf, none-before}
 
 -- ---- in any allowed record
 
@@ -86,3 +86,10 @@ module _ (new d : List ℕ) (n k : ℕ) (o : every isOctet d ≡ true) (p : ever
       let is = itemsIn (recordOf (take n d)) in
       let right = edit-taken (Appending new) d n k a .0 .right in
       new-found (Appending new) p a (right .0) (timesOf new is) is [] refl refl
+
+  -- of a name that may stand once, it is the first
+  pub appended-found-once : oftenOf (nameOf (newHeader new)) ≡ 1 → editingOf (Appending new) d n ≡ Accepted k →
+      let now = take k (bufferOf (Appending new) d n) in
+      findPart now (transferFound (nameOf (newHeader new)) 0 now) ≡ contentsIn (extentOf (newHeader new)) (newAfter new)
+  appended-found-once one a =
+      rw (none-before new (itemsIn (recordOf (take n d))) (edit-taken (Appending new) d n k a .0 .right) one) at (appended-found a)

@@ -105,3 +105,12 @@ module _ (new : List ℕ) where
       let long : length (layout (editedIn removing d′ k)) ≡ n = rw (e, m .1) (length-take-le n d (t .within)) in
       let accepted : editingOf removing d′ k ≡ Accepted n = rw long at (edit-accepts removing d′ k (back-free d n k o p a h e)) in
       (accepted, buffer-edited removing d′ k n (h .octets) tt accepted .message ∙ ap layout e ∙ m .1)
+
+  -- of a name that may stand once, it is the first
+  pub append-removed-once : (d : List ℕ) (n k : ℕ) → every isOctet d ≡ true → every isOctet new ≡ true
+      → oftenOf (nameOf (newHeader new)) ≡ 1 → editingOf (Appending new) d n ≡ Accepted k →
+      let removing = Removing (nameOf (newHeader new)) 0 in
+      (editingOf removing (bufferOf (Appending new) d n) k ≡ Accepted n)
+      × (take n (bufferOf removing (bufferOf (Appending new) d n) k) ≡ take n d)
+  append-removed-once d n k o p one a =
+      rw (none-before new (itemsIn (recordOf (take n d))) (edit-taken appended d n k a .0 .right) one) at (append-removed d n k o p a)

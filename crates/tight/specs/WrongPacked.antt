@@ -16,7 +16,7 @@ use Rattle.annex.specs.Reading.{octetAllowed, commonForm, endOf, dataBy, common
 use Rattle.annex.specs.Records.{pad, valuesOf, pack, viewItems, lengthsOf, transfersSum, viewParts, isWhole, view}
 use Rattle.annex.specs.Writing.{partWriting, partsWriting, overLimits, recordWriting, structWriting, writingOf}
 use Rattle.annex.specs.Image.{imageItem, imageItems, imagePart, imageParts, imageOf, imagingOf, imagedIn, itemsFront, partsFront, isWithin, imagedOf}
-use Rattle.annex.specs.Spans.{commonRows, rowsOf, spansOf}
+use Rattle.annex.specs.Spans.{commonRowsBy, messageRowsBy, messageSpansBy}
 use Rattle.annex.specs.Editing.{Edit, editingOf}
 use Rattle.annex.specs.Editing.Edit.{Removing}
 use Rattle.annex.specs.Classes.{classOf}
@@ -26,6 +26,7 @@ use Rattle.annex.specs.Promises.{
   FromImagePromise,
   TkReadPromise,
   TkWritePromise,
+  OctetSpansPromise,
   TkRowsPromise,
   TkFindCommonPromise,
   TkFindTransferPromise,
@@ -70,7 +71,7 @@ record SaidPacked : Type 0 where
   no-list : classOf 0x01 1 ≡ classes.Refused 17 0
 
 said-packed : SaidPacked
-unfolding afterOf leadOf commonExtentOf zeroesOf ownOf layoutItem layoutItems layoutPart layout valueRight valueFits walk octetAllowed commonForm endOf dataBy commonBy messageVerdictBy verdictBy commonsBy openCommonBy recordBy pad valuesOf pack viewItems lengthsOf transfersSum viewParts isWhole view partWriting partsWriting overLimits recordWriting structWriting writingOf imageItem imageItems imagePart imageParts imageOf imagingOf imagedIn itemsFront partsFront isWithin imagedOf commonRows rowsOf spansOf classOf imageReading imageRead imageWriting imageWritten rowsOctets octetTable
+unfolding afterOf leadOf commonExtentOf zeroesOf ownOf layoutItem layoutItems layoutPart layout valueRight valueFits walk octetAllowed commonForm endOf dataBy commonBy messageVerdictBy verdictBy commonsBy openCommonBy recordBy pad valuesOf pack viewItems lengthsOf transfersSum viewParts isWhole view partWriting partsWriting overLimits recordWriting structWriting writingOf imageItem imageItems imagePart imageParts imageOf imagingOf imagedIn itemsFront partsFront isWithin imagedOf commonRowsBy messageRowsBy messageSpansBy classOf imageReading imageRead imageWriting imageWritten rowsOctets octetTable
 said-packed =
     record {
       imaging-K = refl;
@@ -145,6 +146,16 @@ pub tk-octets-for-rows : (now : List ℕ) → TkRowsPromise short (lent 14) 3 no
 tk-octets-for-rows now p =
     let z : _≡_ {A = ℕ} 3 (15 * 4294967296) = p .0 ∙ ap packedAnswer (said-packed .rows-short) in
     omega arith
+
+-- octet_spans is shut out for the same: tk_rows packs its answer, and nothing else
+octets-packed : (m table : List ℕ) (r : Answer) (now : List ℕ) → OctetSpansPromise m table r now → TkRowsPromise m table (packedAnswer r) now
+octets-packed m table r now p = (ap packedAnswer (p .0), p .1)
+
+pub octets-length-first : (r : Answer) (now : List ℕ) → at 0 now ≡ 1 → OctetSpansPromise short (lent 16) r now → ⊥
+octets-length-first r now h p = tk-length-first (packedAnswer r) now h (octets-packed short (lent 16) r now p)
+
+pub octets-for-rows : (now : List ℕ) → OctetSpansPromise short (lent 14) (Accepted 3) now → ⊥
+octets-for-rows now p = tk-octets-for-rows now (octets-packed short (lent 14) (Accepted 3) now p)
 
 -- ---- finding: one that tells only where the contents start; one that tells where the header stands; one that gives 16 as the value
 

@@ -11,7 +11,7 @@ use Rattle.annex.specs.Answers.{no-room, numberOf, givenOf, refuse}
 use Rattle.annex.specs.Units.{afterOf, leadOf, commonExtentOf}
 use Rattle.annex.specs.Walk.{walk}
 use Rattle.annex.specs.Reading.{octetAllowed, commonForm, endOf, dataBy, commonBy, messageVerdictBy, verdictBy, commonsBy}
-use Rattle.annex.specs.Spans.{commonRows, rowsOf, noRow, spansOf, tableOf}
+use Rattle.annex.specs.Spans.{rowsOf, noRow, spansOf, tableOf, commonRowsBy, messageRowsBy, messageSpansBy}
 use Rattle.annex.specs.Promises.{SpansPromise}
 use Rattle.annex.specs.Bench.{K}
 use Rattle.annex.specs.declared.Answer.{Answer}
@@ -30,7 +30,7 @@ abbrev pub shortRows : List Row
 shortRows = rowFor 0 0x01 1 ∷ rowFor 2 0x06 1 ∷ rowFor 4 0x00 0 ∷ []
 
 pub short-listed : (room : ℕ) → (rowsOf short ≡ shortRows) × (spansOf short room ≡ refuse (ltb room 3) no-room 0 (Accepted 3))
-unfolding afterOf leadOf commonExtentOf walk octetAllowed commonForm endOf dataBy commonBy messageVerdictBy verdictBy commonsBy commonRows rowsOf spansOf
+unfolding afterOf leadOf commonExtentOf walk octetAllowed commonForm endOf dataBy commonBy messageVerdictBy verdictBy commonsBy commonRowsBy messageRowsBy messageSpansBy
 short-listed room = (refl, refl)
 
 -- an invented row count: any but 3

@@ -14,7 +14,7 @@ use Rattle.annex.specs.Heads.{transfer-data}
 use Rattle.annex.specs.Allowed.{Each}
 use Rattle.annex.specs.Walk.{Par}
 use Rattle.annex.specs.Reading.{verdictOf, dataIn}
-use Rattle.annex.specs.Spans.{transferRows, innerRows, commonRows, rowsOf, noRow, rowsBy}
+use Rattle.annex.specs.Spans.{transferRows, innerRows, commonRows, rowsOf, noRow, rowsBy, commonRowsBy, messageRowsBy}
 use Rattle.annex.specs.declared.Answer.{Answer}
 use Rattle.annex.specs.declared.Answer.the-variants.{Accepted, Refused}
 use Rattle.annex.specs.declared.Extent.{Extent}
@@ -95,11 +95,11 @@ ahead-first m a =
     }
 
 pub rows-first : (m : List ℕ) → Accepts m → rowsFrom m firstCursor ≡ rowsOf m
-unfolding rowsFrom rowsOf transferRows pars
+unfolding rowsFrom messageRowsBy transferRows pars
 rows-first m a = rw (commons-plain faultOf m (a .0) (a .1))
 
 pub rows-none : (m : List ℕ) (c : Cursor) → Ahead m c → length m ≤ c .at → rowsFrom m c ≡ []
-unfolding rowsFrom transferRows commonRows
+unfolding rowsFrom transferRows commonRowsBy
 rows-none m c a h =
     let l : length (take (c .end) m) ≤ c .at = omega (arith, a .ordered, a .within, length-take-le (c .end) m (a .within)) in
     rw (pars-end transferSize (c .at) (c .at) (take (c .end) m) l, pars-end commonSize (c .end) (c .end) m (omega (arith, a .ordered)))

@@ -156,8 +156,8 @@ headThen times p c a =
     a)))
 
 -- a common parameter, its transfer parameters aside: refused, or the place behind it
-abbrev pub headWriting : ℕ → ℕ → Common → Answer
-headWriting times p c = headThen times p c (Accepted (p + headLength (c .header)))
+abbrev pub partHeadWriting : ℕ → ℕ → Common → Answer
+partHeadWriting times p c = headThen times p c (Accepted (p + headLength (c .header)))
 
 part-checked : (times p : ℕ) (c : Common) (is : List Item) → partWriting times p (partFrom c is) ≡ headThen times p c (cond (eqb (c .header) transfer-data) (dataWriting p is) (Accepted (p + headLength (c .header))))
 unfolding partWriting
@@ -169,15 +169,15 @@ part-checked times p c is =
     go false e = ap (λ n. Accepted (p + n)) (ap (λ (l : List ℕ). length l) (plain-laid c is (eqb-false (c .header) transfer-data e)) ∙ length-head c)
 
 -- a common parameter: first without its transfer parameters, then those of C5
-pub part-stepped : (times p : ℕ) (c : Common) (is : List Item) → partWriting times p (partFrom c is) ≡ andThen (headWriting times p c) (λ n. cond (eqb (c .header) transfer-data) (dataWriting p is) (Accepted n))
+pub part-stepped : (times p : ℕ) (c : Common) (is : List Item) → partWriting times p (partFrom c is) ≡ andThen (partHeadWriting times p c) (λ n. cond (eqb (c .header) transfer-data) (dataWriting p is) (Accepted n))
 part-stepped times p c is =
     let f : ℕ → Answer = λ n. cond (eqb (c .header) transfer-data) (dataWriting p is) (Accepted n) in
-    let e : andThen (headWriting times p c) f ≡ headThen times p c (f (p + headLength (c .header))) = simp refuse-then in
+    let e : andThen (partHeadWriting times p c) f ≡ headThen times p c (f (p + headLength (c .header))) = simp refuse-then in
     part-checked times p c is ∙ sym e
 
 -- what an accepted head says
-pub head-passed : (times p : ℕ) (c : Common) (n : ℕ) → headWriting times p c ≡ Accepted n → (times ≡ 0) × (n ≤ p + 4)
-head-passed times p c n e =
+pub part-head-passed : (times p : ℕ) (c : Common) (n : ℕ) → partHeadWriting times p c ≡ Accepted n → (times ≡ 0) × (n ≤ p + 4)
+part-head-passed times p c n e =
     let e₁ = passed (not (among (c .header) commonHeaders)) _ p n _ e in
     let e₂ = passed (ltb 0 times) _ p n _ (e₁ .1) in
     let e₃ = passed (not (octetAllowed (c .header) (c .value))) _ p n _ (e₂ .1) in
@@ -198,16 +198,16 @@ data-passed p is n e =
 
 -- a common parameter with these transfer parameters, first among those from the place p on
 module _ (seen : Seen) (p : ℕ) (c : Common) (is : List Item) (ps : List Part) where
-  parts-told : partsWriting seen p (partFrom c is ∷ ps) ≡ andThen (andThen (headWriting (timesSeen seen (c .header)) p c) (λ n. cond (eqb (c .header) transfer-data) (dataWriting p is) (Accepted n))) (λ q. partsWriting (counted seen (c .header)) q ps)
+  parts-told : partsWriting seen p (partFrom c is ∷ ps) ≡ andThen (andThen (partHeadWriting (timesSeen seen (c .header)) p c) (λ n. cond (eqb (c .header) transfer-data) (dataWriting p is) (Accepted n))) (λ q. partsWriting (counted seen (c .header)) q ps)
   unfolding partsWriting
   parts-told =
       ap (λ (h : ℕ). andThen (partWriting (timesSeen seen h) p (partFrom c is)) (λ q. partsWriting (counted seen h) q ps)) (part-header c is)
       ∙ ap (λ (x : Answer). andThen x (λ q. partsWriting (counted seen (c .header)) q ps)) (part-stepped (timesSeen seen (c .header)) p c is)
 
-  pub head-refused : (k z : ℕ) → headWriting (timesSeen seen (c .header)) p c ≡ Refused k z → partsWriting seen p (partFrom c is ∷ ps) ≡ Refused k z
-  head-refused k z e = parts-told ∙ ap (λ (x : Answer). andThen (andThen x (λ n. cond (eqb (c .header) transfer-data) (dataWriting p is) (Accepted n))) (λ q. partsWriting (counted seen (c .header)) q ps)) e
+  pub part-head-refused : (k z : ℕ) → partHeadWriting (timesSeen seen (c .header)) p c ≡ Refused k z → partsWriting seen p (partFrom c is ∷ ps) ≡ Refused k z
+  part-head-refused k z e = parts-told ∙ ap (λ (x : Answer). andThen (andThen x (λ n. cond (eqb (c .header) transfer-data) (dataWriting p is) (Accepted n))) (λ q. partsWriting (counted seen (c .header)) q ps)) e
 
-  module _ (n : ℕ) (e : headWriting (timesSeen seen (c .header)) p c ≡ Accepted n) where
+  module _ (n : ℕ) (e : partHeadWriting (timesSeen seen (c .header)) p c ≡ Accepted n) where
     after-head : partsWriting seen p (partFrom c is ∷ ps) ≡ andThen (cond (eqb (c .header) transfer-data) (dataWriting p is) (Accepted n)) (λ q. partsWriting (counted seen (c .header)) q ps)
     after-head = parts-told ∙ ap (λ (x : Answer). andThen (andThen x (λ m. cond (eqb (c .header) transfer-data) (dataWriting p is) (Accepted m))) (λ q. partsWriting (counted seen (c .header)) q ps)) e
 

@@ -19,7 +19,7 @@ ghost use Rattle.annex.specs.Walk.{unseen};
 ghost use Rattle.annex.specs.Writing.{itemsWriting, dataWriting, partsWriting};
 ghost use Rattle.writer.specs.Along.{itemsAt, Within, Whole};
 ghost use Rattle.writer.specs.Laying.{headLength};
-ghost use Rattle.writer.specs.Refusing.{placedAt, headFits, headWriting, endWriting};
+ghost use Rattle.writer.specs.Refusing.{placedAt, headFits, partHeadWriting, endWriting};
 
 // A refusal, told at the place p.
 fn placed(a: Answer, p: usize) -> Answer
@@ -116,7 +116,7 @@ pub fn head_len(header: u8) -> usize
 // 2, 3, 5, a number too large for its bits 12, or the place behind it.
 fn head_refusal(times: u8, c: Common, at: usize) -> Answer
     requires { ⌜ at ≤ 4096 ⌝ }
-    ensures { λ r. ⌜ r ≡ headWriting times at c ⌝ }
+    ensures { λ r. ⌜ r ≡ partHeadWriting times at c ⌝ }
 {
     let header = c.header;
     if header == Common::END_MARK {

@@ -10,7 +10,7 @@ use Rattle.annex.specs.Walk.{unseen, timesSeen}
 use Rattle.annex.specs.Writing.{partsWriting}
 use Rattle.annex.specs.declared.Answer.the-variants.{Accepted}
 use Rattle.writer.specs.Along.{commonAt, partsAt, transfersAt, parts-start, parts-next, parts-end, plain-turn, DataTurn, data-turn, length-mapped}
-use Rattle.writer.specs.Refusing.{headWriting, head-passed, data-passed, head-refused, plain-accepted, data-refused, data-accepted, parts-over}
+use Rattle.writer.specs.Refusing.{partHeadWriting, part-head-passed, data-passed, part-head-refused, plain-accepted, data-refused, data-accepted, parts-over}
 use Rattle.writer.proofs.refusing.parts_refusal.Statement.{statement}
 use Rattle.writer.proofs.refusing.parts_refusal.Tie as tie
 
@@ -55,13 +55,13 @@ returns c =
     let k = a .loop .k in
     let e = c .enum-told .given .1 in
     rw e (sym (a .loop .inv .3 ∙ rw (parts-next q k (i .loop-test .taken) (long a) (a .loop .first))
-    (head-refused (a .loop .seen) (a .loop .at) (commonAt q k) _ _ _ _ (sym (r .head-refusal .ensures) ∙ e))))
+    (part-head-refused (a .loop .seen) (a .loop .at) (commonAt q k) _ _ _ _ (sym (r .head-refusal .ensures) ∙ e))))
 
 -- the head is accepted
 taken : (c : tie.After-known-told Inv-loop μ-loop) →
     let a = c .before .before .before .before .before .before .before in
     let h = commonAt (a .before .args .t1) (a .loop .k) in
-    headWriting (timesSeen (a .loop .seen) (h .header)) (a .loop .at) h ≡ Accepted (c .before .a .given .0 .0)
+    partHeadWriting (timesSeen (a .loop .seen) (h .header)) (a .loop .at) h ≡ Accepted (c .before .a .given .0 .0)
 taken c = sym (c .before .before .before .head-refusal .ensures) ∙ c .before .a .given .1
 
 head-taken : (c : tie.After-known-told Inv-loop μ-loop) →
@@ -69,7 +69,7 @@ head-taken : (c : tie.After-known-told Inv-loop μ-loop) →
     (timesSeen (a .loop .seen) (commonAt (a .before .args .t1) (a .loop .k) .header) ≡ 0) × (c .before .a .given .0 .0 ≤ a .loop .at + 4)
 head-taken c =
     let a = c .before .before .before .before .before .before .before in
-    head-passed _ _ (commonAt (a .before .args .t1) (a .loop .k)) _ (taken c)
+    part-head-passed _ _ (commonAt (a .before .args .t1) (a .loop .k)) _ (taken c)
 
 add-seen : tie.Need-add-seen Inv-loop μ-loop
 add-seen c = omega (arith, head-taken c .0)
