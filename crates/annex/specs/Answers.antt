@@ -147,9 +147,13 @@ abbrev pub soundThen : (ℕ → ℕ → ℕ) → Fault → Answer → Answer
 soundThen place Sound a = a
 soundThen place (Bad k i) a = Refused k (place k i)
 
--- the place of every fault: the header, which stands at p
+-- a fault is told at the header, which stands at p: in writing and in editing
 abbrev pub headerAt : ℕ → ℕ → ℕ → ℕ
 headerAt p k i = p
+
+-- where reading tells it, counted from the header, of contents that start so many octets behind it: at the header too
+abbrev pub readingAt : ℕ → ℕ → ℕ → ℕ
+readingAt start = headerAt 0
 
 -- what follows an accepted step; a refusal is passed on
 abbrev pub andThen : Answer → (ℕ → Answer) → Answer

@@ -20,11 +20,11 @@ use Rattle.annex.specs.Answers.{
   cut-contents,
   refuse,
   soundThen,
-  headerAt,
+  readingAt,
   andThen,
   shifted,
 }
-use Rattle.annex.specs.Units.{nameOf, afterOf, extentOf, commonExtentOf, contentsIn}
+use Rattle.annex.specs.Units.{nameOf, afterOf, leadOf, extentOf, commonExtentOf, contentsIn}
 use Rattle.annex.specs.Heads.{
   advanced-telephony,
   among,
@@ -100,7 +100,7 @@ module _ (rule : Rule) where
       (refuse (not (pliRight h)) other-pli 0
       (refuse (leb (oftenOf (nameOf h)) times) repeated-name 0
       (refuse (ltb (length xs) n) cut-contents 0
-      (soundThen (headerAt 0) (rule h (contentsIn (extentOf h) (take n xs)))
+      (soundThen (readingAt (1 + leadOf (extentOf h))) (rule h (contentsIn (extentOf h) (take n xs)))
       (Accepted n)))))
 
   abbrev pub transferStepBy : Step

@@ -1,49 +1,20 @@
 -- Places and values are below 2^16 in every answer that is packed, so that nothing of it is lost: packed, its number, place and value can be
 -- told again.
-use Prim.Native.Nat.{ℕ, zero, suc, _+_, _-_, _/_, _%_, _≤_, _<_}
+use Prim.Native.Nat.{ℕ, _-_, _/_, _%_, _≤_, _<_}
 use native.Mathlib.Omega.{arith}
 use mathlib.Core.Path.{_≡_, refl}
-use mathlib.Core.Bool.{Bool, true, false, cond, not, _||_}
+use mathlib.Core.Bool.{Bool, true, false, cond, not}
 use mathlib.Core.List.{List, [], _∷_}
-use borrow.Author.Tests.{ltb-false}
 use lib.Dec.{eqb, leb, ltb}
 use lib.ListN.{length, getD, take, drop, length-take, length-drop}
-use Rattle.annex.specs.Answers.{
-  over-limits,
-  unlisted,
-  repeated,
-  cut-short,
-  not-allowed,
-  missing,
-  left-over,
-  unused-name,
-  other-pli,
-  repeated-name,
-  cut-contents,
-  bad-form,
-  transfer-over,
-  no-room,
-  absent,
-  numberOf,
-  placeOf,
-  givenOf,
-  refuse,
-  soundThen,
-  headerAt,
-  andThen,
-  shifted,
-  classValueOf,
-  classPlaceOf,
-  classGivenOf,
-}
-use Rattle.annex.specs.Units.{nameOf, afterOf, leadOf, extentOf, contentsIn, commonExtentOf}
-use Rattle.annex.specs.Heads.{among, listedHeaders, end-mark, transfer-data, most-octets, most-transfer-octets, nameUsed, pliRight, oftenOf, zeroesOf}
+use Rattle.annex.specs.Answers.{unused-name, other-pli, repeated-name, cut-contents, bad-form, transfer-over, no-room, absent, numberOf, placeOf, givenOf, refuse, soundThen, headerAt, andThen, classValueOf, classPlaceOf, classGivenOf}
+use Rattle.annex.specs.Units.{nameOf, afterOf, extentOf, contentsIn}
+use Rattle.annex.specs.Heads.{among, transfer-data, most-octets, most-transfer-octets, nameUsed, pliRight, oftenOf, zeroesOf}
 use Rattle.annex.specs.Contents.{clear, faultOf}
 use Rattle.annex.specs.Items.{Item, Part}
 use Rattle.annex.specs.Layout.{layoutItems, layout}
 use Rattle.annex.specs.Allowed.{every, isOctet, headersOf, itemsIn, namesOf, timesIn}
-use Rattle.annex.specs.Walk.{Seen, unseen, timesSeen, counted, Step, byStep, walk, judging}
-use Rattle.annex.specs.Reading.{transferStep, transfersVerdict, octetAllowed, wholeIn, commonForm, endOf, dataOf, commonStep, commonClose, messageVerdict, verdictOf, recordOf, transferBy, transfersVerdictBy, dataBy, commonBy, messageVerdictBy, verdictBy}
+use Rattle.annex.specs.Reading.{verdictOf, recordOf}
 use Rattle.annex.specs.Packed.{oneNumber, packedAnswer, row-octets, octetSpans}
 use Rattle.annex.specs.Finding.{foundAnswer, foundPart, findAnswer, findPart}
 use Rattle.annex.specs.Spans.{rowsOf, messageSpansBy}
@@ -61,8 +32,9 @@ use Rattle.annex.specs.declared.Class.{Class}
 use Rattle.annex.specs.declared.Class.the-variants.{Named, HeldBack, Spare}
 use Rattle.annex.specs.declared.ClassAnswer.{ClassAnswer}
 use Rattle.annex.specs.declared.ClassAnswer.the-variants as classes
-use Rattle.laws.specs.Bools.{or-right}
 use Rattle.laws.specs.Few.{rows-few}
+use Rattle.laws.specs.Offsets.{fault-within}
+use Rattle.laws.specs.Steps.{place-told, verdict-place}
 use Rattle.laws.specs.Finding.{Inside, plainBy, plain-inside, foundBy, plain-found}
 use Rattle.theorems.specs.Messages.{message-read}
 use Rattle.theorems.specs.Layouts.{laid-then-read}
@@ -113,75 +85,15 @@ place-sound : (place : ℕ → ℕ → ℕ) (f : Fault) (n k : ℕ) → ((j i : 
 place-sound place Sound n k h = omega arith
 place-sound place (Bad j i) n k h = h j i refl
 
-place-cond : (b : Bool) (a c : Answer) (n : ℕ) → placeOf a ≤ n → placeOf c ≤ n → placeOf (cond b a c) ≤ n
-place-cond true a c n h l = h
-place-cond false a c n h l = l
-
-place-shifted : (s : ℕ) (a : Answer) (n : ℕ) → placeOf a ≤ n → placeOf (shifted s a) ≤ s + n
-place-shifted s (Accepted k) n h = omega arith
-place-shifted s (Refused k p) n h = omega arith
-
 -- ---- reading
-
--- a walk whose steps refuse at most c places behind their octets
-module _ (step : Step) (close : Seen → ℕ → Answer) (c : ℕ)
-    (steps : (seen : Seen) (h : ℕ) (xs : List ℕ) → placeOf (step seen h xs) ≤ c + length xs)
-    (closes : (seen : Seen) (p : ℕ) → Upto p (close seen p)) where
-  walk-upto : (xs : List ℕ) (seen : Seen) (k at : ℕ) → Upto (at + length xs + c) (walk (judging step close) seen k at xs)
-  unfolding walk
-  walk-upto [] seen k at = upto-more (close seen at) at (at + 0 + c) (omega arith) (closes seen at)
-  walk-upto (x ∷ xs) seen (suc k) at =
-      upto-more (walk (judging step close) seen k (at + 1) xs) (at + 1 + length xs + c) (at + suc (length xs) + c) (omega arith) (walk-upto xs seen k (at + 1))
-  walk-upto (x ∷ xs) seen zero at = go (step seen x xs) (steps seen x xs) (λ n. walk-upto xs (counted seen x) n (at + 1))
-    where
-      go : (a : Answer) → placeOf a ≤ c + length xs → ((n : ℕ) → Upto (at + 1 + length xs + c) (walk (judging step close) (counted seen x) n (at + 1) xs)) → Upto (at + suc (length xs) + c) (byStep a (λ k q. Refused k (at + q)) (λ n. walk (judging step close) (counted seen x) n (at + 1) xs))
-      go (Accepted n) h ih =
-          upto-more (walk (judging step close) (counted seen x) n (at + 1) xs) (at + 1 + length xs + c) (at + suc (length xs) + c) (omega arith) (ih n)
-      go (Refused k q) h ih = (omega arith, omega arith)
-
-transfer-place : (seen : Seen) (h : ℕ) (xs : List ℕ) → placeOf (transferStep seen h xs) ≤ 0 + length xs
-unfolding transferBy
-transfer-place seen h xs =
-    let n = afterOf (extentOf h) (getD xs 0 0) in
-    let f = faultOf h (contentsIn (extentOf h) (take n xs)) in
-    place-four (not (nameUsed h)) (not (pliRight h)) (leb (oftenOf (nameOf h)) (timesSeen seen h)) (ltb (length xs) n) unused-name other-pli repeated-name cut-contents (0 + length xs) (soundThen (headerAt 0) f (Accepted n)) (place-sound (headerAt 0) f n (0 + length xs) (λ j i e. omega arith))
-
-transfers-upto : (t : List ℕ) → Upto (length t) (transfersVerdict t)
-unfolding transfersVerdictBy
-transfers-upto t =
-    upto-more (walk (judging transferStep (λ seen p. Accepted p)) unseen 0 0 t) (0 + length t + 0) (length t) (omega arith)
-    (walk-upto transferStep (λ seen p. Accepted p) 0 transfer-place (λ seen p. (omega arith, omega arith)) t unseen 0 0)
-
-common-place : (seen : Seen) (h : ℕ) (xs : List ℕ) → placeOf (commonStep seen h xs) ≤ 2 + length xs
-unfolding commonBy commonForm endOf dataBy
-common-place seen h xs =
-    let n = afterOf (commonExtentOf h) (getD xs 0 0) in
-    let most = 2 + length xs in
-    let late = refuse (ltb 0 (length xs)) left-over 1 (Accepted 0) in
-    place-then (commonForm (timesSeen seen h) h xs) (λ k. cond (eqb h end-mark) (endOf (wholeIn seen) xs) (cond (eqb h transfer-data) (dataOf k xs) (Accepted k))) most
-    (place-four (not (among h listedHeaders)) (ltb 0 (timesSeen seen h)) (ltb (length xs) n) (not (octetAllowed h (getD xs 0 0))) unlisted repeated cut-short not-allowed most (Accepted n) (omega arith))
-    (λ k.
-    place-cond (eqb h end-mark) (endOf (wholeIn seen) xs) (cond (eqb h transfer-data) (dataOf k xs) (Accepted k)) most
-    (place-refuse (not (wholeIn seen)) missing 0 most late (omega arith) (place-refuse (ltb 0 (length xs)) left-over 1 most (Accepted 0) (omega arith) (omega arith)))
-    (place-cond (eqb h transfer-data) (dataOf k xs) (Accepted k) most (place-then (shifted 2 (transfersVerdict (contentsIn (commonExtentOf transfer-data) (take k xs)))) (λ _. Accepted k) most (inner k) (λ q. omega arith)) (omega arith)))
-  where
-    inner : (k : ℕ) → placeOf (shifted 2 (transfersVerdict (contentsIn (commonExtentOf transfer-data) (take k xs)))) ≤ 2 + length xs
-    inner k =
-        let t = contentsIn (commonExtentOf transfer-data) (take k xs) in
-        let l : length t ≤ length xs = omega (arith, length-drop (leadOf (commonExtentOf transfer-data)) (take k xs), length-take k xs) in
-        place-shifted 2 (transfersVerdict t) (length xs) (omega (arith, transfers-upto t .0))
 
 -- neither the place nor the length that a verdict tells is over 274
 pub verdict-upto : (m : List ℕ) → Upto 274 (verdictOf m)
-unfolding verdictBy messageVerdictBy
-verdict-upto m = go (eqb (length m) 0 || ltb most-octets (length m)) refl
+verdict-upto m = (place-told 274 (verdictOf m) (verdict-place faultOf fault-within m), go (verdictOf m) refl)
   where
-    go : (b : Bool) → eqb (length m) 0 || ltb most-octets (length m) ≡ b → Upto 274 (refuse b over-limits 0 (messageVerdict m))
-    go true e = (omega arith, omega arith)
-    go false e =
-        let l : length m ≤ most-octets = ltb-false most-octets (length m) (or-right (eqb (length m) 0) (ltb most-octets (length m)) e) in
-        upto-more (messageVerdict m) (0 + length m + 2) 274 (omega arith)
-        (walk-upto commonStep commonClose 2 common-place (λ seen p. upto-refuse (not (ltb 0 (timesSeen seen end-mark))) cut-short p p (Accepted p) (omega arith) (omega arith, omega arith)) m unseen 0 0)
+    go : (a : Answer) → verdictOf m ≡ a → givenOf a ≤ 274
+    go (Accepted n) e = omega (arith, message-read m n e .length-given, message-read m n e .few)
+    go (Refused k p) e = omega arith
 
 -- ---- rows
 

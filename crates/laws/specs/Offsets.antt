@@ -4,26 +4,24 @@ use native.Mathlib.Omega.{arith}
 use mathlib.Core.Path.{_≡_, refl}
 use mathlib.Core.Bool.{Bool, true, false, cond, not, _&&_}
 use mathlib.Core.List.{List, [], _∷_}
-use mathlib.Core.Logic.{_⊎_, inl, inr, ⊎-elim}
+use mathlib.Core.Logic.{_⊎_, inl, inr}
 use borrow.Author.Tests.{ltb-false, eqb-false, not-true}
 use lib.Dec.{eqb, ltb}
 use lib.ListN.{length, getD, drop, length-drop}
-use Rattle.annex.specs.Answers.{bad-form, bad-digit}
-use Rattle.annex.specs.Units.{leadOf, contentsIn}
+use Rattle.annex.specs.Answers.{bad-form, bad-digit, readingAt}
 use Rattle.annex.specs.Heads.{added-calling-number, withheld, zeroesOf, formOf}
 use Rattle.annex.specs.declared.Check.{Check}
 use Rattle.annex.specs.declared.Form.{Form}
 use Rattle.annex.specs.declared.Check.the-variants.{Nothing, Long, Two}
 use Rattle.annex.specs.declared.Form.the-variants.{Checked, Digits, Number, Calling, Generic}
 use Rattle.annex.specs.Digits.{halves, isCode, isDigit, halvesFault, digitsFault}
-use Rattle.annex.specs.Contents.{clear, formedThen, formed, oddOf, presentationOf, countOf, numberFault, callingFault, genericFault, dialledFault, twoFault, checkFault, faultBy, faultOf}
+use Rattle.annex.specs.Contents.{Rule, clear, formedThen, formed, oddOf, presentationOf, countOf, numberFault, callingFault, genericFault, dialledFault, twoFault, checkFault, faultBy, faultOf}
 use Rattle.annex.specs.Items.{Item, contentsBy, heldAs, contentsOf}
 use Rattle.annex.specs.declared.Holding.{Holding}
 use Rattle.annex.specs.declared.Holding.the-variants.{AsContents, AsDigits, AsNumber, AsGeneric}
 use Rattle.annex.specs.Allowed.{every, marksRight, fieldsRight, numberRight, valuesFault, faultAs, faultIn}
 use Rattle.annex.specs.declared.Alphabet.{Alphabet}
 use Rattle.annex.specs.declared.Alphabet.the-variants.{Dialled, Numbered}
-use Rattle.annex.specs.declared.Extent.{Extent}
 use Rattle.annex.specs.declared.Fault.{Fault}
 use Rattle.annex.specs.declared.Fault.the-variants.{Sound, Bad}
 use Rattle.laws.specs.Halves.{length-halves}
@@ -112,10 +110,13 @@ pub fault-within : (h : ℕ) (s : List ℕ) → Within (length s) (faultOf h s)
 unfolding faultOf
 fault-within h s = formed-within (length s) (clear (zeroesOf h) (getD s 0 0)) (faultBy (formOf h) s) (λ t. by-within (formOf h) s)
 
--- told of the octets after a header: counted from the header, the octet of a fault other than 12 is there
-pub octet-there : (e : Extent) (h : ℕ) (own : List ℕ) (k j : ℕ) → faultOf h (contentsIn e own) ≡ Bad k j → (k ≡ bad-form → ⊥) → 1 + leadOf e + j ≤ length own
-octet-there e h own k j f other =
-    ⊎-elim (λ w. absurd (other (w .0))) (λ w. omega (arith, length-drop (leadOf e) own)) (fault-within h (contentsIn e own) .at k j f)
+-- every fault that a rule of contents finds lies so
+abbrev pub RuleWithin : Rule → Type 0
+RuleWithin rule = (h : ℕ) (s : List ℕ) → Within (length s) (rule h s)
+
+-- reading tells a fault at the header or at an octet behind it that is the parameter's own
+pub reading-within : (lead n : ℕ) (f : Fault) → Within n f → (k i : ℕ) → f ≡ Bad k i → readingAt (1 + lead) k i ≤ lead + n
+reading-within lead n f w k i e = omega arith
 
 -- ---- a record's values
 

@@ -1,6 +1,6 @@
 -- Laws of the steps of reading: what an accepted step says, and that its octets, and a refusal's place, lie within what it was handed.
 use mathlib.Core.Path.{_≡_, refl, sym, ap, _∙_}
-use mathlib.Core.Bool.{Bool, true, false, cond, not}
+use mathlib.Core.Bool.{Bool, true, false, cond, not, _||_}
 use mathlib.Core.List.{List, [], _∷_}
 use Prim.Native.Nat.{ℕ, zero, suc, _+_, _-_, _≤_, _<_}
 use native.Mathlib.Omega.{arith}
@@ -8,7 +8,11 @@ use borrow.Author.Tests.{ltb-false, leb-false, not-false}
 use lib.Dec.{eqb, ltb, leb}
 use lib.ListN.{length, getD, take, drop, length-drop, length-take}
 use Rattle.laws.specs.Parts.{from-to}
+use Rattle.laws.specs.Extents.{lead-within}
+use Rattle.laws.specs.Bools.{or-right}
+use Rattle.laws.specs.Offsets.{RuleWithin, reading-within}
 use Rattle.annex.specs.Answers.{
+  over-limits,
   unlisted,
   repeated,
   cut-short,
@@ -19,17 +23,18 @@ use Rattle.annex.specs.Answers.{
   other-pli,
   repeated-name,
   cut-contents,
+  placeOf,
   refuse,
   soundThen,
-  headerAt,
+  readingAt,
   andThen,
   shifted,
 }
 use Rattle.annex.specs.Units.{nameOf, afterOf, leadOf, extentOf, commonExtentOf, contentsIn}
-use Rattle.annex.specs.Heads.{among, listedHeaders, end-mark, transfer-data, nameUsed, pliRight, oftenOf}
+use Rattle.annex.specs.Heads.{among, listedHeaders, end-mark, transfer-data, most-octets, nameUsed, pliRight, oftenOf}
 use Rattle.annex.specs.Contents.{Rule}
-use Rattle.annex.specs.Walk.{Seen, unseen, counted, Step, walk, judging, byStep}
-use Rattle.annex.specs.Reading.{octetAllowed, commonForm, endOf, transferBy, transfersVerdictBy, dataBy, commonBy, transferStepBy}
+use Rattle.annex.specs.Walk.{Seen, unseen, timesSeen, counted, Step, walk, judging, byStep}
+use Rattle.annex.specs.Reading.{octetAllowed, commonForm, endOf, transferBy, transfersVerdictBy, dataBy, commonBy, transferStepBy, commonStepBy, commonClose, wholeIn, messageVerdictBy, verdictBy}
 use Rattle.annex.specs.Writing.{headWriting}
 use Rattle.annex.specs.declared.Answer.{Answer}
 use Rattle.annex.specs.declared.Answer.the-variants.{Accepted, Refused}
@@ -77,14 +82,21 @@ accepted-place l n = record { at = λ k p e. absurd (let z : _≡_ {A = ℕ} 0 1
 pub refused-place : (l k p : ℕ) → p ≤ l → PlaceTo l (Refused k p)
 refused-place l k p h = record { at = λ j q e. let same : p ≡ q = cc in omega arith }
 
+pub refuse-else : (l : ℕ) (b : Bool) (k p : ℕ) (a : Answer) → p ≤ l → (b ≡ false → PlaceTo l a) → PlaceTo l (refuse b k p a)
+refuse-else l true k p a h g = refused-place l k p h
+refuse-else l false k p a h g = g refl
+
 pub refuse-place : (l : ℕ) (b : Bool) (k p : ℕ) (a : Answer) → p ≤ l → PlaceTo l a → PlaceTo l (refuse b k p a)
-refuse-place l true k p a h g = refused-place l k p h
-refuse-place l false k p a h g = g
+refuse-place l b k p a h g = refuse-else l b k p a h (λ _. g)
 
 -- a fault is placed at most at l where its placing says so
 pub sound-place : (l : ℕ) (place : ℕ → ℕ → ℕ) (f : Fault) (a : Answer) → ((k i : ℕ) → f ≡ Bad k i → place k i ≤ l) → PlaceTo l a → PlaceTo l (soundThen place f a)
 sound-place l place Sound a h g = g
 sound-place l place (Bad k i) a h g = refused-place l k (place k i) (h k i refl)
+
+pub place-told : (l : ℕ) (a : Answer) → PlaceTo l a → placeOf a ≤ l
+place-told l (Accepted n) g = omega arith
+place-told l (Refused k p) g = g .at k p refl
 
 pub place-up : (l m : ℕ) (a : Answer) → l ≤ m → PlaceTo l a → PlaceTo m a
 place-up l m a h g = record { at = λ k p e. omega (arith, g .at k p e) }
@@ -144,6 +156,9 @@ end-place whole xs =
     let last = refuse-place 1 (ltb 0 (length xs)) left-over 1 (Accepted 0) (omega arith) (accepted-place 1 0) in
     refuse-place 1 (not whole) missing 0 _ (omega arith) last
 
+close-place : (seen : Seen) (p : ℕ) → PlaceTo (p + 2) (commonClose seen p)
+close-place seen p = refuse-place (p + 2) (not (ltb 0 (timesSeen seen end-mark))) cut-short p (Accepted p) (omega arith) (accepted-place (p + 2) p)
+
 behind-data : (n : ℕ) (xs : List ℕ) → n ≤ length xs → length (contentsIn (commonExtentOf transfer-data) (take n xs)) ≤ length xs
 unfolding commonExtentOf leadOf
 behind-data n xs h = simp (length-drop, length-take) (omega arith)
@@ -181,7 +196,7 @@ module _ (rule : Rule) where
       let e₂ = passed (not (pliRight h)) _ 0 n _ (e₁ .1) in
       let e₃ = passed (leb (oftenOf (nameOf h)) times) _ 0 n _ (e₂ .1) in
       let e₄ = passed (ltb (length xs) l) _ 0 n _ (e₃ .1) in
-      let e₅ = sounded (headerAt 0) (rule h (contentsIn (extentOf h) (take l xs))) n (Accepted l) (e₄ .1) in
+      let e₅ = sounded (readingAt (1 + leadOf (extentOf h))) (rule h (contentsIn (extentOf h) (take l xs))) n (Accepted l) (e₄ .1) in
       let same : l ≡ n = cc in
       record {
         used = not-false (nameUsed h) (e₁ .0);
@@ -191,27 +206,6 @@ module _ (rule : Rule) where
         within = omega (arith, ltb-false (length xs) l (e₄ .0));
         sound = rw same at (e₅ .0);
       }
-
-  -- its refusals lie within it
-  pub transfer-place : (times h : ℕ) (xs : List ℕ) → PlaceTo (length xs) (transferBy rule times h xs)
-  unfolding transferBy
-  transfer-place times h xs =
-      let l = length xs in
-      let n = afterOf (extentOf h) (getD xs 0 0) in
-      let sound = sound-place l (headerAt 0) (rule h (contentsIn (extentOf h) (take n xs))) (Accepted n) (λ k i e. omega arith) (accepted-place l n) in
-      let whole = refuse-place l (ltb (length xs) n) cut-contents 0 _ (omega arith) sound in
-      let once = refuse-place l (leb (oftenOf (nameOf h)) times) repeated-name 0 _ (omega arith) whole in
-      let right = refuse-place l (not (pliRight h)) other-pli 0 _ (omega arith) once in
-      refuse-place l (not (nameUsed h)) unused-name 0 _ (omega arith) right
-
-  pub transfers-place : (t : List ℕ) → PlaceTo (length t) (transfersVerdictBy rule t)
-  unfolding transfersVerdictBy
-  transfers-place t =
-      let f : 0 + length t + 0 ≡ length t = omega arith in
-      rw f at
-      (walk-place (transferStepBy rule) (λ seen p. Accepted p) 0
-      (λ seen h xs. place-up (length xs) (length xs + 0) (transferStepBy rule seen h xs) (omega arith) (transfer-place _ h xs))
-      (λ seen p. accepted-place (p + 0) p) t unseen 0 0)
 
   -- what follows 2 to 5
   pub common-formed : (times : ℕ) (whole : Bool) (h : ℕ) (xs : List ℕ) (n : ℕ) → commonForm times h xs ≡ Accepted n → commonBy rule times whole h xs ≡ cond (eqb h end-mark) (endOf whole xs) (cond (eqb h transfer-data) (dataBy rule n xs) (Accepted n))
@@ -228,13 +222,6 @@ module _ (rule : Rule) where
   unfolding dataBy
   data-told n xs = rw (data-part n xs)
 
-  data-place : (n : ℕ) (xs : List ℕ) → n ≤ length xs → PlaceTo (2 + length xs) (dataBy rule n xs)
-  unfolding dataBy
-  data-place n xs h =
-      let t = contentsIn (commonExtentOf transfer-data) (take n xs) in
-      place-up (2 + length t) (2 + length xs) _ (omega (arith, behind-data n xs h))
-      (then-place (2 + length t) n _ (shifted-place (length t) 2 _ (transfers-place t)))
-
   pub data-taken : (n : ℕ) (xs : List ℕ) (k : ℕ) → dataBy rule n xs ≡ Accepted k → (q : ℕ) × (transfersVerdictBy rule (contentsIn (commonExtentOf transfer-data) (take n xs)) ≡ Accepted q) × (k ≡ n)
   unfolding dataBy
   data-taken n xs k e = go (transfersVerdictBy rule (contentsIn (commonExtentOf transfer-data) (take n xs))) refl e
@@ -242,19 +229,6 @@ module _ (rule : Rule) where
       go : (a : Answer) → transfersVerdictBy rule (contentsIn (commonExtentOf transfer-data) (take n xs)) ≡ a → andThen (shifted 2 a) (λ _. Accepted n) ≡ Accepted k → (q : ℕ) × (transfersVerdictBy rule (contentsIn (commonExtentOf transfer-data) (take n xs)) ≡ Accepted q) × (k ≡ n)
       go (Accepted q) f e = (q, f, cc)
       go (Refused j p) f e = absurd (let z : _≡_ {A = ℕ} 0 1 = cc in omega arith)
-
-  pub common-place : (times : ℕ) (whole : Bool) (h : ℕ) (xs : List ℕ) → PlaceTo (length xs + 2) (commonBy rule times whole h xs)
-  common-place times whole h xs = go (commonForm times h xs) refl
-    where
-      byKind : (a b : Bool) (n : ℕ) → n ≤ length xs → PlaceTo (length xs + 2) (cond a (endOf whole xs) (cond b (dataBy rule n xs) (Accepted n)))
-      byKind true b n l = place-up 1 _ _ (omega arith) (end-place whole xs)
-      byKind false true n l = place-up (2 + length xs) _ _ (omega arith) (data-place n xs l)
-      byKind false false n l = accepted-place _ n
-
-      go : (a : Answer) → commonForm times h xs ≡ a → PlaceTo (length xs + 2) (commonBy rule times whole h xs)
-      go (Accepted n) e =
-          rw (common-formed times whole h xs n e) (byKind (eqb h end-mark) (eqb h transfer-data) n (form-taken times h xs n e .within))
-      go (Refused k p) e = rw (common-refused times whole h xs k p e) (refused-place _ k p (omega (arith, form-place times h xs .at k p e)))
 
   -- an accepted common parameter lies within its octets
   pub common-within : (times : ℕ) (whole : Bool) (h : ℕ) (xs : List ℕ) (n : ℕ) → commonBy rule times whole h xs ≡ Accepted n → n ≤ length xs
@@ -285,3 +259,62 @@ module _ (rule : Rule) where
       go : (a : Answer) → commonForm times h xs ≡ a → (k : ℕ) × FormTaken times h xs k × (commonForm times h xs ≡ Accepted k)
       go (Accepted k) f = (k, form-taken times h xs k f, f)
       go (Refused k q) f = absurd (let g = common-refused times whole h xs k q f in let z : _≡_ {A = ℕ} 0 1 = cc in omega arith)
+
+-- ---- places, by a rule whose faults lie within the contents
+
+module _ (rule : Rule) (inside : RuleWithin rule) where
+  -- a transfer parameter's refusals lie within it
+  pub transfer-place : (times h : ℕ) (xs : List ℕ) → PlaceTo (length xs) (transferBy rule times h xs)
+  unfolding transferBy
+  transfer-place times h xs =
+      let l = length xs in
+      let e = extentOf h in
+      let n = afterOf e (getD xs 0 0) in
+      let whole = refuse-else l (ltb l n) cut-contents 0 _ (omega arith) (λ w. sound n (lead-within e (getD xs 0 0)) (ltb-false l n w)) in
+      let once = refuse-place l (leb (oftenOf (nameOf h)) times) repeated-name 0 _ (omega arith) whole in
+      let right = refuse-place l (not (pliRight h)) other-pli 0 _ (omega arith) once in
+      refuse-place l (not (nameUsed h)) unused-name 0 _ (omega arith) right
+    where
+      sound : (n : ℕ) → leadOf (extentOf h) ≤ n → n ≤ length xs → PlaceTo (length xs) (soundThen (readingAt (1 + leadOf (extentOf h))) (rule h (contentsIn (extentOf h) (take n xs))) (Accepted n))
+      sound n front whole =
+          let c = contentsIn (extentOf h) (take n xs) in
+          let lead = leadOf (extentOf h) in
+          let few : lead + length c ≤ length xs = omega (arith, length-drop lead (take n xs), length-take n xs) in
+          sound-place (length xs) (readingAt (1 + lead)) (rule h c) (Accepted n) (λ k i f. omega (arith, reading-within lead (length c) (rule h c) (inside h c) k i f)) (accepted-place (length xs) n)
+
+  pub transfers-place : (t : List ℕ) → PlaceTo (length t) (transfersVerdictBy rule t)
+  unfolding transfersVerdictBy
+  transfers-place t =
+      let f : 0 + length t + 0 ≡ length t = omega arith in
+      rw f at
+      (walk-place (transferStepBy rule) (λ seen p. Accepted p) 0
+      (λ seen h xs. place-up (length xs) (length xs + 0) (transferStepBy rule seen h xs) (omega arith) (transfer-place _ h xs))
+      (λ seen p. accepted-place (p + 0) p) t unseen 0 0)
+
+  data-place : (n : ℕ) (xs : List ℕ) → n ≤ length xs → PlaceTo (2 + length xs) (dataBy rule n xs)
+  unfolding dataBy
+  data-place n xs h =
+      let t = contentsIn (commonExtentOf transfer-data) (take n xs) in
+      place-up (2 + length t) (2 + length xs) _ (omega (arith, behind-data n xs h))
+      (then-place (2 + length t) n _ (shifted-place (length t) 2 _ (transfers-place t)))
+
+  pub common-place : (times : ℕ) (whole : Bool) (h : ℕ) (xs : List ℕ) → PlaceTo (length xs + 2) (commonBy rule times whole h xs)
+  common-place times whole h xs = go (commonForm times h xs) refl
+    where
+      byKind : (a b : Bool) (n : ℕ) → n ≤ length xs → PlaceTo (length xs + 2) (cond a (endOf whole xs) (cond b (dataBy rule n xs) (Accepted n)))
+      byKind true b n l = place-up 1 _ _ (omega arith) (end-place whole xs)
+      byKind false true n l = place-up (2 + length xs) _ _ (omega arith) (data-place n xs l)
+      byKind false false n l = accepted-place _ n
+
+      go : (a : Answer) → commonForm times h xs ≡ a → PlaceTo (length xs + 2) (commonBy rule times whole h xs)
+      go (Accepted n) e =
+          rw (common-formed rule times whole h xs n e) (byKind (eqb h end-mark) (eqb h transfer-data) n (form-taken times h xs n e .within))
+      go (Refused k p) e = rw (common-refused rule times whole h xs k p e) (refused-place _ k p (omega (arith, form-place times h xs .at k p e)))
+
+  -- a verdict's refusal lies at most two octets behind the message
+  pub verdict-place : (m : List ℕ) → PlaceTo (most-octets + 2) (verdictBy rule m)
+  unfolding verdictBy messageVerdictBy
+  verdict-place m =
+      refuse-else (most-octets + 2) (eqb (length m) 0 || ltb most-octets (length m)) over-limits 0 (messageVerdictBy rule m) (omega arith)
+      (λ e. place-up (0 + length m + 2) (most-octets + 2) _ (omega (arith, ltb-false most-octets (length m) (or-right (eqb (length m) 0) _ e)))
+      (walk-place (commonStepBy rule) commonClose 2 (λ seen h xs. common-place (timesSeen seen h) (wholeIn seen) h xs) close-place m unseen 0 0))

@@ -3,6 +3,7 @@ use mathlib.Core.Path.{sym, _∙_}
 use native.Mathlib.Omega.{arith}
 use borrow.Author.Needs.{needs}
 use lib.ListN.{length-take, length-drop}
+use Rattle.laws.specs.Offsets.{fault-within}
 use Rattle.laws.specs.Steps.{transfers-place, data-told}
 use Rattle.reader.proofs.verdict.transfer_data.Statement.{statement}
 use Rattle.reader.proofs.verdict.transfer_data.Tie as tie
@@ -12,7 +13,7 @@ shift-requires : tie.Need-shift-requires
 shift-requires c κs =
     let t = c .before .before in
     let e = c .enum-told2 .given .1 in
-    rw e (omega (arith, simp (length-take, length-drop) at (transfers-place faultOf _ .at _ _ (sym (t .transfers .ensures) ∙ e))))
+    rw e (omega (arith, simp (length-take, length-drop) at (transfers-place faultOf fault-within _ .at _ _ (sym (t .transfers .ensures) ∙ e))))
 
 returns : tie.Need-returns
 returns c =

@@ -12,6 +12,7 @@ use Rattle.annex.specs.declared.Answer.the-variants.{Accepted}
 use Rattle.laws.specs.Often.{few-often}
 use Rattle.laws.specs.Parts.{to-end}
 use Rattle.laws.specs.Walks.{walk-end, walk-refused, walk-accepted}
+use Rattle.laws.specs.Offsets.{fault-within}
 use Rattle.laws.specs.Steps.{TransferTaken, transfer-taken, transfer-place}
 use Rattle.annex.specs.declared.Answer.{Answer}
 use Rattle.annex.specs.Contents.{faultOf}
@@ -42,7 +43,7 @@ shift-requires : tie.Need-shift-requires Inv-loop μ-loop
 shift-requires c κs =
     let t = c .before .before in
     let e = c .enum-told .given .1 in
-    rw e (omega (arith, simp length-drop at (transfer-place faultOf _ _ _ .at _ _ (step-is t ∙ e))))
+    rw e (omega (arith, simp length-drop at (transfer-place faultOf fault-within _ _ _ .at _ _ (step-is t ∙ e))))
 
 returns : tie.Need-returns Inv-loop μ-loop
 returns c =
