@@ -67,11 +67,11 @@ SpansPromise m table r now = (r ≡ spansOf m (length table)) × (now ≡ tableO
 abbrev pub OctetSpansPromise : List ℕ → List ℕ → Answer → List ℕ → Type 0
 OctetSpansPromise m table r now = (r ≡ octetSpans m (length table)) × (now ≡ octetTable m table)
 
--- writer::writing::write
+-- writer::write
 abbrev pub WritePromise : Record → List ℕ → Answer → List ℕ → Type 0
 WritePromise s room r now = (r ≡ writingOf s (length room)) × (now ≡ writtenOf s room)
 
--- writer::refusing::record_refusal
+-- refusing::record_refusal
 abbrev pub RecordRefusalPromise : Record → Answer → Type 0
 RecordRefusalPromise s r = r ≡ structWriting s
 
@@ -85,11 +85,11 @@ ClassPromise h x r = r ≡ classOf h x
 
 -- ---- a record's image
 
--- image::laying::to_image
+-- to_image::to_image
 abbrev pub ToImagePromise : Record → List ℕ → Answer → List ℕ → Type 0
 ToImagePromise s room r now = (r ≡ imagingOf s (length room)) × (now ≡ imagedIn s room)
 
--- image::reading::from_image
+-- from_image::from_image
 abbrev pub FromImagePromise : List ℕ → Imaged → Type 0
 FromImagePromise image r = r ≡ imagedOf image
 

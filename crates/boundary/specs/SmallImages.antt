@@ -67,7 +67,7 @@ use Rattle.annex.specs.declared.Record.{Record}
 use Rattle.laws.specs.Laid.{length-layout, lead-small}
 use Rattle.theorems.specs.Messages.{read-then-laid}
 use Rattle.theorems.specs.Records.{layout-append, allowed-within}
-use Rattle.image.specs.Octets.{items-long, parts-long}
+use Rattle.to_image.specs.Octets.{items-long, parts-long}
 use Rattle.boundary.specs.Small.{Upto, upto-more, upto-refuse, upto-then, verdict-upto}
 
 -- ---- read to an image

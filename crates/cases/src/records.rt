@@ -3,8 +3,8 @@ use super::MOST;
 use super::printing::print_outcome;
 use annex::Common;
 use annex::Record;
-use image::reading::from_image;
-use writer::writing::write;
+use from_image::from_image;
+use writer::write;
 
 // what the room holds before
 const BEFORE: u8 = 0xEE;

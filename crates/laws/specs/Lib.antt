@@ -6,6 +6,8 @@ pub mod Parts
 pub mod Stores
 pub mod Fronts
 pub mod Written
+pub mod Rooms
+pub mod Fields
 pub mod Octet
 -- of one transfer parameter, up to its two laws in Leaves:
 pub mod Extents

@@ -11,6 +11,7 @@ pub mod Messages
 pub mod Layouts
 pub mod Rounds
 pub mod Views
+pub mod Images
 pub mod Writings
 pub mod Named
 pub mod Parted

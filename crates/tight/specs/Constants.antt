@@ -38,9 +38,9 @@ use Rattle.heads.specs.Asked.{askedOf}
 use Rattle.parameter.specs.Opening.{headFor, openedHead}
 use Rattle.walk.specs.Stretches.{stretchAt}
 use Rattle.walk.specs.Cursors.{cursorTo, stretchHere, rowHere, nextOf}
-use Rattle.writer.specs.Along.{usedAt}
-use Rattle.writer.specs.Laying.{headLength}
-use Rattle.writer.specs.Limits.{isOver}
+use Rattle.limits.specs.Along.{usedAt}
+use Rattle.refusing.specs.Laying.{headLength}
+use Rattle.limits.specs.Limits.{isOver}
 use Rattle.tight.specs.Wrong.{short}
 
 -- whatever number tells two answers apart

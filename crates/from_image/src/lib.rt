@@ -1,0 +1,203 @@
+// A record from its image: the struct is filled parameter by parameter, as far as the octets are a whole record within the limits.
+use annex::Answer;
+use annex::Common;
+use annex::Imaged;
+use annex::Record;
+use annex::Transfer;
+use parameter::opening::open_contents;
+use reader::reading::empty;
+ghost use mathlib.Core.Path.{_≡_};
+ghost use Prim.Native.Nat.{_≤_};
+ghost use lib.ListN.{length};
+ghost use Rattle.annex.specs.Heads.{most-transfers};
+ghost use Rattle.annex.specs.Image.{headFront, itemsFront, commonFront, partsFront, noImage, imagedBy};
+ghost use Rattle.annex.specs.Promises.{FromImagePromise};
+ghost use Rattle.from_image.specs.Filling.{fitsAt, unfilled, filledBy};
+
+// A record's struct, how many of its transfer parameters and values are filled in, and how many octets were read; or not whole, and empty.
+struct Filled {
+    whole: bool,
+    held: Record,
+    transfers: usize,
+    used: usize,
+    octets: usize,
+}
+
+impl Filled {
+    fn none() -> Filled
+        ensures { λ r. ⌜ r ≡ unfilled ⌝ }
+    {
+        let none = empty();
+        Filled {
+            whole: false,
+            held: none,
+            transfers: 0,
+            used: 0,
+            octets: 0,
+        }
+    }
+}
+
+// No record.
+fn refused() -> Imaged
+    ensures { λ r. ⌜ r ≡ noImage ⌝ }
+{
+    let none = empty();
+    Imaged {
+        answer: Answer::Refused(Answer::OVER_LIMITS, 0),
+        held: none,
+    }
+}
+
+// The head of the transfer parameter at the front.
+fn transfer_head(s: &[u8]) -> Transfer
+    requires { ⌜ 11 ≤ length (now s) ⌝ }
+    ensures { λ r. ⌜ r ≡ headFront (now (s .entry)) ⌝ }
+{
+    let low = s[9] as u16;
+    let high = s[10] as u16;
+    let len = low + 256 * high;
+    Transfer {
+        header: s[0],
+        notification: s[1],
+        verification: s[2],
+        dialling: s[3],
+        number_type: s[4],
+        incomplete: s[5],
+        plan: s[6],
+        presentation: s[7],
+        screening: s[8],
+        len: len,
+    }
+}
+
+// Whether the transfer parameter at the front is whole, and has room in the array after k others, and room for its values after the used ones.
+fn takes(s: &[u8], k: usize, used: usize) -> bool
+    requires { ⌜ used ≤ 512 ⌝ }
+    ensures { λ r. ⌜ r ≡ fitsAt (now (s .entry)) k used ⌝ }
+{
+    if s.len() < Imaged::TRANSFER_HEAD {
+        return false;
+    }
+    let n = transfer_head(s).len as usize;
+    if s.len() - Imaged::TRANSFER_HEAD < n {
+        return false;
+    }
+    if Transfer::MOST <= k {
+        return false;
+    }
+    if Transfer::MOST_VALUES - used < n {
+        return false;
+    }
+    true
+}
+
+// So many transfer parameters at the front, put into the struct behind those that it has.
+fn with_transfers(begun: Record, s: &[u8], count: usize, transfers: usize, taken: usize) -> Filled
+    requires { ⌜ (transfers ≤ most-transfers) × (taken ≤ 512) ⌝ }
+    ensures { λ r. ⌜ r ≡ filledBy begun transfers taken 0 (itemsFront count (now (s .entry))) ⌝ }
+{
+    let mut q = begun;
+    let mut k = transfers;
+    let mut used = taken;
+    let mut i: usize = 0;
+    let mut left = count;
+    while 0 < left {
+        if !takes(&s[i..], k, used) {
+            return Filled::none();
+        }
+        let t = transfer_head(&s[i..]);
+        let from = i + Imaged::TRANSFER_HEAD;
+        let to = from + t.len as usize;
+        open_contents(t.header, &s[from..to], &mut q.values, used);
+        q.transfer[k] = t;
+        k += 1;
+        used += t.len as usize;
+        i = to;
+        left -= 1;
+    }
+    Filled {
+        whole: true,
+        held: q,
+        transfers: k,
+        used: used,
+        octets: i,
+    }
+}
+
+// The head of the common parameter at the front.
+fn common_head(s: &[u8]) -> Common
+    requires { ⌜ 6 ≤ length (now s) ⌝ }
+    ensures { λ r. ⌜ r ≡ commonFront (now (s .entry)) ⌝ }
+{
+    let header = s[0];
+    let first = s[1] as u32;
+    let second = s[2] as u32;
+    let third = s[3] as u32;
+    let fourth = s[4] as u32;
+    let value = first + 256 * second + 65536 * third + 16777216 * fourth;
+    if header == Common::TRANSFER_DATA {
+        return Common {
+            header: header,
+            value: value,
+            transfers: s[5],
+        };
+    }
+    Common {
+        header: header,
+        value: value,
+        transfers: 0,
+    }
+}
+
+// The record of so many common parameters, which are to take all octets.
+fn fill(s: &[u8], count: usize) -> Imaged
+    ensures { λ r. ⌜ r ≡ imagedBy (length (now (s .entry))) (partsFront count (now (s .entry))) ⌝ }
+{
+    let mut q = empty();
+    let mut transfers: usize = 0;
+    let mut used: usize = 0;
+    let mut i: usize = 0;
+    let mut left = count;
+    while 0 < left {
+        let k = q.commons as usize;
+        if Common::MOST <= k {
+            return refused();
+        }
+        if s.len() - i < Imaged::COMMON_HEAD {
+            return refused();
+        }
+        let c = common_head(&s[i..]);
+        let from = i + Imaged::COMMON_HEAD;
+        let f = with_transfers(q, &s[from..], c.transfers as usize, transfers, used);
+        if !f.whole {
+            return refused();
+        }
+        q = f.held;
+        transfers = f.transfers;
+        used = f.used;
+        q.common[k] = c;
+        q.commons = (k + 1) as u8;
+        i = from + f.octets;
+        left -= 1;
+    }
+    if i != s.len() {
+        return refused();
+    }
+    let given = q.commons as usize;
+    Imaged {
+        answer: Answer::Accepted(given),
+        held: q,
+    }
+}
+
+// The record of an image; where it is no whole record, has octets left over or is over the limits, 1 at 0 and the empty record.
+pub fn from_image(image: &[u8]) -> Imaged
+    ensures { λ r. ⌜ FromImagePromise (now (image .entry)) r ⌝ }
+{
+    if image.len() == 0 {
+        return refused();
+    }
+    let count = image[0] as usize;
+    fill(&image[1..], count)
+}

@@ -1,0 +1,229 @@
+-- The steps of refusing a record, as the code takes them: a transfer parameter is judged at place 0, and a common parameter without its
+-- transfer parameters first.
+use Prim.Native.Nat.{ℕ, _+_, _-_, _≤_, _<_}
+use native.Mathlib.Omega.{arith}
+use mathlib.Core.Path.{_≡_, refl, sym, ap, _∙_}
+use mathlib.Core.Bool.{Bool, true, false, cond, not, _&&_}
+use mathlib.Core.List.{List, [], _∷_}
+use borrow.Author.Tests.{ltb-true, ltb-false, eq-eqb, ne-eqb, eqb-true, eqb-false, leb-false, not-false}
+use lib.Dec.{eqb, leb, ltb}
+use lib.ListN.{length, length-append}
+use Rattle.annex.specs.Answers.{unlisted, repeated, not-allowed, missing, bad-form, transfer-over, refuse, headerAt, andThen}
+use Rattle.annex.specs.Units.{nameOf, extentOf}
+use Rattle.annex.specs.Heads.{among, commonHeaders, user-class, signal-kind, signalKinds, sequence, transfer-data, isCall, call-number-below, most-transfer-octets, nameUsed, pliRight, oftenOf}
+use Rattle.annex.specs.Items.{Item, Part}
+use Rattle.annex.specs.Layout.{layoutItem, layoutItems, layoutPart}
+use Rattle.annex.specs.Allowed.{every, isOctet, lengthRight, faultIn, valueRight, valueFits}
+use Rattle.annex.specs.Walk.{Seen, unseen, timesSeen, counted}
+use Rattle.annex.specs.Reading.{octetAllowed}
+use Rattle.annex.specs.Writing.{itemWriting, itemsWriting, dataWriting, partWriting, partsWriting}
+use Rattle.annex.specs.declared.Answer.{Answer}
+use Rattle.annex.specs.declared.Answer.the-variants.{Accepted, Refused}
+use Rattle.annex.specs.declared.Common.{Common}
+use Rattle.laws.specs.Bools.{and-left, and-right}
+use Rattle.laws.specs.Steps.{passed, then-passed, sounded, PlaceTo, accepted-place, refuse-place, sound-place, refuse-then}
+use Rattle.laws.specs.Places.{farther, item-from}
+use Rattle.laws.specs.Laid.{length-layout, lead-small, length-small}
+use Rattle.limits.specs.Along.{partFrom}
+use Rattle.refusing.specs.Laying.{headLength, head-long, length-head, plain-laid}
+
+-- ---- a transfer parameter
+
+-- a refusal, told at the place p
+abbrev pub placedAt : ℕ → Answer → Answer
+placedAt p (Accepted n) = Accepted n
+placedAt p (Refused k q) = Refused k p
+
+-- what an accepted one says
+pub record ItemPassed (times p : ℕ) (i : Item) (n : ℕ) : Type 0 where
+  pub fewer : times < oftenOf (nameOf (i .header))
+  pub behind : n ≡ p + length (layoutItem i)
+  pub short : length (layoutItem i) ≤ 257
+
+pub item-passed : (times p : ℕ) (i : Item) (n : ℕ) → itemWriting times p i ≡ Accepted n → ItemPassed times p i n
+unfolding itemWriting
+item-passed times p i n e =
+    let e₁ = passed (not (nameUsed (i .header))) _ p n _ e in
+    let e₂ = passed (not (pliRight (i .header))) _ p n _ (e₁ .1) in
+    let e₃ = passed (leb (oftenOf (nameOf (i .header))) times) _ p n _ (e₂ .1) in
+    let e₄ = passed (not (lengthRight i)) _ p n _ (e₃ .1) in
+    let e₅ = sounded (headerAt p) (faultIn i) n (Accepted (p + length (layoutItem i))) (e₄ .1) in
+    let same : p + length (layoutItem i) ≡ n = cc in
+    record {
+      fewer = leb-false _ _ (e₃ .0);
+      behind = sym same;
+      short = omega (arith, length-layout i, lead-small (extentOf (i .header)), length-small i (not-false _ (e₄ .0)));
+    }
+
+-- it is refused at its header
+item-place : (times : ℕ) (i : Item) → PlaceTo 0 (itemWriting times 0 i)
+unfolding itemWriting
+item-place times i =
+    refuse-place 0 (not (nameUsed (i .header))) _ 0 _ (omega arith)
+    (refuse-place 0 (not (pliRight (i .header))) _ 0 _ (omega arith)
+    (refuse-place 0 (leb (oftenOf (nameOf (i .header))) times) _ 0 _ (omega arith)
+    (refuse-place 0 (not (lengthRight i)) _ 0 _ (omega arith)
+    (sound-place 0 (headerAt 0) (faultIn i) (Accepted (0 + length (layoutItem i))) (λ k j e. omega arith) (accepted-place 0 (0 + length (layoutItem i)))))))
+
+-- a parameter with the header h, judged at place 0, first among those from the place p on
+module _ (seen : Seen) (p h : ℕ) (i : Item) (is : List Item) (a : Answer) (same : i .header ≡ h) (e : itemWriting (timesSeen seen h) 0 i ≡ a) where
+  told : itemsWriting seen p (i ∷ is) ≡ andThen (farther p a) (λ q. itemsWriting (counted seen h) q is)
+  unfolding itemsWriting
+  told =
+      ap (λ (x : ℕ). andThen (itemWriting (timesSeen seen x) p i) (λ q. itemsWriting (counted seen x) q is)) same
+      ∙ ap (λ (x : Answer). andThen x (λ q. itemsWriting (counted seen h) q is)) (item-from (timesSeen seen h) p i ∙ ap (farther p) e)
+
+  pub items-refused : (k z : ℕ) → a ≡ Refused k z → itemsWriting seen p (i ∷ is) ≡ Refused k p
+  items-refused k z r =
+      let none : z ≡ 0 = omega (arith, item-place (timesSeen seen h) i .at k z (e ∙ r)) in
+      let here : p + z ≡ p = omega arith in
+      rw (told, r) (ap (Refused k) here)
+
+  pub items-accepted : (n : ℕ) → a ≡ Accepted n → itemsWriting seen p (i ∷ is) ≡ itemsWriting (counted seen h) (p + n) is
+  items-accepted n r = rw (told, r)
+
+pub items-over : (seen : Seen) (p : ℕ) → itemsWriting seen p [] ≡ Accepted p
+unfolding itemsWriting
+items-over seen p = refl
+
+-- the place behind accepted ones
+pub items-behind : (is : List Item) (seen : Seen) (p n : ℕ) → itemsWriting seen p is ≡ Accepted n → n ≡ p + length (layoutItems is)
+unfolding itemsWriting layoutItems
+items-behind [] seen p n e = let same : p ≡ n = cc in omega arith
+items-behind (i ∷ is) seen p n e =
+    let k = i .header in
+    let t = then-passed (itemWriting (timesSeen seen k) p i) (λ q. itemsWriting (counted seen k) q is) n e in
+    let w = item-passed (timesSeen seen k) p i (t .0) (t .1) in
+    simp length-append (omega (arith, w .behind, items-behind is (counted seen k) (t .0) n (t .2)))
+
+-- ---- a common parameter
+
+-- what is no octet is neither the user class nor a signal kind
+among-over : (ks : List ℕ) → every isOctet ks ≡ true → (v : ℕ) → 256 ≤ v → among v ks ≡ false
+among-over [] o v h = refl
+among-over (k ∷ ks) o v h =
+    let small = ltb-true k 256 (and-left (isOctet k) _ o) in
+    rw (ne-eqb v k (λ e. omega arith)) (among-over ks (and-right (isOctet k) _ o) v h)
+
+pub class-over : (v : ℕ) → 256 ≤ v → octetAllowed user-class v ≡ false
+unfolding octetAllowed
+class-over v h = ne-eqb v 0x01 (λ e. omega arith)
+
+pub octet-over : (h v : ℕ) → 256 ≤ v → (h ≡ user-class → ⊥) → octetAllowed h v ≡ not (eqb h signal-kind)
+unfolding octetAllowed
+octet-over h v o u = rw (ne-eqb h user-class u, among-over signalKinds refl v o) (go (eqb h signal-kind))
+  where
+    go : (b : Bool) → cond b false true ≡ not b
+    go true = refl
+    go false = refl
+
+-- by its head: 04 one octet, call numbers 24 bits
+abbrev pub headFits : Common → Bool
+headFits c = cond (eqb (c .header) sequence) (isOctet (c .value)) (cond (isCall (c .header)) (ltb (c .value) call-number-below) true)
+
+module _ (c : Common) (is : List Item) where
+  pub part-header : partFrom c is .header ≡ c .header
+  part-header = go (eqb (c .header) transfer-data) refl
+    where
+      go : (b : Bool) → eqb (c .header) transfer-data ≡ b → partFrom c is .header ≡ c .header
+      go true e = rw e
+      go false e = rw e
+
+  -- C5 has no value
+  part-right : valueRight (partFrom c is) ≡ octetAllowed (c .header) (c .value)
+  unfolding valueRight octetAllowed
+  part-right = go (eqb (c .header) transfer-data) refl
+    where
+      go : (b : Bool) → eqb (c .header) transfer-data ≡ b → valueRight (partFrom c is) ≡ octetAllowed (c .header) (c .value)
+      go true e = rw (e, eqb-true (c .header) transfer-data e)
+      go false e = rw e
+
+  part-fits : valueFits (partFrom c is) ≡ headFits c
+  unfolding valueFits
+  part-fits = go (eqb (c .header) transfer-data) refl
+    where
+      go : (b : Bool) → eqb (c .header) transfer-data ≡ b → valueFits (partFrom c is) ≡ headFits c
+      go true e = rw (e, eqb-true (c .header) transfer-data e)
+      go false e = rw e
+
+-- the tests of a common parameter, 2, 3, 5 and 12, before what then follows
+abbrev headThen : ℕ → ℕ → Common → Answer → Answer
+headThen times p c a =
+    refuse (not (among (c .header) commonHeaders)) unlisted p
+    (refuse (ltb 0 times) repeated p
+    (refuse (not (octetAllowed (c .header) (c .value))) not-allowed p
+    (refuse (not (headFits c)) bad-form p
+    a)))
+
+-- a common parameter, its transfer parameters aside: refused, or the place behind it
+abbrev pub partHeadWriting : ℕ → ℕ → Common → Answer
+partHeadWriting times p c = headThen times p c (Accepted (p + headLength (c .header)))
+
+part-checked : (times p : ℕ) (c : Common) (is : List Item) → partWriting times p (partFrom c is) ≡ headThen times p c (cond (eqb (c .header) transfer-data) (dataWriting p is) (Accepted (p + headLength (c .header))))
+unfolding partWriting
+part-checked times p c is =
+    rw (part-right c is, part-fits c is, part-header c is) (ap (headThen times p c) (go (eqb (c .header) transfer-data) refl))
+  where
+    go : (b : Bool) → eqb (c .header) transfer-data ≡ b → cond b (dataWriting p (partFrom c is .items)) (Accepted (p + length (layoutPart (partFrom c is)))) ≡ cond b (dataWriting p is) (Accepted (p + headLength (c .header)))
+    go true e = rw e
+    go false e = ap (λ n. Accepted (p + n)) (ap (λ (l : List ℕ). length l) (plain-laid c is (eqb-false (c .header) transfer-data e)) ∙ length-head c)
+
+-- a common parameter: first without its transfer parameters, then those of C5
+pub part-stepped : (times p : ℕ) (c : Common) (is : List Item) → partWriting times p (partFrom c is) ≡ andThen (partHeadWriting times p c) (λ n. cond (eqb (c .header) transfer-data) (dataWriting p is) (Accepted n))
+part-stepped times p c is =
+    let f : ℕ → Answer = λ n. cond (eqb (c .header) transfer-data) (dataWriting p is) (Accepted n) in
+    let e : andThen (partHeadWriting times p c) f ≡ headThen times p c (f (p + headLength (c .header))) = simp refuse-then in
+    part-checked times p c is ∙ sym e
+
+-- what an accepted head says
+pub part-head-passed : (times p : ℕ) (c : Common) (n : ℕ) → partHeadWriting times p c ≡ Accepted n → (times ≡ 0) × (n ≤ p + 4)
+part-head-passed times p c n e =
+    let e₁ = passed (not (among (c .header) commonHeaders)) _ p n _ e in
+    let e₂ = passed (ltb 0 times) _ p n _ (e₁ .1) in
+    let e₃ = passed (not (octetAllowed (c .header) (c .value))) _ p n _ (e₂ .1) in
+    let e₄ = passed (not (headFits c)) _ p n (Accepted (p + headLength (c .header))) (e₃ .1) in
+    let end : Accepted (p + headLength (c .header)) ≡ Accepted n = e₄ .1 in
+    let same : p + headLength (c .header) ≡ n = cc in
+    (omega (arith, ltb-false 0 times (e₂ .0)), omega (arith, head-long (c .header) .1))
+
+-- and what accepted transfer data says
+pub data-passed : (p : ℕ) (is : List Item) (n : ℕ) → dataWriting p is ≡ Accepted n → n ≤ p + 257
+unfolding dataWriting
+data-passed p is n e =
+    let t = then-passed (itemsWriting unseen (p + 2) is) (λ q. refuse (ltb most-transfer-octets (q - (p + 2))) transfer-over p (Accepted q)) n e in
+    let o = passed (ltb most-transfer-octets (t .0 - (p + 2))) transfer-over p n (Accepted (t .0)) (t .2) in
+    let end : Accepted (t .0) ≡ Accepted n = o .1 in
+    let same : t .0 ≡ n = cc in
+    omega (arith, ltb-false most-transfer-octets (t .0 - (p + 2)) (o .0))
+
+-- a common parameter with these transfer parameters, first among those from the place p on
+module _ (seen : Seen) (p : ℕ) (c : Common) (is : List Item) (ps : List Part) where
+  parts-told : partsWriting seen p (partFrom c is ∷ ps) ≡ andThen (andThen (partHeadWriting (timesSeen seen (c .header)) p c) (λ n. cond (eqb (c .header) transfer-data) (dataWriting p is) (Accepted n))) (λ q. partsWriting (counted seen (c .header)) q ps)
+  unfolding partsWriting
+  parts-told =
+      ap (λ (h : ℕ). andThen (partWriting (timesSeen seen h) p (partFrom c is)) (λ q. partsWriting (counted seen h) q ps)) (part-header c is)
+      ∙ ap (λ (x : Answer). andThen x (λ q. partsWriting (counted seen (c .header)) q ps)) (part-stepped (timesSeen seen (c .header)) p c is)
+
+  pub part-head-refused : (k z : ℕ) → partHeadWriting (timesSeen seen (c .header)) p c ≡ Refused k z → partsWriting seen p (partFrom c is ∷ ps) ≡ Refused k z
+  part-head-refused k z e = parts-told ∙ ap (λ (x : Answer). andThen (andThen x (λ n. cond (eqb (c .header) transfer-data) (dataWriting p is) (Accepted n))) (λ q. partsWriting (counted seen (c .header)) q ps)) e
+
+  module _ (n : ℕ) (e : partHeadWriting (timesSeen seen (c .header)) p c ≡ Accepted n) where
+    after-head : partsWriting seen p (partFrom c is ∷ ps) ≡ andThen (cond (eqb (c .header) transfer-data) (dataWriting p is) (Accepted n)) (λ q. partsWriting (counted seen (c .header)) q ps)
+    after-head = parts-told ∙ ap (λ (x : Answer). andThen (andThen x (λ m. cond (eqb (c .header) transfer-data) (dataWriting p is) (Accepted m))) (λ q. partsWriting (counted seen (c .header)) q ps)) e
+
+    pub plain-accepted : (c .header ≡ transfer-data → ⊥) → partsWriting seen p (partFrom c is ∷ ps) ≡ partsWriting (counted seen (c .header)) n ps
+    plain-accepted u = rw (after-head, ne-eqb (c .header) transfer-data u)
+
+    pub data-refused : (k z : ℕ) → c .header ≡ transfer-data → dataWriting p is ≡ Refused k z → partsWriting seen p (partFrom c is ∷ ps) ≡ Refused k z
+    data-refused k z h d = rw (after-head, eq-eqb (c .header) transfer-data h, d)
+
+    pub data-accepted : (m : ℕ) → c .header ≡ transfer-data → dataWriting p is ≡ Accepted m → partsWriting seen p (partFrom c is ∷ ps) ≡ partsWriting (counted seen (c .header)) m ps
+    data-accepted m h d = rw (after-head, eq-eqb (c .header) transfer-data h, d)
+
+-- the end mark: 6 where 01 stood so many times, or 06
+abbrev pub endWriting : ℕ → ℕ → ℕ → Answer
+endWriting class kind p = refuse (not (ltb 0 class && ltb 0 kind)) missing p (Accepted (p + 1))
+
+pub parts-over : (seen : Seen) (p : ℕ) → partsWriting seen p [] ≡ endWriting (timesSeen seen user-class) (timesSeen seen signal-kind) p
+unfolding partsWriting
+parts-over seen p = refl

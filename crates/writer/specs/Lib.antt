@@ -1,5 +1,0 @@
--- What the contracts of this crate's own steps cite beside the definitions of `annex`, with its laws.
-pub mod Along
-pub mod Limits
-pub mod Laying
-pub mod Refusing
