@@ -1,5 +1,5 @@
 -- Spans: document 01, "Spans": the rows of a message, those of C5 right behind its own, the end mark's last; 15 comes after reading's
--- numbers; and what the table then holds. As reading is, they are by a rule of contents; the names without `By` are by the rule in force.
+-- numbers; and what the table then holds. As reading is, they are by a rule of contents; `rowsOf` and `spansOf` are by the rule in force.
 use Prim.Native.Nat.{ℕ, _+_, _-_}
 use mathlib.Core.Bool.{cond}
 use mathlib.Core.List.{List, [], _∷_, _++_}
@@ -14,16 +14,16 @@ use Rattle.annex.specs.Reading.{dataIn, verdictBy, commonsBy, transfersB
 use Rattle.annex.specs.declared.Extent.{Extent}
 use Rattle.annex.specs.declared.Row.{Row}
 use Rattle.annex.specs.declared.Answer.{Answer}
-use Rattle.annex.specs.declared.Answer.the-variants.{Accepted, Refused}
+use Rattle.annex.specs.declared.Answer.the-variants.{Accepted}
 
 -- Spans: offset of the header, header, how many octets the contents have
-abbrev pub rowBy : Extent → ℕ → Par → Row
-rowBy e s q = record { offset = s + q .place; header = q .head; len = length (q .own) - leadOf e }
+abbrev pub rowOf : Extent → ℕ → Par → Row
+rowOf e s q = record { offset = s + q .place; header = q .head; len = length (q .own) - leadOf e }
 
 -- the rows of transfer parameters, in transfer data that starts at s
 unfoldable pub transferRows : ℕ → List Par → List Row
 transferRows s [] = []
-transferRows s (q ∷ qs) = rowBy (extentOf (q .head)) s q ∷ transferRows s qs
+transferRows s (q ∷ qs) = rowOf (extentOf (q .head)) s q ∷ transferRows s qs
 
 module _ (rule : Rule) where
   -- the rows inside a common parameter: those of a C5
@@ -32,24 +32,16 @@ module _ (rule : Rule) where
 
   unfoldable pub commonRowsBy : List Par → List Row
   commonRowsBy [] = []
-  commonRowsBy (q ∷ qs) = rowBy (commonExtentOf (q .head)) 0 q ∷ (innerRowsBy q ++ commonRowsBy qs)
+  commonRowsBy (q ∷ qs) = rowOf (commonExtentOf (q .head)) 0 q ∷ (innerRowsBy q ++ commonRowsBy qs)
 
   -- the rows of an accepted message
-  unfoldable pub messageRowsBy : List ℕ → List Row
-  messageRowsBy m = commonRowsBy (commonsBy rule m)
+  unfoldable pub rowsBy : List ℕ → List Row
+  rowsBy m = commonRowsBy (commonsBy rule m)
 
   -- the row count, or number and place
-  unfoldable pub messageSpansBy : List ℕ → ℕ → Answer
-  messageSpansBy m room =
-      andThen (verdictBy rule m) (λ _. refuse (ltb room (length (messageRowsBy m))) no-room 0 (Accepted (length (messageRowsBy m))))
-
-abbrev pub noRow : Row
-noRow = record { offset = 0; header = 0; len = 0 }
-
--- the rows that a listing gives: none of a refused message
-abbrev pub rowsBy : Answer → List Row → List Row
-rowsBy (Accepted n) rows = rows
-rowsBy (Refused k p) rows = []
+  unfoldable pub spansBy : List ℕ → ℕ → Answer
+  spansBy m room =
+      andThen (verdictBy rule m) (λ _. refuse (ltb room (length (rowsBy m))) no-room 0 (Accepted (length (rowsBy m))))
 
 -- ---- by the rule in force
 
@@ -60,10 +52,10 @@ abbrev pub commonRows : List Par → List Row
 commonRows = commonRowsBy faultOf
 
 abbrev pub rowsOf : List ℕ → List Row
-rowsOf = messageRowsBy faultOf
+rowsOf = rowsBy faultOf
 
 abbrev pub spansOf : List ℕ → ℕ → Answer
-spansOf = messageSpansBy faultOf
+spansOf = spansBy faultOf
 
 -- what the table then holds
 unfoldable pub tableOf : List ℕ → List Row → List Row

@@ -17,7 +17,7 @@ use Rattle.annex.specs.Allowed.{every, isOctet, headersOf, itemsIn, namesOf, ti
 use Rattle.annex.specs.Reading.{verdictOf, recordOf}
 use Rattle.annex.specs.Packed.{oneNumber, packedAnswer, row-octets, octetSpans}
 use Rattle.annex.specs.Finding.{foundAnswer, foundPart, findAnswer, findPart}
-use Rattle.annex.specs.Spans.{rowsOf, messageSpansBy}
+use Rattle.annex.specs.Spans.{rowsOf, spansBy}
 use Rattle.annex.specs.Editing.{Edit, newHeader, newAfter, newContents, editRefusal, edited, recordEditing, editingOf}
 use Rattle.annex.specs.Editing.Edit.{Replacing, Appending, Removing}
 use Rattle.annex.specs.Classes.{ClassList, classLists, classBy, classIn, classOf}
@@ -98,7 +98,7 @@ verdict-upto m = (place-told 274 (verdictOf m) (verdict-place faultOf fault-with
 -- ---- rows
 
 pub rows-upto : (m : List ℕ) (room : ℕ) → Upto 274 (octetSpans m room)
-unfolding messageSpansBy
+unfolding spansBy
 rows-upto m room =
     let given = Accepted (length (rowsOf m)) in
     let full = ltb (room / row-octets) (length (rowsOf m)) in

@@ -13,7 +13,7 @@ use Rattle.annex.specs.Units.{nameOf}
 use Rattle.annex.specs.Heads.{among, listedHeaders, transfer-data, nameUsed, oftenOf, most-transfers, most-rows}
 use Rattle.annex.specs.Walk.{Seen, unseen, timesSeen, counted, Par, Step, byStep, walk, listing}
 use Rattle.annex.specs.Reading.{transferStep, transfersOf, commonStep, commonsOf, dataIn, commonsBy, transfersBy}
-use Rattle.annex.specs.Spans.{transferRows, innerRows, commonRows, rowsOf, commonRowsBy, messageRowsBy}
+use Rattle.annex.specs.Spans.{transferRows, innerRows, commonRows, rowsOf, commonRowsBy, rowsBy}
 use Rattle.annex.specs.declared.Answer.{Answer}
 use Rattle.annex.specs.declared.Answer.the-variants.{Accepted, Refused}
 use Rattle.annex.specs.Contents.{faultOf}
@@ -121,5 +121,5 @@ length-rows (q ∷ qs) = rw (length-append (innerRows q) (commonRows qs)) (omega
 
 -- no more of them
 pub rows-few : (m : List ℕ) → length (rowsOf m) ≤ most-rows
-unfolding messageRowsBy commonsBy commonAllows allowance
+unfolding rowsBy commonsBy commonAllows allowance
 rows-few m = omega (arith, length-rows (commonsOf m), spent commonAllows commonStep rowsIn common-spends m unseen 0 0 refl)

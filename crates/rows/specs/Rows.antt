@@ -10,11 +10,11 @@ use lib.ListN.{length, getD, set, take, drop, length-append, length-drop}
 use lib.Seq.{take-suc, take-all, length-take-le, drop-cons, set-at, append-snoc}
 use Rattle.annex.specs.Answers.{givenOf, roomAfter}
 use Rattle.annex.specs.Reading.{verdictOf}
-use Rattle.annex.specs.Spans.{rowsOf, noRow, spansOf, tableOf, messageSpansBy}
+use Rattle.annex.specs.Spans.{rowsOf, spansOf, tableOf, spansBy}
 use Rattle.annex.specs.declared.Answer.{Answer}
 use Rattle.annex.specs.declared.Answer.the-variants.{Accepted, Refused}
 use Rattle.annex.specs.declared.Row.{Row}
-use Rattle.laws.specs.Listed.{listed, Within, spansBy}
+use Rattle.laws.specs.Listed.{noRow, listed, Within, spansAfter}
 use Rattle.walk.specs.Cursors.{rowHere, cursorAt}
 use Rattle.walk.specs.Ahead.{row-behind}
 
@@ -53,11 +53,11 @@ filled-more m table i w =
 
 -- with all rows stored that the listing gives, the table is what it has to be
 pub filled-all : (m : List ℕ) (table : List Row) → filled m table (givenOf (spansOf m (length table))) ≡ tableOf m table
-unfolding filled messageSpansBy tableOf
+unfolding filled spansBy tableOf
 filled-all m table = go (verdictOf m) (ltb (length table) (length (rowsOf m))) refl
   where
     go : (a : Answer) (b : Bool) → verdictOf m ≡ a
-        → take (givenOf (spansBy a b m)) (listed m) ++ drop (givenOf (spansBy a b m)) table ≡ roomAfter (spansBy a b m) (rowsOf m) table
+        → take (givenOf (spansAfter a b m)) (listed m) ++ drop (givenOf (spansAfter a b m)) table ≡ roomAfter (spansAfter a b m) (rowsOf m) table
     go (Accepted q) true e = refl
     go (Accepted q) false e = rw (e, take-all (length (rowsOf m)) (rowsOf m) (omega arith))
     go (Refused k p) b e = refl

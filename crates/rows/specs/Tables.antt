@@ -10,14 +10,14 @@ use lib.Dec.{ltb}
 use lib.ListN.{length, set, length-append}
 use lib.Seq.{sets, length-sets}
 use Rattle.annex.specs.Reading.{verdictOf}
-use Rattle.annex.specs.Spans.{rowsOf, spansOf, messageSpansBy}
+use Rattle.annex.specs.Spans.{rowsOf, spansOf, spansBy}
 use Rattle.annex.specs.Packed.{row-octets, rowOctets, rowsOctets, octetSpans, octetTable}
 use Rattle.annex.specs.declared.Answer.{Answer}
 use Rattle.annex.specs.declared.Answer.the-variants.{Accepted, Refused}
 use Rattle.annex.specs.declared.Row.{Row}
 use Rattle.laws.specs.Filling.{sets-append}
 use Rattle.laws.specs.Fronts.{front-all}
-use Rattle.laws.specs.Listed.{spansBy}
+use Rattle.laws.specs.Listed.{spansAfter}
 use Rattle.laws.specs.Rows.{Accepts}
 
 -- ---- the octets of rows
@@ -75,10 +75,10 @@ pub record Listing (m : List ℕ) (room n : ℕ) : Type 0 where
   pub roomy : length (rowsOf m) ≤ room
 
 pub listing : (m : List ℕ) (room n : ℕ) → spansOf m room ≡ Accepted n → Listing m room n
-unfolding messageSpansBy
+unfolding spansBy
 listing m room n e = go (verdictOf m) (ltb room (length (rowsOf m))) refl (ltb-false room (length (rowsOf m))) e
   where
-    go : (a : Answer) (b : Bool) → verdictOf m ≡ a → (b ≡ false → length (rowsOf m) ≤ room) → spansBy a b m ≡ Accepted n → Listing m room n
+    go : (a : Answer) (b : Bool) → verdictOf m ≡ a → (b ≡ false → length (rowsOf m) ≤ room) → spansAfter a b m ≡ Accepted n → Listing m room n
     go (Accepted q) true f h g = absurd (let z : _≡_ {A = ℕ} 0 1 = cc in omega arith)
     go (Accepted q) false f h g = let c : n ≡ length (rowsOf m) = cc in record { accepts = (q, f); count = c; roomy = h refl }
     go (Refused k p) b f h g = absurd (let z : _≡_ {A = ℕ} 0 1 = cc in omega arith)

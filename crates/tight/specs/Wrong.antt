@@ -30,7 +30,7 @@ use Rattle.annex.specs.Writing.{
   writtenOf,
 }
 use Rattle.annex.specs.Finding.{commonIn, commonFound, transferIn, transferAmong, transferFound, findAnswer, findPart}
-use Rattle.annex.specs.Spans.{transferRows, spansOf, commonRowsBy, messageRowsBy, messageSpansBy}
+use Rattle.annex.specs.Spans.{transferRows, spansOf, commonRowsBy, rowsBy, spansBy}
 use Rattle.annex.specs.Editing.{Edit, editRefusal, instead, editedItems, edited, recordEditing, editingOf, bufferOf}
 use Rattle.annex.specs.Editing.Edit.{Replacing, Appending, Removing}
 use Rattle.annex.specs.Promises.{
@@ -91,7 +91,7 @@ pub record Said : Type 0 where
   pub removed-rest : getD (bufferOf (Removing 0x18 0) M 23) 19 0 ≡ 0x00
 
 pub said : Said
-unfolding afterOf leadOf commonExtentOf extentOf nameUsed pliRight oftenOf zeroesOf formOf halves joined digitOf codeOf isCode halvesFault digitsFault digitsOf packed numberFault callingFault genericFault dialledFault twoFault faultOf holdingOf itemOf contentsOf ownOf layoutItem layoutItems layoutPart layout lengthRight faultIn valueRight valueFits walk transferBy transfersVerdictBy octetAllowed commonForm endOf dataBy commonBy messageVerdictBy verdictBy commonsBy transfersBy openCommonBy recordBy pad valuesOf pack viewItems lengthsOf transfersSum viewParts isWhole view readingOf itemWriting itemsWriting dataWriting partWriting partsWriting overLimits recordWriting structWriting writingOf writtenOf commonIn commonFound transferIn transferAmong transferFound transferRows commonRowsBy messageRowsBy messageSpansBy editRefusal instead editedItems edited recordEditing editingOf bufferOf
+unfolding afterOf leadOf commonExtentOf extentOf nameUsed pliRight oftenOf zeroesOf formOf halves joined digitOf codeOf isCode halvesFault digitsFault digitsOf packed numberFault callingFault genericFault dialledFault twoFault faultOf holdingOf itemOf contentsOf ownOf layoutItem layoutItems layoutPart layout lengthRight faultIn valueRight valueFits walk transferBy transfersVerdictBy octetAllowed commonForm endOf dataBy commonBy messageVerdictBy verdictBy commonsBy transfersBy openCommonBy recordBy pad valuesOf pack viewItems lengthsOf transfersSum viewParts isWhole view readingOf itemWriting itemsWriting dataWriting partWriting partsWriting overLimits recordWriting structWriting writingOf writtenOf commonIn commonFound transferIn transferAmong transferFound transferRows commonRowsBy rowsBy spansBy editRefusal instead editedItems edited recordEditing editingOf bufferOf
 said =
     record {
       verdict-cut = refl;

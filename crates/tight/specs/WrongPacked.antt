@@ -16,7 +16,7 @@ use Rattle.annex.specs.Reading.{octetAllowed, commonForm, endOf, dataBy, common
 use Rattle.annex.specs.Records.{pad, valuesOf, pack, viewItems, lengthsOf, transfersSum, viewParts, isWhole, view}
 use Rattle.annex.specs.Writing.{partWriting, partsWriting, overLimits, recordWriting, structWriting, writingOf}
 use Rattle.annex.specs.Image.{imageItem, imageItems, imagePart, imageParts, imageOf, imagingOf, imagedIn, itemsFront, partsFront, isWithin, imagedOf}
-use Rattle.annex.specs.Spans.{commonRowsBy, messageRowsBy, messageSpansBy}
+use Rattle.annex.specs.Spans.{commonRowsBy, rowsBy, spansBy}
 use Rattle.annex.specs.Editing.{Edit, editingOf}
 use Rattle.annex.specs.Editing.Edit.{Removing}
 use Rattle.annex.specs.Classes.{classOf}
@@ -71,7 +71,7 @@ record SaidPacked : Type 0 where
   no-list : classOf 0x01 1 ≡ classes.Refused 17 0
 
 said-packed : SaidPacked
-unfolding afterOf leadOf commonExtentOf zeroesOf ownOf layoutItem layoutItems layoutPart layout valueRight valueFits walk octetAllowed commonForm endOf dataBy commonBy messageVerdictBy verdictBy commonsBy openCommonBy recordBy pad valuesOf pack viewItems lengthsOf transfersSum viewParts isWhole view partWriting partsWriting overLimits recordWriting structWriting writingOf imageItem imageItems imagePart imageParts imageOf imagingOf imagedIn itemsFront partsFront isWithin imagedOf commonRowsBy messageRowsBy messageSpansBy classOf imageReading imageRead imageWriting imageWritten rowsOctets octetTable
+unfolding afterOf leadOf commonExtentOf zeroesOf ownOf layoutItem layoutItems layoutPart layout valueRight valueFits walk octetAllowed commonForm endOf dataBy commonBy messageVerdictBy verdictBy commonsBy openCommonBy recordBy pad valuesOf pack viewItems lengthsOf transfersSum viewParts isWhole view partWriting partsWriting overLimits recordWriting structWriting writingOf imageItem imageItems imagePart imageParts imageOf imagingOf imagedIn itemsFront partsFront isWithin imagedOf commonRowsBy rowsBy spansBy classOf imageReading imageRead imageWriting imageWritten rowsOctets octetTable
 said-packed =
     record {
       imaging-K = refl;

@@ -11,12 +11,13 @@ use Rattle.annex.specs.Answers.{no-room, numberOf, givenOf, refuse}
 use Rattle.annex.specs.Units.{afterOf, leadOf, commonExtentOf}
 use Rattle.annex.specs.Walk.{walk}
 use Rattle.annex.specs.Reading.{octetAllowed, commonForm, endOf, dataBy, commonBy, messageVerdictBy, verdictBy, commonsBy}
-use Rattle.annex.specs.Spans.{rowsOf, noRow, spansOf, tableOf, commonRowsBy, messageRowsBy, messageSpansBy}
+use Rattle.annex.specs.Spans.{rowsOf, spansOf, tableOf, commonRowsBy, rowsBy, spansBy}
 use Rattle.annex.specs.Promises.{SpansPromise}
 use Rattle.annex.specs.Bench.{K}
 use Rattle.annex.specs.declared.Answer.{Answer}
 use Rattle.annex.specs.declared.Answer.the-variants.{Accepted}
 use Rattle.annex.specs.declared.Row.{Row}
+use Rattle.laws.specs.Listed.{noRow}
 
 -- the shortest accepted message, case 2 of the bench table
 abbrev pub short : List ℕ
@@ -30,7 +31,7 @@ abbrev pub shortRows : List Row
 shortRows = rowFor 0 0x01 1 ∷ rowFor 2 0x06 1 ∷ rowFor 4 0x00 0 ∷ []
 
 pub short-listed : (room : ℕ) → (rowsOf short ≡ shortRows) × (spansOf short room ≡ refuse (ltb room 3) no-room 0 (Accepted 3))
-unfolding afterOf leadOf commonExtentOf walk octetAllowed commonForm endOf dataBy commonBy messageVerdictBy verdictBy commonsBy commonRowsBy messageRowsBy messageSpansBy
+unfolding afterOf leadOf commonExtentOf walk octetAllowed commonForm endOf dataBy commonBy messageVerdictBy verdictBy commonsBy commonRowsBy rowsBy spansBy
 short-listed room = (refl, refl)
 
 -- an invented row count: any but 3

@@ -14,7 +14,7 @@ use Rattle.annex.specs.Heads.{transfer-data}
 use Rattle.annex.specs.Allowed.{Each}
 use Rattle.annex.specs.Walk.{Par}
 use Rattle.annex.specs.Reading.{verdictOf, dataIn}
-use Rattle.annex.specs.Spans.{transferRows, innerRows, commonRows, rowsOf, noRow, rowsBy, commonRowsBy, messageRowsBy}
+use Rattle.annex.specs.Spans.{transferRows, innerRows, commonRows, rowsOf, rowsBy, commonRowsBy}
 use Rattle.annex.specs.declared.Answer.{Answer}
 use Rattle.annex.specs.declared.Answer.the-variants.{Accepted, Refused}
 use Rattle.annex.specs.declared.Extent.{Extent}
@@ -22,7 +22,7 @@ use Rattle.annex.specs.declared.Extent.the-variants.{Fixed, CountOctet, LengthO
 use Rattle.annex.specs.declared.Found.the-variants.{At}
 use Rattle.annex.specs.Contents.{faultOf}
 use Rattle.laws.specs.Extents.{lead-within}
-use Rattle.laws.specs.Listed.{listed}
+use Rattle.laws.specs.Listed.{noRow, rowsAfter, listed}
 use Rattle.laws.specs.Members.{sumOf}
 use Rattle.laws.specs.Parts.{from-to}
 use Rattle.laws.specs.Plain.{Size, commonSize, transferSize, pars, pars-end, octet-behind}
@@ -95,7 +95,7 @@ ahead-first m a =
     }
 
 pub rows-first : (m : List ℕ) → Accepts m → rowsFrom m firstCursor ≡ rowsOf m
-unfolding rowsFrom messageRowsBy transferRows pars
+unfolding rowsFrom rowsBy transferRows pars
 rows-first m a = rw (commons-plain faultOf m (a .0) (a .1))
 
 pub rows-none : (m : List ℕ) (c : Cursor) → Ahead m c → length m ≤ c .at → rowsFrom m c ≡ []
@@ -312,7 +312,7 @@ behind m a (suc k) h =
 pub row-behind : (m : List ℕ) (k : ℕ) → k < length (listed m) → rowHere m (cursorAt m k) ≡ getD (listed m) k noRow
 row-behind m k h = go (verdictOf m) refl h
   where
-    go : (a : Answer) → verdictOf m ≡ a → k < length (rowsBy a (rowsOf m)) → rowHere m (cursorAt m k) ≡ getD (rowsBy a (rowsOf m)) k noRow
+    go : (a : Answer) → verdictOf m ≡ a → k < length (rowsAfter a (rowsOf m)) → rowHere m (cursorAt m k) ≡ getD (rowsAfter a (rowsOf m)) k noRow
     go (Accepted q) e l =
         let b = behind m (q, e) k (omega arith) in
         let t = turn-at m (cursorAt m k) k (b .0) (b .1) l in

@@ -7,11 +7,12 @@ use lib.Dec.{eqb, ltb}
 use lib.ListN.{length, getD, take, drop}
 use Rattle.annex.specs.Units.{extentOf, commonExtentOf}
 use Rattle.annex.specs.Heads.{transfer-data}
-use Rattle.annex.specs.Spans.{transferRows, commonRows, noRow}
+use Rattle.annex.specs.Spans.{transferRows, commonRows}
 use Rattle.annex.specs.declared.Extent.{Extent}
 use Rattle.annex.specs.declared.Found.{Found}
 use Rattle.annex.specs.declared.Found.the-variants.{At, Nowhere}
 use Rattle.annex.specs.declared.Row.{Row}
+use Rattle.laws.specs.Listed.{noRow}
 use Rattle.laws.specs.Plain.{commonSize, transferSize, pars}
 use Rattle.walk.specs.Stretches.{stretchAt}
 use Rattle.walk.specs.declared.cursor.Cursor.{Cursor}

@@ -25,7 +25,7 @@ parIn t i x = record { place = i; head = getD t i 0; own = take (x - (i + 1)) (d
 abbrev pub afterAt : List ℕ → ℕ → Extent → ℕ
 afterAt t i e = afterOf e (getD t (i + 1) 0)
 
--- the header stands at i, and its PLI says e; nowhere where it is cut
+-- the header stands at i, and its PLI says e; nowhere where it is cut, or where the octets end before i
 unfoldable pub stretchAt : List ℕ → ℕ → Extent → Found
 stretchAt t i e =
     let n = afterAt t i e in

@@ -50,10 +50,10 @@ use denote.Triple.Table.{entered, cited}
 use denote.Triple.Walked.{says, Stays, stay-none-slice, stay-slice, walkOf, goes-none-slice, goes-slice, Walks, ends-at, walked, walk-meets}
 use denote.Exit.{yes}
 use Rattle.annex.specs.Answers.{givenOf}
-use Rattle.annex.specs.Spans.{noRow, spansOf}
+use Rattle.annex.specs.Spans.{spansOf}
 use Rattle.annex.specs.declared.Row.{Row}
 use Rattle.annex.specs.declared.Answer.{Answer}
-use Rattle.laws.specs.Listed.{Within, given-within}
+use Rattle.laws.specs.Listed.{noRow, Within, given-within}
 use Rattle.walk.specs.Cursors.{firstCursor, rowHere, nextOf, cursorAt, cursor-none, cursor-more}
 use Rattle.walk.specs.declared.cursor.Cursor.{Cursor}
 use Rattle.rows.specs.Rows.{counts-from, counts-by, filled, filled-none, length-filled, filled-more, filled-all}

@@ -1,12 +1,12 @@
 -- `judged` meets its contract: its tests are those of the definition, in their order, and the part handed on is the contents.
-use Prim.Native.Nat.{_-_}
+use Prim.Native.Nat.{_+_, _-_}
 use mathlib.Core.Path.{_≡_, _∙_}
 use borrow.Author.Needs.{needs}
 use borrow.Author.Tests.{lt-ltb, le-ltb, lt-leb, le-leb}
 use lib.Dec.{ltb}
 use lib.ListN.{length, take, drop}
-use Rattle.annex.specs.Answers.{refuse, soundThen, headerAt, cut-contents}
-use Rattle.annex.specs.Units.{extentOf, contentsIn}
+use Rattle.annex.specs.Answers.{refuse, soundThen, readingAt, cut-contents}
+use Rattle.annex.specs.Units.{leadOf, extentOf, contentsIn}
 use Rattle.annex.specs.Contents.{faultOf}
 use Rattle.annex.specs.Reading.{transferOf, transferBy}
 use Rattle.annex.specs.declared.Answer.the-variants.{Accepted}
@@ -42,7 +42,7 @@ past-10 : (c : tie.After-octets-after) →
     let a = c .before .before .before .before .before .before .before .before .before .before .args in
     let n = c .octets-after .result in
     let xs = a .xs .now in
-    transferOf (a .times) (a .header) xs ≡ refuse (ltb (length xs) n) cut-contents 0 (soundThen (headerAt 0) (faultOf (a .header) (contentsIn (extentOf (a .header)) (take n xs))) (Accepted n))
+    transferOf (a .times) (a .header) xs ≡ refuse (ltb (length xs) n) cut-contents 0 (soundThen (readingAt (1 + leadOf (extentOf (a .header)))) (faultOf (a .header) (contentsIn (extentOf (a .header)) (take n xs))) (Accepted n))
 unfolding transferBy
 past-10 c =
     let x = c .before .before in

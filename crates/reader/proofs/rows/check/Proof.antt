@@ -3,13 +3,13 @@ use mathlib.Core.Path.{sym, _∙_}
 use denote.Ref.{now}
 use borrow.Author.Needs.{needs}
 use borrow.Author.Tests.{lt-ltb, le-ltb}
-use Rattle.annex.specs.Spans.{messageSpansBy}
+use Rattle.annex.specs.Spans.{spansBy}
 use Rattle.laws.specs.Rows.{Accepts}
 use Rattle.reader.proofs.rows.check.Statement.{statement}
 use Rattle.reader.proofs.rows.check.Tie as tie
 
 returns : tie.Need-returns
-unfolding messageSpansBy
+unfolding spansBy
 returns c = rw (← c .before .before .verdict .ensures, c .enum-told2 .given .1)
 
 accepts : (c : tie.After-enum-told) → Accepts (now (c .before .before .before .before .args .m))
@@ -19,13 +19,13 @@ count-requires : tie.Need-count-requires
 count-requires c κs = accepts c
 
 returns-2 : tie.Need-returns-2
-unfolding messageSpansBy
+unfolding spansBy
 returns-2 c =
     let n = c .before in
     rw (accepts (n .before) .1, ← n .count .ensures, lt-ltb _ _ (c .if1 .taken))
 
 returns-3 : tie.Need-returns-3
-unfolding messageSpansBy
+unfolding spansBy
 returns-3 c =
     let n = c .before in
     rw (accepts (n .before) .1, ← n .count .ensures, le-ltb _ _ (c .if1 .left))
