@@ -10,7 +10,6 @@ use Rattle.annex.specs.Answers.{bad-digit}
 use Rattle.annex.specs.Units.{nameOf, afterOf, extentOf}
 use Rattle.annex.specs.Heads.{
   advanced-telephony,
-  calling-number,
   withheld,
   among,
   user-class,
@@ -74,7 +73,7 @@ lengthFits LengthOctet s = leb (length s) most-transfer-octets
 abbrev pub lengthBy : Holding → Item → Bool
 lengthBy AsContents i = lengthFits (extentOf (i .header)) (contentsOf i)
 lengthBy (AsDigits m) i = leb (length (i .values)) most-digits
-lengthBy AsNumber i = lengthFits (extentOf (i .header)) (contentsOf i)
+lengthBy (AsNumber w) i = lengthFits (extentOf (i .header)) (contentsOf i)
 lengthBy AsGeneric i = lengthFits (extentOf (i .header)) (contentsOf i)
 
 unfoldable pub lengthRight : Item → Bool
@@ -96,9 +95,9 @@ fieldsRight i =
 abbrev pub withheldRight : Item → Bool
 withheldRight i = eqb (i .numberType) 0 && (eqb (i .incomplete) 0 && (eqb (i .plan) 0 && eqb (length (i .values)) 0))
 
--- a number's fields, and of DC that nothing is told where it is withheld
-abbrev pub numberRight : Item → Bool
-numberRight i = fieldsRight i && cond (eqb (i .header) calling-number && eqb (i .presentation) withheld) (withheldRight i) true
+-- a number's fields, and of one that may be withheld (DC) that nothing is told where it is
+abbrev pub numberRight : Bool → Item → Bool
+numberRight w i = fieldsRight i && cond (w && eqb (i .presentation) withheld) (withheldRight i) true
 
 -- Writing, 13: each digit is one of the twelve values that a record holds for digits
 abbrev pub valuesFault : List ℕ → Fault
@@ -109,7 +108,7 @@ valuesFault ds = cond (every isDigit ds) Sound (Bad bad-digit 0)
 abbrev pub faultAs : Holding → Item → Fault
 faultAs AsContents i = faultOf (i .header) (i .values)
 faultAs (AsDigits m) i = formedThen (marksRight m i) (valuesFault (i .values))
-faultAs AsNumber i = formedThen (numberRight i) (valuesFault (i .values))
+faultAs (AsNumber w) i = formedThen (numberRight w i) (valuesFault (i .values))
 faultAs AsGeneric i = formedThen (fieldsRight i) (valuesFault (drop 1 (i .values)))
 
 -- what is wrong with the values of a parameter

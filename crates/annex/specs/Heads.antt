@@ -61,12 +61,9 @@ signalKinds =
 abbrev pub advanced-telephony : ℕ
 advanced-telephony = 0x01
 
--- Transfer data, DA: the first octet with which a number follows; DC, and the presentation with which it is withheld
+-- Transfer data, DA: the first octet with which a number follows; DC: the presentation with which it is withheld
 abbrev pub added-calling-number : ℕ
 added-calling-number = 0x06
-
-abbrev pub calling-number : ℕ
-calling-number = 0xDC
 
 abbrev pub withheld : ℕ
 withheld = 2

@@ -1,6 +1,6 @@
 -- The parameters of a record: document 01, "Writing", what a record holds of each parameter, and the contents that it stands for.
 use Prim.Native.Nat.{ℕ, _+_, _*_, _/_, _%_}
-use mathlib.Core.Bool.{cond}
+use mathlib.Core.Bool.{true, false, cond}
 use mathlib.Core.List.{List, [], _∷_}
 use lib.Dec.{eqb}
 use lib.ListN.{length, getD, drop}
@@ -83,11 +83,12 @@ partWith is p = part (p .header) (p .value) is
 
 -- ---- how the values are held
 
+-- by the form; of the numbers, only a calling number may be withheld
 abbrev pub holdingBy : Form → ℕ → Holding
 holdingBy (Checked c) x = AsContents
 holdingBy (Digits m) x = AsDigits m
-holdingBy Number x = AsNumber
-holdingBy Calling x = AsNumber
+holdingBy Number x = AsNumber false
+holdingBy Calling x = AsNumber true
 holdingBy Generic x = cond (eqb x added-calling-number) AsGeneric AsContents
 
 -- Writing: the header decides how, and for DA the first octet with it
@@ -107,7 +108,7 @@ openMarks Typed h u vs = markedItem h 0 0 u vs
 abbrev pub openBy : Holding → ℕ → List ℕ → Item
 openBy AsContents h s = plainItem h s
 openBy (AsDigits m) h s = openMarks m h (getD s 0 0 / 64) (digitsOf Dialled (getD s 0 0 % 64) (drop 1 s))
-openBy AsNumber h s = numberItem h (getD s 0 0) (getD s 1 0) (digitsOf Numbered (countOf s) (drop 2 s))
+openBy (AsNumber w) h s = numberItem h (getD s 0 0) (getD s 1 0) (digitsOf Numbered (countOf s) (drop 2 s))
 openBy AsGeneric h s = numberItem h (getD s 1 0) (getD s 2 0) (added-calling-number ∷ digitsOf Numbered (countOf (drop 1 s)) (drop 3 s))
 
 -- the parameter with the header h and the contents s
@@ -131,7 +132,7 @@ numberContents i ds =
 abbrev pub contentsBy : Holding → Item → List ℕ
 contentsBy AsContents i = i .values
 contentsBy (AsDigits m) i = (64 * upperMarks m i + length (i .values)) ∷ packed Dialled (i .values)
-contentsBy AsNumber i = numberContents i (i .values)
+contentsBy (AsNumber w) i = numberContents i (i .values)
 contentsBy AsGeneric i = added-calling-number ∷ numberContents i (drop 1 (i .values))
 
 abbrev pub heldAs : Item → Holding
@@ -155,7 +156,7 @@ ownFields i = fieldsItem (i .header) (i .numberType) (i .incomplete) (i .plan) (
 abbrev pub ownBy : Holding → Item → Item
 ownBy AsContents i = plainItem (i .header) (i .values)
 ownBy (AsDigits m) i = ownMarks m i
-ownBy AsNumber i = ownFields i
+ownBy (AsNumber w) i = ownFields i
 ownBy AsGeneric i = ownFields i
 
 unfoldable pub ownOf : Item → Item

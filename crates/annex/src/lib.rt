@@ -107,11 +107,12 @@ pub enum Form {
     Generic,
 }
 
-// How a record holds a parameter's values: as the contents, as digits with marks, as a number, as a number after 06.
+// How a record holds a parameter's values: as the contents, as digits with marks, as a number, as a number after 06. A number is held with
+// whether it may be withheld: then, with presentation 2, nothing else is told of it.
 pub enum Holding {
     AsContents,
     AsDigits(Marks),
-    AsNumber,
+    AsNumber(bool),
     AsGeneric,
 }
 

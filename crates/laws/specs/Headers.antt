@@ -7,7 +7,7 @@ use lib.Bits.{and-zero-r}
 use lib.Dec.{eqb}
 use borrow.Author.Tests.{eqb-true, eq-eqb}
 use Rattle.annex.specs.Units.{extentOf}
-use Rattle.annex.specs.Heads.{calling-number, pliRight, zeroesOf, formOf}
+use Rattle.annex.specs.Heads.{pliRight, zeroesOf, formOf}
 use Rattle.annex.specs.declared.Form.{Form}
 use Rattle.annex.specs.declared.Marks.{Marks}
 use Rattle.annex.specs.declared.Marks.the-variants.{Unmarked, Notified, Verified, Typed}
@@ -15,7 +15,7 @@ use Rattle.annex.specs.declared.Form.the-variants.{Checked, Digits, Number, Cal
 use Rattle.annex.specs.Contents.{clear}
 use Rattle.annex.specs.declared.Extent.{Extent}
 use Rattle.annex.specs.declared.Extent.the-variants.{Fixed, CountOctet, LengthOctet}
-use Rattle.laws.specs.Bools.{T-true, same, same→eq, and-left, and-right}
+use Rattle.laws.specs.Bools.{T-true, and-left, and-right}
 use Rattle.laws.specs.Octet.{range}
 
 -- the bits of a count octet that its marks leave 0
@@ -64,16 +64,3 @@ digits-row m zeroes e t =
 -- no bits asked, none set
 pub none-asked : (zeroes x : ℕ) → eqb zeroes 0 ≡ true → clear zeroes x ≡ true
 none-asked zeroes x t = rw (eqb-true zeroes 0 t) (eq-eqb _ _ (and-zero-r x))
-
--- a calling number
-abbrev pub isCalling : Form → Bool
-isCalling (Checked c) = false
-isCalling (Digits m) = false
-isCalling Number = false
-isCalling Calling = true
-isCalling Generic = false
-
--- only DC is one
-pub one-calling : (h : ℕ) → h < 256 → eqb h calling-number ≡ isCalling (formOf h)
-unfolding formOf
-one-calling h l = same→eq _ _ (range (λ k. same (eqb k calling-number) (isCalling (formOf k))) 0 256 tt h (omega arith) l)

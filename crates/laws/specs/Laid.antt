@@ -30,7 +30,7 @@ header-by (AsDigits Unmarked) i = refl
 header-by (AsDigits Notified) i = refl
 header-by (AsDigits Verified) i = refl
 header-by (AsDigits Typed) i = refl
-header-by AsNumber i = refl
+header-by (AsNumber w) i = refl
 header-by AsGeneric i = refl
 
 values-by : (k : Holding) (i : Item) → ownBy k i .values ≡ i .values
@@ -39,7 +39,7 @@ values-by (AsDigits Unmarked) i = refl
 values-by (AsDigits Notified) i = refl
 values-by (AsDigits Verified) i = refl
 values-by (AsDigits Typed) i = refl
-values-by AsNumber i = refl
+values-by (AsNumber w) i = refl
 values-by AsGeneric i = refl
 
 contents-by : (k : Holding) (i : Item) → contentsBy k (ownBy k i) ≡ contentsBy k i
@@ -48,7 +48,7 @@ contents-by (AsDigits Unmarked) i = refl
 contents-by (AsDigits Notified) i = refl
 contents-by (AsDigits Verified) i = refl
 contents-by (AsDigits Typed) i = refl
-contents-by AsNumber i = refl
+contents-by (AsNumber w) i = refl
 contents-by AsGeneric i = refl
 
 again-by : (k : Holding) (i : Item) → ownBy k (ownBy k i) ≡ ownBy k i
@@ -57,7 +57,7 @@ again-by (AsDigits Unmarked) i = refl
 again-by (AsDigits Notified) i = refl
 again-by (AsDigits Verified) i = refl
 again-by (AsDigits Typed) i = refl
-again-by AsNumber i = refl
+again-by (AsNumber w) i = refl
 again-by AsGeneric i = refl
 
 fault-by : (k : Holding) (i : Item) → faultAs k (ownBy k i) ≡ faultAs k i
@@ -66,7 +66,7 @@ fault-by (AsDigits Unmarked) i = refl
 fault-by (AsDigits Notified) i = refl
 fault-by (AsDigits Verified) i = refl
 fault-by (AsDigits Typed) i = refl
-fault-by AsNumber i = refl
+fault-by (AsNumber w) i = refl
 fault-by AsGeneric i = refl
 
 module _ (i : Item) where
@@ -96,7 +96,7 @@ module _ (i : Item) where
       go : (k : Holding) → lengthBy k (ownOf i) ≡ lengthBy k i
       go AsContents = rw (own-contents, own-header)
       go (AsDigits m) = rw own-values
-      go AsNumber = rw (own-contents, own-header)
+      go (AsNumber w) = rw (own-contents, own-header)
       go AsGeneric = rw (own-contents, own-header)
 
   own-fault : faultIn (ownOf i) ≡ faultIn i
@@ -166,7 +166,7 @@ length-small i t = go (heldAs i) refl t
     go : (k : Holding) → heldAs i ≡ k → lengthBy k i ≡ true → length (contentsOf i) ≤ most-transfer-octets
     go AsContents e t = fits-small (pliOf (i .header)) (contentsOf i) t
     go (AsDigits m) e t = rw e (omega (arith, leb-true (length (i .values)) 63 t, length-packed Dialled (i .values)))
-    go AsNumber e t = fits-small (pliOf (i .header)) (contentsOf i) t
+    go (AsNumber w) e t = fits-small (pliOf (i .header)) (contentsOf i) t
     go AsGeneric e t = fits-small (pliOf (i .header)) (contentsOf i) t
 
 -- ---- its octets

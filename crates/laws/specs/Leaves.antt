@@ -9,13 +9,13 @@ use lib.Dec.{eqb}
 use lib.ListN.{length, getD, drop}
 use borrow.Author.Tests.{eqb-true, ne-eqb}
 use Rattle.annex.specs.Units.{extentOf}
-use Rattle.annex.specs.Heads.{calling-number, pliRight, zeroesOf, formOf}
+use Rattle.annex.specs.Heads.{pliRight, zeroesOf, formOf}
 use Rattle.annex.specs.declared.Check.{Check}
 use Rattle.annex.specs.declared.Form.{Form}
 use Rattle.annex.specs.declared.Marks.the-variants.{Unmarked, Notified, Verified, Typed}
 use Rattle.annex.specs.declared.Form.the-variants.{Checked, Digits, Number, Calling, Generic}
 use Rattle.annex.specs.Digits.{packed}
-use Rattle.annex.specs.Contents.{clear, numberFault, genericFault, faultBy, faultOf}
+use Rattle.annex.specs.Contents.{clear, presentationOf, numberFault, genericFault, faultBy, faultOf}
 use Rattle.annex.specs.Items.{Item, holdingBy, holdingOf, plainItem, openBy, itemOf, numberContents, contentsBy, heldAs, contentsOf, ownBy, ownOf}
 use Rattle.annex.specs.declared.Holding.{Holding}
 use Rattle.annex.specs.declared.Holding.the-variants.{AsContents, AsDigits, AsNumber, AsGeneric}
@@ -24,7 +24,7 @@ use Rattle.annex.specs.declared.Alphabet.the-variants.{Numbered}
 use Rattle.annex.specs.declared.Fault.the-variants.{Sound}
 use Rattle.laws.specs.Bools.{and-left, and-right, and-both}
 use Rattle.laws.specs.Faults.{then-sound, values-sound, sound-values}
-use Rattle.laws.specs.Headers.{rowFits, row-fits, digits-row, none-asked, isCalling, one-calling}
+use Rattle.laws.specs.Headers.{rowFits, row-fits, digits-row, none-asked}
 use Rattle.laws.specs.Joined.{digits-octets}
 use Rattle.laws.specs.Counted.{counted-open, counted-closed}
 use Rattle.laws.specs.Numbers.{NumberOpen, number-open, NumberClosed, number-closed, calling-open, calling-closed}
@@ -66,15 +66,15 @@ record OpenAs (f : Form) (k : Holding) (h : ℕ) (s : List ℕ) : Type 0 where
 open-plain : (f : Form) (h : ℕ) (s : List ℕ) → holdingBy f (getD s 0 0) ≡ AsContents → every isOctet s ≡ true → lengthFits (extentOf h) s ≡ true → faultOf h s ≡ Sound → OpenAs f AsContents h s
 open-plain f h s k o l g = record { kept = k; contents = refl; octets = o; fits = λ c. rw c l; faultless = g }
 
-open-number : (f : Form) (h : ℕ) (s : List ℕ) → ((x : ℕ) → holdingBy f x ≡ AsNumber) → lengthFits (extentOf h) s ≡ true → NumberOpen s → numberRight (openBy AsNumber h s) ≡ true → OpenAs f AsNumber h s
-open-number f h s k l n r =
-    let vs = openBy AsNumber h s .values in
+open-number : (w : Bool) (f : Form) (h : ℕ) (s : List ℕ) → ((x : ℕ) → holdingBy f x ≡ AsNumber w) → lengthFits (extentOf h) s ≡ true → NumberOpen s → cond (w && eqb (presentationOf s) 2) (withheldRight (openBy (AsNumber w) h s)) true ≡ true → OpenAs f (AsNumber w) h s
+open-number w f h s k l n r =
+    let vs = openBy (AsNumber w) h s .values in
     record {
       kept = k (getD vs 0 0);
       contents = n .contents h vs;
       octets = digits-octets vs (n .digits);
       fits = λ c. rw c l;
-      faultless = values-sound (numberRight (openBy AsNumber h s)) vs r (n .digits);
+      faultless = values-sound (numberRight w (openBy (AsNumber w) h s)) vs (and-both _ _ (n .right h vs) r) (n .digits);
     }
 
 -- DA, by its first octet
@@ -83,7 +83,7 @@ open-generic true h [] e t o l g w = absurd (let z : _≡_ {A = ℕ} 0 1 = cc in
 open-generic true h (x ∷ s) e t o l g w =
     let n = number-open 1 s (and-right (isOctet x) (every isOctet s) o) g in
     let i = openBy AsGeneric h (x ∷ s) in
-    let ds = openBy AsNumber h s .values in
+    let ds = openBy (AsNumber false) h s .values in
     record {
       kept = refl;
       contents = rw (n .contents h (i .values)) (ap (λ y. y ∷ s) (sym (eqb-true x 6 e)));
@@ -94,10 +94,10 @@ open-generic true h (x ∷ s) e t o l g w =
 open-generic false h s e t o l g w = open-plain Generic h s (rw e) o l w
 
 -- each form; what is held as its contents needs to know nothing of its check
-opens-by : (f : Form) (h : ℕ) (s : List ℕ) → every isOctet s ≡ true → rowFits f (zeroesOf h) (extentOf h) ≡ true → eqb h calling-number ≡ isCalling f → lengthFits (extentOf h) s ≡ true → clear (zeroesOf h) (getD s 0 0) ≡ true → faultBy f s ≡ Sound → faultOf h s ≡ Sound → OpenAs f (holdingBy f (getD s 0 0)) h s
+opens-by : (f : Form) (h : ℕ) (s : List ℕ) → every isOctet s ≡ true → rowFits f (zeroesOf h) (extentOf h) ≡ true → lengthFits (extentOf h) s ≡ true → clear (zeroesOf h) (getD s 0 0) ≡ true → faultBy f s ≡ Sound → faultOf h s ≡ Sound → OpenAs f (holdingBy f (getD s 0 0)) h s
 unfolding genericFault
-opens-by (Checked x) h s o t q l c g w = open-plain (Checked x) h s refl o l w
-opens-by (Digits m) h s o t q l c g w =
+opens-by (Checked x) h s o t l c g w = open-plain (Checked x) h s refl o l w
+opens-by (Digits m) h s o t l c g w =
     let r = digits-row m (zeroesOf h) (extentOf h) t in
     let n = counted-open m h s o (rw (r .0) at l) (rw (r .1) at c) g in
     let i = openBy (AsDigits m) h s in
@@ -108,14 +108,11 @@ opens-by (Digits m) h s o t q l c g w =
       fits = λ k. n .few;
       faultless = values-sound (marksRight m i) (i .values) (n .right) (n .digits);
     }
-opens-by Number h s o t q l c g w =
-    let n = number-open 0 s o g in
-    open-number Number h s (λ x. refl) l n (rw q (and-both _ _ (n .right h (openBy AsNumber h s .values)) refl))
-opens-by Calling h s o t q l c g w =
+opens-by Number h s o t l c g w = open-number false Number h s (λ x. refl) l (number-open 0 s o g) refl
+opens-by Calling h s o t l c g w =
     let k = calling-open h s g in
-    let n = number-open 0 s o (k .number) in
-    open-number Calling h s (λ x. refl) l n (rw q (and-both _ _ (n .right h (openBy AsNumber h s .values)) (k .withheld)))
-opens-by Generic h s o t q l c g w =
+    open-number true Calling h s (λ x. refl) l (number-open 0 s o (k .number)) (k .withheld)
+opens-by Generic h s o t l c g w =
     let n = cond (eqb (getD s 0 0) 6) (numberFault 1 (drop 1 s)) Sound in
     let p = then-sound (not (eqb (length s) 0)) n g in
     open-generic (eqb (getD s 0 0) 6) h s refl (p .0) o l (p .1) w
@@ -127,7 +124,7 @@ open-header (AsDigits Unmarked) h s = refl
 open-header (AsDigits Notified) h s = refl
 open-header (AsDigits Verified) h s = refl
 open-header (AsDigits Typed) h s = refl
-open-header AsNumber h s = refl
+open-header (AsNumber w) h s = refl
 open-header AsGeneric h s = refl
 
 open-own : (k : Holding) (h : ℕ) (s : List ℕ) → ownBy k (openBy k h s) ≡ openBy k h s
@@ -136,7 +133,7 @@ open-own (AsDigits Unmarked) h s = refl
 open-own (AsDigits Notified) h s = refl
 open-own (AsDigits Verified) h s = refl
 open-own (AsDigits Typed) h s = refl
-open-own AsNumber h s = refl
+open-own (AsNumber w) h s = refl
 open-own AsGeneric h s = refl
 
 -- the form decides how a parameter is held
@@ -171,7 +168,7 @@ pub opened : (h : ℕ) (s : List ℕ) → h < 256 → every isOctet s ≡ true �
 unfolding faultOf
 opened h s b o p l g =
     let t = then-sound (clear (zeroesOf h) (getD s 0 0)) (faultBy (formOf h) s) g in
-    opened-by (formOf h) h s refl b (opens-by (formOf h) h s o (row-fits h b p) (one-calling h b) l (t .0) (t .1) g)
+    opened-by (formOf h) h s refl b (opens-by (formOf h) h s o (row-fits h b p) l (t .0) (t .1) g)
 
 -- ---- from a parameter to its contents
 
@@ -198,8 +195,8 @@ sound-by f h s e c g = rw (c, e) g
 close-plain : (f : Form) (i : Item) → holdingBy f (getD (i .values) 0 0) ≡ AsContents → every isOctet (i .values) ≡ true → lengthFits (extentOf (i .header)) (i .values) ≡ true → faultOf (i .header) (i .values) ≡ Sound → CloseAs f AsContents i
 close-plain f i k o l g = record { kept = k; fits = l; sound = g; opens = refl; octets = o }
 
-close-number : (f : Form) (i : Item) → formOf (i .header) ≡ f → ((x : ℕ) → holdingBy f x ≡ AsNumber) → eqb (zeroesOf (i .header)) 0 ≡ true → lengthFits (extentOf (i .header)) (numberContents i (i .values)) ≡ true → NumberClosed i (i .values) → faultBy f (numberContents i (i .values)) ≡ Sound → CloseAs f AsNumber i
-close-number f i e k z l n g =
+close-number : (w : Bool) (f : Form) (i : Item) → formOf (i .header) ≡ f → ((x : ℕ) → holdingBy f x ≡ AsNumber w) → eqb (zeroesOf (i .header)) 0 ≡ true → lengthFits (extentOf (i .header)) (numberContents i (i .values)) ≡ true → NumberClosed i (i .values) → faultBy f (numberContents i (i .values)) ≡ Sound → CloseAs f (AsNumber w) i
+close-number w f i e k z l n g =
     let s = numberContents i (i .values) in
     record {
       kept = k (getD s 0 0);
@@ -238,9 +235,9 @@ length-generic true i = refl
 length-generic false i = refl
 
 -- each form; what is held as its contents needs to know nothing of its check
-closes-by : (f : Form) (i : Item) → formOf (i .header) ≡ f → rowFits f (zeroesOf (i .header)) (extentOf (i .header)) ≡ true → eqb (i .header) calling-number ≡ isCalling f → every isOctet (i .values) ≡ true → contentsOf i ≡ contentsBy (holdingBy f (getD (i .values) 0 0)) i → lengthBy (holdingBy f (getD (i .values) 0 0)) i ≡ true → faultAs (holdingBy f (getD (i .values) 0 0)) i ≡ Sound → CloseAs f (holdingBy f (getD (i .values) 0 0)) i
-closes-by (Checked x) i e t q o c l g = close-plain (Checked x) i refl o (rw c at l) g
-closes-by (Digits m) i e t q o c l g =
+closes-by : (f : Form) (i : Item) → formOf (i .header) ≡ f → rowFits f (zeroesOf (i .header)) (extentOf (i .header)) ≡ true → every isOctet (i .values) ≡ true → contentsOf i ≡ contentsBy (holdingBy f (getD (i .values) 0 0)) i → lengthBy (holdingBy f (getD (i .values) 0 0)) i ≡ true → faultAs (holdingBy f (getD (i .values) 0 0)) i ≡ Sound → CloseAs f (holdingBy f (getD (i .values) 0 0)) i
+closes-by (Checked x) i e t o c l g = close-plain (Checked x) i refl o (rw c at l) g
+closes-by (Digits m) i e t o c l g =
     let r = digits-row m (zeroesOf (i .header)) (extentOf (i .header)) t in
     let v = sound-values (marksRight m i) (i .values) g in
     let w = counted-closed m i l (v .0) (v .1) in
@@ -251,16 +248,16 @@ closes-by (Digits m) i e t q o c l g =
       opens = w .opens;
       octets = w .octets;
     }
-closes-by Number i e t q o c l g =
-    let v = sound-values (numberRight i) (i .values) g in
+closes-by Number i e t o c l g =
+    let v = sound-values (numberRight false i) (i .values) g in
     let n = number-closed i (i .values) (and-left (fieldsRight i) _ (v .0)) (v .1) in
-    close-number Number i e (λ x. refl) t (rw c at l) n (n .sound 0)
-closes-by Calling i e t q o c l g =
-    let v = sound-values (numberRight i) (i .values) g in
+    close-number false Number i e (λ x. refl) t (rw c at l) n (n .sound 0)
+closes-by Calling i e t o c l g =
+    let v = sound-values (numberRight true i) (i .values) g in
     let r₁ = and-left (fieldsRight i) _ (v .0) in
-    let r₂ : cond (eqb (i .presentation) 2) (withheldRight i) true ≡ true = rw q at (and-right (fieldsRight i) (cond (eqb (i .header) calling-number && eqb (i .presentation) 2) (withheldRight i) true) (v .0)) in
-    close-number Calling i e (λ x. refl) t (rw c at l) (number-closed i (i .values) r₁ (v .1)) (calling-closed i r₁ r₂ (v .1))
-closes-by Generic i e t q o c l g =
+    let r₂ = and-right (fieldsRight i) (cond (eqb (i .presentation) 2) (withheldRight i) true) (v .0) in
+    close-number true Calling i e (λ x. refl) t (rw c at l) (number-closed i (i .values) r₁ (v .1)) (calling-closed i r₁ r₂ (v .1))
+closes-by Generic i e t o c l g =
     let v = eqb (getD (i .values) 0 0) 6 in
     close-generic v i refl e t o (rw (length-generic v i, c) at l) g
 
@@ -287,4 +284,4 @@ unfolding lengthRight faultIn contentsOf holdingOf
 closed i w p l g =
     let h = i .header in
     closed-by (formOf h) i refl (w .own)
-    (closes-by (formOf h) i refl (row-fits h (w .octet) p) (one-calling h (w .octet)) (w .octets) refl l g)
+    (closes-by (formOf h) i refl (row-fits h (w .octet) p) (w .octets) refl l g)

@@ -148,9 +148,9 @@ isWithheld s = eqb (length s) 2 && (eqb (getD s 0 0) 0 && ltb (getD s 1 0) 16)
 -- what is sound as a calling number is sound as a number, and keeps the rule of presentation 2
 pub record CallingOpen (h : ℕ) (s : List ℕ) : Type 0 where
   pub number : numberFault 0 s ≡ Sound
-  pub withheld : cond (eqb (presentationOf s) 2) (withheldRight (openBy AsNumber h s)) true ≡ true
+  pub withheld : cond (eqb (presentationOf s) 2) (withheldRight (openBy (AsNumber true) h s)) true ≡ true
 
-withheld-open : (h : ℕ) (s : List ℕ) → isWithheld s ≡ true → (numberFault 0 s ≡ Sound) × (withheldRight (openBy AsNumber h s) ≡ true)
+withheld-open : (h : ℕ) (s : List ℕ) → isWithheld s ≡ true → (numberFault 0 s ≡ Sound) × (withheldRight (openBy (AsNumber true) h s) ≡ true)
 unfolding numberFault digitsFault halves halvesFault digitsOf
 withheld-open h [] t = absurd (let z : _≡_ {A = ℕ} 0 1 = cc in omega arith)
 withheld-open h (x ∷ []) t = absurd (let z : _≡_ {A = ℕ} 0 1 = cc in omega arith)
@@ -168,7 +168,7 @@ pub calling-open : (h : ℕ) (s : List ℕ) → callingFault s ≡ Sound → Cal
 unfolding callingFault
 calling-open h s f = let p = by (eqb (presentationOf s) 2) f in record { number = p .0; withheld = p .1 }
   where
-    by : (v : Bool) → cond v (formed (isWithheld s)) (numberFault 0 s) ≡ Sound → (numberFault 0 s ≡ Sound) × (cond v (withheldRight (openBy AsNumber h s)) true ≡ true)
+    by : (v : Bool) → cond v (formed (isWithheld s)) (numberFault 0 s) ≡ Sound → (numberFault 0 s ≡ Sound) × (cond v (withheldRight (openBy (AsNumber true) h s)) true ≡ true)
     by true g = withheld-open h s (formed-sound (isWithheld s) g)
     by false g = (g, refl)
 

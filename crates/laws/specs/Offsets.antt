@@ -128,7 +128,7 @@ values-within n b ds l =
 as-within : (k : Holding) (i : Item) → Within (length (contentsBy k i)) (faultAs k i)
 as-within AsContents i = fault-within (i .header) (i .values)
 as-within (AsDigits m) i = values-within (length (contentsBy (AsDigits m) i)) (marksRight m i) (i .values) (omega arith)
-as-within AsNumber i = values-within (length (contentsBy AsNumber i)) (numberRight i) (i .values) (omega arith)
+as-within (AsNumber w) i = values-within (length (contentsBy (AsNumber w) i)) (numberRight w i) (i .values) (omega arith)
 as-within AsGeneric i = values-within (length (contentsBy AsGeneric i)) (fieldsRight i) (drop 1 (i .values)) (omega arith)
 
 pub item-within : (i : Item) → Within (length (contentsOf i)) (faultIn i)

@@ -60,7 +60,7 @@ numeric-led h l = T-true _ (range (λ k. not (isNumeric (formOf k)) || isLed (ex
 abbrev pub heldNumber : Holding → Bool
 heldNumber AsContents = false
 heldNumber (AsDigits m) = false
-heldNumber AsNumber = true
+heldNumber (AsNumber w) = true
 heldNumber AsGeneric = true
 
 numeric : (f : Form) (x : ℕ) → T (heldNumber (holdingBy f x)) → isNumeric f ≡ true

@@ -52,7 +52,7 @@ fn len_as(held: Holding, t: Transfer, values: &[u8]) -> usize
     match held {
         Holding::AsContents => values.len(),
         Holding::AsDigits(_) => 1 + packed_len(values.len()),
-        Holding::AsNumber => 2 + packed_len(values.len()),
+        Holding::AsNumber(_) => 2 + packed_len(values.len()),
         Holding::AsGeneric => {
             let digits = octets_from(values, 1);
             3 + packed_len(digits.len())
@@ -88,7 +88,7 @@ fn length_right(held: Holding, t: Transfer, values: &[u8]) -> bool
     match held {
         Holding::AsContents => length_fits(t.header, values),
         Holding::AsDigits(_) => values.len() <= Transfer::MOST_DIGITS,
-        Holding::AsNumber => len_as(held, t, values) <= Transfer::MOST_OCTETS,
+        Holding::AsNumber(_) => len_as(held, t, values) <= Transfer::MOST_OCTETS,
         Holding::AsGeneric => len_as(held, t, values) <= Transfer::MOST_OCTETS,
     }
 }
@@ -146,14 +146,14 @@ fn withheld_right(t: Transfer, digits: &[u8]) -> bool
     digits.len() == 0
 }
 
-// A number: its fields, and for a calling number that is withheld that nothing is told.
-fn number_right(t: Transfer, digits: &[u8]) -> bool
-    ensures { λ r. ⌜ r ≡ numberRight (rawItem t (now (digits .entry))) ⌝ }
+// A number: its fields, and for one that may be withheld, and is, that nothing is told.
+fn number_right(withholdable: bool, t: Transfer, digits: &[u8]) -> bool
+    ensures { λ r. ⌜ r ≡ numberRight withholdable (rawItem t (now (digits .entry))) ⌝ }
 {
     if !fields_right(t) {
         return false;
     }
-    if t.header != Transfer::CALLING_NUMBER {
+    if !withholdable {
         return true;
     }
     if t.presentation != Transfer::WITHHELD {
@@ -183,7 +183,10 @@ fn values_fault(held: Holding, t: Transfer, values: &[u8]) -> Fault
     match held {
         Holding::AsContents => contents_fault(t.header, values),
         Holding::AsDigits(marks) => fields_fault(marks_right(marks, t), values),
-        Holding::AsNumber => fields_fault(number_right(t, values), values),
+        Holding::AsNumber(withholdable) => fields_fault(
+            number_right(withholdable, t, values),
+            values,
+        ),
         Holding::AsGeneric => fields_fault(fields_right(t), octets_from(values, 1)),
     }
 }
@@ -275,7 +278,7 @@ fn put_contents(held: Holding, t: Transfer, values: &[u8], room: &mut [u8])
     match held {
         Holding::AsContents => copy(values, room),
         Holding::AsDigits(marks) => put_digits(marks, t, values, room),
-        Holding::AsNumber => put_number(t, values, room),
+        Holding::AsNumber(_) => put_number(t, values, room),
         Holding::AsGeneric => put_generic(t, values, room),
     }
 }

@@ -70,7 +70,7 @@ contents-most i = go (heldAs i)
     go : (k : Holding) → length (contentsBy k i) ≤ 3 + length (i .values)
     go AsContents = omega arith
     go (AsDigits m) = omega (arith, length-packed Dialled (i .values))
-    go AsNumber = omega (arith, length-packed Numbered (i .values))
+    go (AsNumber w) = omega (arith, length-packed Numbered (i .values))
     go AsGeneric = omega (arith, length-packed Numbered (drop 1 (i .values)), length-drop 1 (i .values))
 
 -- what is over is refused with 1, and what is not is refused by its parts

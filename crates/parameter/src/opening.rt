@@ -12,6 +12,7 @@ use octets::copy_in;
 use octets::octet_at;
 use octets::octets_from;
 ghost use mathlib.Core.Path.{_≡_};
+ghost use mathlib.Core.Bool.{false};
 ghost use mathlib.Core.List.{List};
 ghost use Prim.Native.Nat.{ℕ, _+_, _≤_};
 ghost use lib.ListN.{length};
@@ -40,8 +41,8 @@ pub fn holding_of(header: u8, first: u8) -> Holding
     match form {
         Form::Checked(_) => Holding::AsContents,
         Form::Digits(marks) => Holding::AsDigits(marks),
-        Form::Number => Holding::AsNumber,
-        Form::Calling => Holding::AsNumber,
+        Form::Number => Holding::AsNumber(false),
+        Form::Calling => Holding::AsNumber(true),
         Form::Generic => {
             if first == Transfer::ADDED_CALLING_NUMBER {
                 Holding::AsGeneric
@@ -119,8 +120,8 @@ fn open_number(
     values: &mut [u8; Transfer::MOST_VALUES],
     used: usize,
 ) -> Transfer
-    ensures head { λ r. ⌜ r ≡ headFor (openBy AsNumber header (now (s .entry))) used ⌝ }
-    ensures put { λ r. ⌜ now (values .exit) ≡ valuesWith (openBy AsNumber header (now (s .entry))) used (now (values .entry)) ⌝ }
+    ensures head { λ r. ⌜ r ≡ headFor (openBy (AsNumber false) header (now (s .entry))) used ⌝ }
+    ensures put { λ r. ⌜ now (values .exit) ≡ valuesWith (openBy (AsNumber false) header (now (s .entry))) used (now (values .entry)) ⌝ }
 {
     let count = count_of(s);
     if !unpack_digits(Alphabet::Numbered, octets_from(s, 2), count, values, used) {
@@ -175,7 +176,7 @@ pub fn open(
     match held {
         Holding::AsContents => open_contents(header, contents, values, used),
         Holding::AsDigits(marks) => open_digits(marks, header, contents, values, used),
-        Holding::AsNumber => open_number(header, contents, values, used),
+        Holding::AsNumber(_) => open_number(header, contents, values, used),
         Holding::AsGeneric => open_generic(header, contents, values, used),
     }
 }

@@ -152,7 +152,7 @@ values-length i = go (heldAs i)
     go : (k : Holding) → length (i .values) ≤ 2 * length (contentsBy k i)
     go AsContents = omega arith
     go (AsDigits m) = omega (arith, packed-length Dialled (i .values))
-    go AsNumber = omega (arith, packed-length Numbered (i .values))
+    go (AsNumber w) = omega (arith, packed-length Numbered (i .values))
     go AsGeneric = omega (arith, packed-length Numbered (drop 1 (i .values)), length-drop 1 (i .values))
 
 pub values-within : (is : List Item) → length (valuesOf is) ≤ 2 * contentsSum is

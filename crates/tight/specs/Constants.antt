@@ -57,7 +57,7 @@ flag false = 0
 abbrev heldNumber : Holding → ℕ
 heldNumber AsContents = 0
 heldNumber (AsDigits m) = 1
-heldNumber AsNumber = 2
+heldNumber (AsNumber w) = 2
 heldNumber AsGeneric = 3
 
 -- a row to a function: what its definition gives at two inputs, told as numbers

@@ -83,7 +83,7 @@ own-octets (AsDigits Unmarked) i h = (omega arith, h .1)
 own-octets (AsDigits Notified) i h = (omega arith, h .1)
 own-octets (AsDigits Verified) i h = (omega arith, h .1)
 own-octets (AsDigits Typed) i h = (omega arith, h .1)
-own-octets AsNumber i h = (omega arith, h .1)
+own-octets (AsNumber w) i h = (omega arith, h .1)
 own-octets AsGeneric i h = (omega arith, h .1)
 
 view-octets : (ts : List Transfer) (vs : List ℕ) → Each OctetHead ts → every isOctet vs ≡ true → Each OctetItem (viewItems ts vs)

@@ -64,7 +64,7 @@ fn own_head(t: Transfer, values: &[u8]) -> Transfer
     match held {
         Holding::AsContents => Transfer::carried(t.header, t.len),
         Holding::AsDigits(marks) => own_marks(marks, t),
-        Holding::AsNumber => own_fields(t),
+        Holding::AsNumber(_) => own_fields(t),
         Holding::AsGeneric => own_fields(t),
     }
 }

@@ -3,7 +3,7 @@ use native.Mathlib.Omega.{arith}
 use mathlib.Core.Path.{_≡_, sym, _∙_}
 use borrow.Author.Needs.{needs}
 use Rattle.annex.specs.Items.{heldAs}
-use Rattle.annex.specs.declared.Holding.the-variants.{AsContents, AsNumber, AsGeneric}
+use Rattle.annex.specs.declared.Holding.the-variants.{AsContents, AsGeneric}
 use Rattle.annex.specs.Records.{rawItem}
 use Rattle.layout.proofs.Holdings.{contents-as, length-as, number-led}
 use Rattle.layout.proofs.length_right.Statement.{statement}
@@ -28,8 +28,8 @@ returns-3 c =
     let u = c .before in
     let st = u .before .before .before in
     let i = rawItem (st .args .t) (st .args .values .now) in
-    let k : AsNumber ≡ heldAs i = sym (u .enum-told3 .given .1) ∙ st .pre in
-    rw (← length-as AsNumber i k, number-led i (omega arith) (rw (← k) tt), ← contents-as (st .args .held) i (st .pre), ← c .len-as .ensures)
+    let k = sym (u .enum-told3 .given .1) ∙ st .pre in
+    rw (← length-as _ i k, number-led i (omega arith) (rw (← k) tt), ← contents-as (st .args .held) i (st .pre), ← c .len-as .ensures)
 
 returns-4 : tie.Need-returns-4
 returns-4 c =

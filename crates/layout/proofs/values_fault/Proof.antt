@@ -16,13 +16,13 @@ returns-2 c =
 returns-3 : tie.Need-returns-3
 returns-3 c =
     let r = c .before in
-    rw (r .before .enum-told2 .given .1, ← r .number-right .ensures) (c .fields-fault2 .ensures)
+    rw (r .before .before .held2 .given .1, ← r .number-right .ensures) (c .fields-fault2 .ensures)
 
 returns-4 : tie.Need-returns-4
 returns-4 c =
     let o = c .before in
     let r = o .before in
-    rw (r .before .enum-told3 .given .1, ← r .fields-right .ensures, ← o .octets-from .ensures) (c .fields-fault3 .ensures)
+    rw (r .before .enum-told2 .given .1, ← r .fields-right .ensures, ← o .octets-from .ensures) (c .fields-fault3 .ensures)
 
 pub values-fault-spec : {M : Type 1} → statement M
 values-fault-spec =

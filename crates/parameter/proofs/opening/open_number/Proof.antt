@@ -2,6 +2,7 @@
 use native.Mathlib.Omega.{arith}
 use mathlib.Core.Path.{_≡_, refl, sym, _∙_}
 use Prim.Native.Nat.{ℕ, _+_}
+use mathlib.Core.Bool.{false}
 use mathlib.Core.List.{List}
 use lib.Dec.{leb}
 use lib.ListN.{length, drop}
@@ -36,7 +37,7 @@ returns c =
     let p = c .before .before in
     let a = p .before .before .before .before .before .args in
     let s = a .s .now in
-    let w = not-stored (openBy AsNumber (a .header) s) (a .used) (digits s) (a .values .now) _ _ refl (unpacked p) (c .before .if1 .taken) in
+    let w = not-stored (openBy (AsNumber false) (a .header) s) (a .used) (digits s) (a .values .now) _ _ refl (unpacked p) (c .before .if1 .taken) in
     (c .none .ensures ∙ w .0, w .1)
 
 cast-number : tie.Need-cast-number
@@ -46,7 +47,7 @@ cast-number c =
     let n = p .before .before .before in
     let a = n .before .before .args in
     let s = a .s .now in
-    omega (arith, few-stored (openBy AsNumber (a .header) s) (a .used) (digits s) (a .values .now) _ _ refl (unpacked p) (e .if1 .left), number-digits s, n .count-of .ensures)
+    omega (arith, few-stored (openBy (AsNumber false) (a .header) s) (a .used) (digits s) (a .values .now) _ _ refl (unpacked p) (e .if1 .left), number-digits s, n .count-of .ensures)
 
 returns-2 : tie.Need-returns-2
 returns-2 c =
@@ -55,7 +56,7 @@ returns-2 c =
     let n = p .before .before .before in
     let a = n .before .before .args in
     let s = a .s .now in
-    let i = openBy AsNumber (a .header) s in
+    let i = openBy (AsNumber false) (a .header) s in
     let w = all-stored i (a .used) (digits s) (a .values .now) _ _ refl (unpacked p) (e .if1 .left) in
     let l : length (digits s) ≡ n .count-of .result = number-digits s ∙ sym (n .count-of .ensures) in
     let h : c .number .result ≡ headOf i = rw (c .number .ensures, c .before .before .octet-at .ensures, c .before .octet-at2 .ensures, l) in
