@@ -4,8 +4,7 @@ use mathlib.Core.Bool.{Bool, false, cond, _&&_, _||_}
 use mathlib.Core.List.{List, [], _∷_}
 use lib.Dec.{eqb, leb}
 use Rattle.annex.specs.Answers.{bad-form, no-class-list}
-use Rattle.annex.specs.Heads.{zeroesOf}
-use Rattle.annex.specs.Contents.{clear}
+use Rattle.annex.specs.Heads.{clear, zeroesOf}
 use Rattle.annex.specs.declared.Class.{Class}
 use Rattle.annex.specs.declared.Class.the-variants.{Named, HeldBack, Spare}
 use Rattle.annex.specs.declared.ClassAnswer.{ClassAnswer}

@@ -4,10 +4,9 @@ use Prim.Native.Nat.{ℕ, _+_, _-_, _*_, _/_, _%_}
 use mathlib.Core.Bool.{Bool, true, false, cond, not, _&&_}
 use mathlib.Core.List.{List}
 use lib.Dec.{eqb, ltb}
-use lib.Bits.{bitAnd}
 use lib.ListN.{length, getD, drop}
 use Rattle.annex.specs.Answers.{bad-form}
-use Rattle.annex.specs.Heads.{added-calling-number, withheld, zeroesOf, formOf}
+use Rattle.annex.specs.Heads.{added-calling-number, withheld, clear, zeroesOf, formOf}
 use Rattle.annex.specs.declared.Check.{Check}
 use Rattle.annex.specs.declared.Form.{Form}
 use Rattle.annex.specs.declared.Check.the-variants.{Nothing, Long, Two}
@@ -16,10 +15,6 @@ use Rattle.annex.specs.Digits.{digitsFault}
 use Rattle.annex.specs.declared.Alphabet.the-variants.{Dialled, Numbered}
 use Rattle.annex.specs.declared.Fault.{Fault}
 use Rattle.annex.specs.declared.Fault.the-variants.{Sound, Bad}
-
--- no bit of the mask is set in x
-abbrev pub clear : ℕ → ℕ → Bool
-clear mask x = eqb (bitAnd x mask) 0
 
 -- 12 where the form is not kept; it comes before other faults
 abbrev pub formedThen : Bool → Fault → Fault

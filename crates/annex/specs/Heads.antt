@@ -4,6 +4,7 @@ use Prim.Native.Nat.{ℕ, zero, suc, _+_, _*_, _%_}
 use mathlib.Core.Bool.{Bool, false, cond, not, _&&_, _||_}
 use mathlib.Core.List.{List, [], _∷_, map}
 use lib.Dec.{eqb}
+use lib.Bits.{bitAnd}
 use Rattle.annex.specs.Units.{pliOf, nameOf}
 use Rattle.annex.specs.declared.Marks.the-variants.{Unmarked, Notified, Verified, Typed}
 use Rattle.annex.specs.declared.Check.the-variants.{Nothing, Long, Two}
@@ -14,6 +15,10 @@ use Rattle.annex.specs.declared.Form.the-variants.{Checked, Digits, Numb
 abbrev pub among : ℕ → List ℕ → Bool
 among x [] = false
 among x (y ∷ ys) = eqb x y || among x ys
+
+-- no bit of the mask is set in x
+abbrev pub clear : ℕ → ℕ → Bool
+clear mask x = eqb (bitAnd x mask) 0
 
 -- common headers
 abbrev pub end-mark : ℕ

@@ -9,8 +9,8 @@ use lib.Dec.{eqb, leb, ltb}
 use lib.ListN.{length, getD, take, drop, length-take, length-drop}
 use Rattle.annex.specs.Answers.{unused-name, other-pli, repeated-name, cut-contents, bad-form, transfer-over, no-room, absent, numberOf, placeOf, givenOf, refuse, soundThen, headerAt, andThen, classValueOf, classPlaceOf, classGivenOf}
 use Rattle.annex.specs.Units.{nameOf, afterOf, extentOf, contentsIn}
-use Rattle.annex.specs.Heads.{among, transfer-data, most-octets, most-transfer-octets, nameUsed, pliRight, oftenOf, zeroesOf}
-use Rattle.annex.specs.Contents.{clear, faultOf}
+use Rattle.annex.specs.Heads.{clear, among, transfer-data, most-octets, most-transfer-octets, nameUsed, pliRight, oftenOf, zeroesOf}
+use Rattle.annex.specs.Contents.{faultOf}
 use Rattle.annex.specs.Items.{Item, Part}
 use Rattle.annex.specs.Layout.{layoutItems, layout}
 use Rattle.annex.specs.Allowed.{every, isOctet, headersOf, itemsIn, namesOf, timesIn}

@@ -5,8 +5,7 @@ use mathlib.Core.Bool.{Bool, true, false, cond}
 use mathlib.Core.List.{List, [], _∷_}
 use lib.Dec.{eqb}
 use Rattle.annex.specs.Answers.{bad-form, no-class-list}
-use Rattle.annex.specs.Heads.{zeroesOf}
-use Rattle.annex.specs.Contents.{clear}
+use Rattle.annex.specs.Heads.{clear, zeroesOf}
 use Rattle.annex.specs.Classes.{ClassList, classLists, classBy, classIn, classOf}
 use Rattle.annex.specs.declared.ClassAnswer.{ClassAnswer}
 use Rattle.annex.specs.declared.ClassAnswer.the-variants.{Is, Refused}

@@ -8,11 +8,11 @@ use lib.Dec.{eqb, leb}
 use lib.ListN.{length, getD}
 use borrow.Author.Tests.{eqb-true, leb-true, le-leb, ltb-true, lt-ltb, eq-eqb}
 use Rattle.annex.specs.Units.{afterOf}
-use Rattle.annex.specs.Heads.{most-digits}
+use Rattle.annex.specs.Heads.{clear, most-digits}
 use Rattle.annex.specs.declared.Marks.{Marks}
 use Rattle.annex.specs.declared.Marks.the-variants.{Unmarked, Notified, Verified, Typed}
 use Rattle.annex.specs.Digits.{isDigit, digitsOf, packed}
-use Rattle.annex.specs.Contents.{clear, dialledFault}
+use Rattle.annex.specs.Contents.{dialledFault}
 use Rattle.annex.specs.Items.{Item, openMarks, openBy, upperMarks, contentsBy, ownMarks}
 use Rattle.annex.specs.declared.Holding.the-variants.{AsDigits}
 use Rattle.annex.specs.Allowed.{every, isOctet, lengthFits, marksRight}

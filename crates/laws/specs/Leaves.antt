@@ -9,13 +9,13 @@ use lib.Dec.{eqb}
 use lib.ListN.{length, getD, drop}
 use borrow.Author.Tests.{eqb-true, ne-eqb}
 use Rattle.annex.specs.Units.{extentOf}
-use Rattle.annex.specs.Heads.{pliRight, zeroesOf, formOf}
+use Rattle.annex.specs.Heads.{clear, pliRight, zeroesOf, formOf}
 use Rattle.annex.specs.declared.Check.{Check}
 use Rattle.annex.specs.declared.Form.{Form}
 use Rattle.annex.specs.declared.Marks.the-variants.{Unmarked, Notified, Verified, Typed}
 use Rattle.annex.specs.declared.Form.the-variants.{Checked, Digits, Number, Calling, Generic}
 use Rattle.annex.specs.Digits.{packed}
-use Rattle.annex.specs.Contents.{clear, presentationOf, numberFault, genericFault, faultBy, faultOf}
+use Rattle.annex.specs.Contents.{presentationOf, numberFault, genericFault, faultBy, faultOf}
 use Rattle.annex.specs.Items.{Item, holdingBy, holdingOf, plainItem, openBy, itemOf, numberContents, contentsBy, heldAs, contentsOf, ownBy, ownOf}
 use Rattle.annex.specs.declared.Holding.{Holding}
 use Rattle.annex.specs.declared.Holding.the-variants.{AsContents, AsDigits, AsNumber, AsGeneric}
@@ -31,19 +31,15 @@ use Rattle.laws.specs.Numbers.{NumberOpen, number-open, NumberClosed, nu
 
 -- ---- contents held as they are
 
--- whatever is checked of them: the parameter's values are its contents, its fault is theirs, and they open to their values
+-- whatever the check: the parameter's values are its contents, its fault is theirs, and they open to their values
 pub record AsTheyAre (i : Item) : Type 0 where
   pub contents : contentsOf i ≡ i .values
   pub fault : faultIn i ≡ faultOf (i .header) (i .values)
   pub opens : itemOf (i .header) (i .values) ≡ plainItem (i .header) (i .values)
 
-pub as-they-are : (i : Item) → heldAs i ≡ AsContents → AsTheyAre i
-unfolding contentsOf faultIn itemOf
-as-they-are i e = record { contents = rw e; fault = rw e; opens = rw e }
-
-pub checked-held : (c : Check) (i : Item) → formOf (i .header) ≡ Checked c → heldAs i ≡ AsContents
-unfolding holdingOf
-checked-held c i e = rw e
+pub as-they-are : (c : Check) (i : Item) → formOf (i .header) ≡ Checked c → AsTheyAre i
+unfolding contentsOf faultIn itemOf holdingOf
+as-they-are c i e = record { contents = rw e; fault = rw e; opens = rw e }
 
 -- ---- from contents to a parameter
 

@@ -9,17 +9,13 @@ use borrow.Author.Tests.{ltb-false, eqb-false, not-true}
 use lib.Dec.{eqb, ltb}
 use lib.ListN.{length, getD, drop, length-drop}
 use Rattle.annex.specs.Answers.{bad-form, bad-digit, readingAt}
-use Rattle.annex.specs.Heads.{added-calling-number, withheld, zeroesOf, formOf}
+use Rattle.annex.specs.Heads.{clear, added-calling-number, withheld, zeroesOf, formOf}
 use Rattle.annex.specs.declared.Check.{Check}
 use Rattle.annex.specs.declared.Form.{Form}
 use Rattle.annex.specs.declared.Check.the-variants.{Nothing, Long, Two}
 use Rattle.annex.specs.declared.Form.the-variants.{Checked, Digits, Number, Calling, Generic}
-use Rattle.annex.specs.Digits.{halves, isCode, isDigit, halvesFault, digitsFault}
-use Rattle.annex.specs.Contents.{Rule, clear, formedThen, formed, oddOf, presentationOf, countOf, numberFault, callingFault, genericFault, dialledFault, twoFault, checkFault, faultBy, faultOf}
-use Rattle.annex.specs.Items.{Item, contentsBy, heldAs, contentsOf}
-use Rattle.annex.specs.declared.Holding.{Holding}
-use Rattle.annex.specs.declared.Holding.the-variants.{AsContents, AsDigits, AsNumber, AsGeneric}
-use Rattle.annex.specs.Allowed.{every, marksRight, fieldsRight, numberRight, valuesFault, faultAs, faultIn}
+use Rattle.annex.specs.Digits.{halves, isCode, halvesFault, digitsFault}
+use Rattle.annex.specs.Contents.{Rule, formedThen, formed, oddOf, presentationOf, countOf, numberFault, callingFault, genericFault, dialledFault, twoFault, checkFault, faultBy, faultOf}
 use Rattle.annex.specs.declared.Alphabet.{Alphabet}
 use Rattle.annex.specs.declared.Alphabet.the-variants.{Dialled, Numbered}
 use Rattle.annex.specs.declared.Fault.{Fault}
@@ -117,20 +113,3 @@ RuleWithin rule = (h : ℕ) (s : List ℕ) → Within (length s) (rule h s)
 -- reading tells a fault at the header or at an octet behind it that is the parameter's own
 pub reading-within : (lead n : ℕ) (f : Fault) → Within n f → (k i : ℕ) → f ≡ Bad k i → readingAt (1 + lead) k i ≤ lead + n
 reading-within lead n f w k i e = omega arith
-
--- ---- a record's values
-
-values-within : (n : ℕ) (b : Bool) (ds : List ℕ) → 0 < n → Within n (formedThen b (valuesFault ds))
-values-within n b ds l =
-    formed-within n b (valuesFault ds)
-    (λ t. cond-within n (every isDigit ds) Sound (Bad bad-digit 0) (sound-within n) (bad-within n bad-digit 0 l))
-
-as-within : (k : Holding) (i : Item) → Within (length (contentsBy k i)) (faultAs k i)
-as-within AsContents i = fault-within (i .header) (i .values)
-as-within (AsDigits m) i = values-within (length (contentsBy (AsDigits m) i)) (marksRight m i) (i .values) (omega arith)
-as-within (AsNumber w) i = values-within (length (contentsBy (AsNumber w) i)) (numberRight w i) (i .values) (omega arith)
-as-within AsGeneric i = values-within (length (contentsBy AsGeneric i)) (fieldsRight i) (drop 1 (i .values)) (omega arith)
-
-pub item-within : (i : Item) → Within (length (contentsOf i)) (faultIn i)
-unfolding contentsOf faultIn
-item-within i = as-within (heldAs i) i

@@ -1,12 +1,11 @@
 -- Octets laid out one list after the other in lent room: what has been written so far stands at its front, and the rest is as it was.
-use Prim.Native.Nat.{ℕ, suc, _+_, _-_, _/_, _%_, _<_, _≤_}
+use Prim.Native.Nat.{ℕ, _+_, _-_, _%_, _≤_}
 use native.Mathlib.Omega.{arith}
 use mathlib.Core.Path.{_≡_, refl, sym, ap, _∙_}
-use mathlib.Core.Bool.{true, false}
 use mathlib.Core.List.{List, [], _∷_, _++_, map-append, append-nil, append-assoc}
 use borrow.Rule.Slice.PartMut.{putMid}
 use lib.ListN.{length, take, drop, set, length-append, length-drop}
-use lib.Seq.{sets, take-length, drop-length}
+use lib.Seq.{sets}
 use Rattle.laws.specs.Written.{lowOctets, atFront, length-low, written-length, written-then}
 use Rattle.laws.specs.Fronts.{front-all}
 use Rattle.laws.specs.Parts.{to-end}

@@ -3,7 +3,8 @@ use Prim.Native.Nat.{ℕ}
 use mathlib.Core.Path.{_≡_}
 use mathlib.Core.List.{List}
 use lib.ListN.{getD}
-use Rattle.annex.specs.Contents.{clear, formedThen, faultBy, faultOf}
+use Rattle.annex.specs.Heads.{clear}
+use Rattle.annex.specs.Contents.{formedThen, faultBy, faultOf}
 use Rattle.heads.specs.Asked.{askedOf}
 use Rattle.heads.specs.declared.Asked.{Asked}
 

@@ -11,9 +11,9 @@ use lib.Dec.{eqb, leb}
 use lib.ListN.{length, getD, drop}
 use Rattle.annex.specs.Answers.{numberOf, givenOf, faultNumberOf, stopOf, over-limits, refuse, soundThen, headerAt}
 use Rattle.annex.specs.Units.{octetsOf, afterOf, leadOf, commonExtentOf, extentOf}
-use Rattle.annex.specs.Heads.{among, listedHeaders, isCall, signalOf, nameUsed, pliRight, oftenOf, zeroesOf, formOf}
+use Rattle.annex.specs.Heads.{clear, among, listedHeaders, isCall, signalOf, nameUsed, pliRight, oftenOf, zeroesOf, formOf}
 use Rattle.annex.specs.Digits.{halves, joined, digitOf, codeOf, isCode, isDigit, halvesFault, digitsFault, digitsOf, packed}
-use Rattle.annex.specs.Contents.{clear, formedThen, dialledFault, faultOf}
+use Rattle.annex.specs.Contents.{formedThen, dialledFault, faultOf}
 use Rattle.annex.specs.Items.{plainItem, holdingOf, openBy, itemOf, contentsOf, ownOf}
 use Rattle.annex.specs.declared.Holding.{Holding}
 use Rattle.annex.specs.declared.Holding.the-variants.{AsContents, AsDigits, AsNumber, AsGeneric}
