@@ -5,68 +5,29 @@ use mathlib.Core.Path.{_≡_, refl, ap, _∙_}
 use mathlib.Core.Bool.{Bool, true, false, cond, not, _||_, _&&_}
 use mathlib.Core.List.{List, [], _∷_, _++_}
 use borrow.Author.Tests.{ltb-false}
-use lib.Dec.{eqb, leb, ltb}
+use lib.Dec.{eqb, ltb}
 use lib.ListN.{length, length-append}
-use Rattle.annex.specs.Answers.{
-  over-limits,
-  unlisted,
-  repeated,
-  not-allowed,
-  missing,
-  unused-name,
-  other-pli,
-  repeated-name,
-  cut-contents,
-  bad-form,
-  transfer-over,
-  no-room,
-  refuse,
-  soundThen,
-  headerAt,
-  andThen,
-}
-use Rattle.annex.specs.Units.{nameOf, extentOf}
-use Rattle.annex.specs.Heads.{
-  among,
-  commonHeaders,
-  transfer-data,
-  isCall,
-  most-commons,
-  most-transfers,
-  most-transfer-octets,
-  nameUsed,
-  pliRight,
-  oftenOf,
-  most-values,
-}
+use Rattle.annex.specs.Answers.{over-limits, missing, transfer-over, no-room, refuse, andThen}
+use Rattle.annex.specs.Units.{extentOf}
+use Rattle.annex.specs.Heads.{among, commonHeaders, transfer-data, isCall, most-commons, most-transfers, most-transfer-octets, most-values}
 use Rattle.annex.specs.Items.{Item, Part}
 use Rattle.annex.specs.Layout.{callOctets, dataOctets, layoutItem, layoutItems, layoutPart, layout}
-use Rattle.annex.specs.Allowed.{every, isOctet, lengthRight, faultIn, valueRight, valueFits, itemsIn, contentsSum}
+use Rattle.annex.specs.Allowed.{every, isOctet, valueRight, valueFits, itemsIn, contentsSum}
 use Rattle.annex.specs.Walk.{Seen, unseen, timesSeen, counted}
 use Rattle.annex.specs.Reading.{wholeIn, verdictOf, recordOf}
 use Rattle.annex.specs.Records.{pack, isWhole, view}
-use Rattle.annex.specs.Writing.{
-  itemWriting,
-  itemsWriting,
-  dataWriting,
-  partWriting,
-  partsWriting,
-  overLimits,
-  recordWriting,
-  structWriting,
-  writingOf,
-}
+use Rattle.annex.specs.Writing.{itemWriting, itemsWriting, dataWriting, partWriting, partsWriting, overLimits, recordWriting, structWriting, writingOf}
 use Rattle.annex.specs.Image.{Front, imageOf, partsFront, noImage, isWithin, imagedBy, imagedOf}
 use Rattle.annex.specs.Image.Front.{Taken, Short}
 use Rattle.annex.specs.Packed.{imageReading, imageWriting}
 use Rattle.annex.specs.declared.Answer.{Answer}
 use Rattle.annex.specs.declared.Answer.the-variants.{Accepted, Refused}
-use Rattle.annex.specs.declared.Fault.{Fault}
-use Rattle.annex.specs.declared.Fault.the-variants.{Sound, Bad}
 use Rattle.annex.specs.declared.Record.{Record}
 use Rattle.laws.specs.Laid.{length-layout, lead-small}
+use Rattle.laws.specs.Places.{item-place}
 use Rattle.theorems.specs.Messages.{read-then-laid}
 use Rattle.theorems.specs.Records.{layout-append, allowed-within}
+use Rattle.theorems.specs.Writings.{item-written}
 use Rattle.to_image.specs.Octets.{items-long, parts-long}
 use Rattle.boundary.specs.Small.{Upto, upto-more, upto-refuse, upto-then, verdict-upto}
 
@@ -90,24 +51,13 @@ image-upto m room o = go (verdictOf m) refl (verdict-upto m)
 
 -- ---- writing
 
--- refusals at the same place
-upto-three : (a b c : Bool) (i j k p n : ℕ) (rest : Answer) → p ≤ n → Upto n rest → Upto n (refuse a i p (refuse b j p (refuse c k p rest)))
-upto-three a b c i j k p n rest h u =
-    upto-refuse a i p n (refuse b j p (refuse c k p rest)) h (upto-refuse b j p n (refuse c k p rest) h (upto-refuse c k p n rest h u))
-
-upto-sound : (place : ℕ → ℕ → ℕ) (f : Fault) (n : ℕ) → ((j i : ℕ) → f ≡ Bad j i → place j i ≤ n) → Upto n (soundThen place f (Accepted n))
-upto-sound place Sound n h = (omega arith, omega arith)
-upto-sound place (Bad k i) n h = (h k i refl, omega arith)
-
 -- no place is behind the octets that are written
 item-upto : (times p : ℕ) (i : Item) → Upto (p + length (layoutItem i)) (itemWriting times p i)
-unfolding itemWriting
-item-upto times p i =
-    let n = p + length (layoutItem i) in
-    let sound = soundThen (headerAt p) (faultIn i) (Accepted n) in
-    let late = refuse (not (lengthRight i)) cut-contents p sound in
-    upto-three (not (nameUsed (i .header))) (not (pliRight (i .header))) (leb (oftenOf (nameOf (i .header))) times) unused-name other-pli repeated-name p n late (omega arith)
-    (upto-refuse (not (lengthRight i)) cut-contents p n sound (omega arith) (upto-sound (headerAt p) (faultIn i) n (λ j k e. omega arith)))
+item-upto times p i = go (itemWriting times p i) refl
+  where
+    go : (a : Answer) → itemWriting times p i ≡ a → Upto (p + length (layoutItem i)) a
+    go (Accepted n) e = (omega arith, omega (arith, item-written times p i n e .behind))
+    go (Refused k q) e = (omega (arith, item-place times p i .at k q e), omega arith)
 
 items-upto : (is : List Item) (seen : Seen) (p : ℕ) → Upto (p + length (layoutItems is)) (itemsWriting seen p is)
 unfolding itemsWriting layoutItems
@@ -130,8 +80,11 @@ unfolding partWriting layoutPart
 part-upto times p q =
     let n = p + length (layoutPart q) in
     let late = cond (eqb (q .header) transfer-data) (dataWriting p (q .items)) (Accepted n) in
-    upto-three (not (among (q .header) commonHeaders)) (ltb 0 times) (not (valueRight q)) unlisted repeated not-allowed p n (refuse (not (valueFits q)) bad-form p late) (omega arith)
-    (upto-refuse (not (valueFits q)) bad-form p n late (omega arith) (go (eqb (q .header) transfer-data) (cond (isCall (q .header)) (callOctets (q .value)) (q .value ∷ []))))
+    upto-refuse (not (among (q .header) commonHeaders)) _ p n _ (omega arith)
+    (upto-refuse (ltb 0 times) _ p n _ (omega arith)
+    (upto-refuse (not (valueRight q)) _ p n _ (omega arith)
+    (upto-refuse (not (valueFits q)) _ p n late (omega arith)
+    (go (eqb (q .header) transfer-data) (cond (isCall (q .header)) (callOctets (q .value)) (q .value ∷ []))))))
   where
     go : (b : Bool) (other : List ℕ) → Upto (p + length (q .header ∷ cond b (dataOctets (layoutItems (q .items))) other)) (cond b (dataWriting p (q .items)) (Accepted (p + length (q .header ∷ cond b (dataOctets (layoutItems (q .items))) other))))
     go true other =

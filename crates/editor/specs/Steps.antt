@@ -22,7 +22,7 @@ use Rattle.annex.specs.declared.Answer.{Answer}
 use Rattle.annex.specs.declared.Answer.the-variants.{Accepted, Refused}
 use Rattle.annex.specs.declared.Found.{Found}
 use Rattle.annex.specs.declared.Found.the-variants.{At, Nowhere}
-use Rattle.laws.specs.Steps.{refuse-then}
+use Rattle.laws.specs.Steps.{head-then}
 use Rattle.laws.specs.Parts.{from-to}
 use Rattle.laws.specs.Finding.{moved, transferSearch, commonPlain, common-inside, common-plain, transfer-plain}
 use Rattle.theorems.specs.Lists.{every-take}
@@ -114,9 +114,10 @@ free-refuse l (At s e) a = refl
 free-refuse l Nowhere a = refl
 
 -- a new parameter whose header is accepted has one
-head-then : (new : List ℕ) (f : Answer → Answer) → newHead new (f (newContents new)) ≡ andThen (newHead new (Accepted 0)) (λ _. f (contentsAnswer new))
-head-then [] f = refl
-head-then (h ∷ xs) f = rw (ne-eqb (length (h ∷ xs)) 0 (λ e. omega arith)) (simp refuse-then)
+new-head-then : (new : List ℕ) (f : Answer → Answer) → newHead new (f (newContents new)) ≡ andThen (newHead new (Accepted 0)) (λ _. f (contentsAnswer new))
+new-head-then [] f = refl
+new-head-then (h ∷ xs) f =
+    rw (ne-eqb (length (h ∷ xs)) 0 (λ e. omega arith)) (sym (head-then 0 h (Accepted 0) (λ _. f (newContents (h ∷ xs)))))
 
 -- a name stands no oftener than so many times, or it stands oftener
 times-test : (a b : ℕ) → leb a b ≡ not (ltb b a)
@@ -163,14 +164,14 @@ module _ (d : List ℕ) (n j : ℕ) (o : every isOctet d ≡ true) (v : verdictO
         let x = nameOf (newHeader new) in
         let k = kind.Replacing which in
         let w = wholeSearch x which (take (t - s) (drop s d)) in
-        rw (name-lacks x which, found-refuse k w (newContents new) refl) (head-then new (spotAnswer k w))
+        rw (name-lacks x which, found-refuse k w (newContents new) refl) (new-head-then new (spotAnswer k w))
     own-steps kind.Appending new b =
         let x = nameOf (newHeader new) in
         let last = oftenOf x - 1 in
         let w = wholeSearch x last (take (t - s) (drop s d)) in
         let l = length (take (t - s) (drop s d)) in
         let p = sym (often-there x (take n d) octets-held j v) ∙ name-held x last in
-        rw (p, free-refuse l w (newContents new)) (head-then new (spotAnswer kind.Appending (freeEnd l w)))
+        rw (p, free-refuse l w (newContents new)) (new-head-then new (spotAnswer kind.Appending (freeEnd l w)))
     own-steps (kind.Removing x which) new b =
         rw (name-lacks x which, b) (found-refuse (kind.Removing x which) (wholeSearch x which (take (t - s) (drop s d))) (Accepted 0) refl)
 

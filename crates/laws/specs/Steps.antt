@@ -1,5 +1,5 @@
 -- Laws of the steps of reading: what an accepted step says, and that its octets, and a refusal's place, lie within what it was handed.
-use mathlib.Core.Path.{_≡_, refl, sym, ap, _∙_}
+use mathlib.Core.Path.{_≡_, refl, sym, _∙_}
 use mathlib.Core.Bool.{Bool, true, false, cond, not, _||_}
 use mathlib.Core.List.{List, [], _∷_}
 use Prim.Native.Nat.{ℕ, zero, suc, _+_, _-_, _≤_, _<_}
@@ -61,10 +61,32 @@ pub sounded : (place : ℕ → ℕ → ℕ) (f : Fault) (n : ℕ) (a : Answer) �
 sounded place Sound n a e = (refl, e)
 sounded place (Bad k i) n a e = absurd (let z : _≡_ {A = ℕ} 0 1 = cc in omega arith)
 
--- 8 and 9 of a header to be written come before what follows
+-- 8 and 9 of a header to be written are one refusal, whatever the place and what follows
+pub head-refuse : (h : ℕ) → (b : Bool) × (k : ℕ) × ((p : ℕ) (a : Answer) → headWriting p h a ≡ refuse b k p a)
+head-refuse h = go (nameUsed h) (pliRight h)
+  where
+    go : (u r : Bool) → (b : Bool) × (k : ℕ) × ((p : ℕ) (a : Answer) → refuse (not u) unused-name p (refuse (not r) other-pli p a) ≡ refuse b k p a)
+    go false r = (true, unused-name, λ p a. refl)
+    go true r = (not r, other-pli, λ p a. refl)
+
+-- what is accepted has passed them
+pub record HeadTaken (h n : ℕ) (a : Answer) : Type 0 where
+  pub used : nameUsed h ≡ true
+  pub pli : pliRight h ≡ true
+  pub rest : a ≡ Accepted n
+
+pub head-taken : (p h n : ℕ) (a : Answer) → headWriting p h a ≡ Accepted n → HeadTaken h n a
+head-taken p h n a e =
+    let e₁ = passed (not (nameUsed h)) _ p n _ e in
+    let e₂ = passed (not (pliRight h)) _ p n a (e₁ .1) in
+    record { used = not-false _ (e₁ .0); pli = not-false _ (e₂ .0); rest = e₂ .1 }
+
+pub head-right : (p h : ℕ) (a : Answer) → nameUsed h ≡ true → pliRight h ≡ true → headWriting p h a ≡ a
+head-right p h a u r = rw (u, r)
+
+-- they come before what follows
 pub head-then : (p h : ℕ) (a : Answer) (f : ℕ → Answer) → andThen (headWriting p h a) f ≡ headWriting p h (andThen a f)
-head-then p h a f =
-    refuse-then (not (nameUsed h)) unused-name p _ f ∙ ap (refuse (not (nameUsed h)) unused-name p) (refuse-then (not (pliRight h)) other-pli p a f)
+head-then p h a f = let o = head-refuse h in rw (o .2 p a, o .2 p (andThen a f)) (refuse-then (o .0) (o .1) p a f)
 
 pub head-passed : (p h n : ℕ) (a : Answer) → headWriting p h (Accepted 0) ≡ Accepted n → headWriting p h a ≡ a
 head-passed p h n a e = sym (head-then p h (Accepted 0) (λ _. a)) ∙ rw e
@@ -88,6 +110,9 @@ refuse-else l false k p a h g = g refl
 
 pub refuse-place : (l : ℕ) (b : Bool) (k p : ℕ) (a : Answer) → p ≤ l → PlaceTo l a → PlaceTo l (refuse b k p a)
 refuse-place l b k p a h g = refuse-else l b k p a h (λ _. g)
+
+pub head-place : (l p h : ℕ) (a : Answer) → p ≤ l → PlaceTo l a → PlaceTo l (headWriting p h a)
+head-place l p h a i g = let o = head-refuse h in rw (o .2 p a) (refuse-place l (o .0) (o .1) p a i g)
 
 -- a fault is placed at most at l where its placing says so
 pub sound-place : (l : ℕ) (place : ℕ → ℕ → ℕ) (f : Fault) (a : Answer) → ((k i : ℕ) → f ≡ Bad k i → place k i ≤ l) → PlaceTo l a → PlaceTo l (soundThen place f a)

@@ -1,19 +1,18 @@
 -- The steps of refusing a record, as the code takes them: a transfer parameter is judged at place 0, and a common parameter without its
 -- transfer parameters first.
-use Prim.Native.Nat.{ℕ, _+_, _-_, _≤_, _<_}
+use Prim.Native.Nat.{ℕ, _+_, _-_, _≤_}
 use native.Mathlib.Omega.{arith}
 use mathlib.Core.Path.{_≡_, refl, sym, ap, _∙_}
 use mathlib.Core.Bool.{Bool, true, false, cond, not, _&&_}
 use mathlib.Core.List.{List, [], _∷_}
-use borrow.Author.Tests.{ltb-true, ltb-false, eq-eqb, ne-eqb, eqb-true, eqb-false, leb-false, not-false}
-use lib.Dec.{eqb, leb, ltb}
+use borrow.Author.Tests.{ltb-true, ltb-false, eq-eqb, ne-eqb, eqb-true, eqb-false}
+use lib.Dec.{eqb, ltb}
 use lib.ListN.{length, length-append}
-use Rattle.annex.specs.Answers.{unlisted, repeated, not-allowed, missing, bad-form, transfer-over, refuse, headerAt, andThen}
-use Rattle.annex.specs.Units.{nameOf, extentOf}
-use Rattle.annex.specs.Heads.{among, commonHeaders, user-class, signal-kind, signalKinds, sequence, transfer-data, isCall, call-number-below, most-transfer-octets, nameUsed, pliRight, oftenOf}
+use Rattle.annex.specs.Answers.{unlisted, repeated, not-allowed, missing, bad-form, transfer-over, refuse, andThen}
+use Rattle.annex.specs.Heads.{among, commonHeaders, user-class, signal-kind, signalKinds, sequence, transfer-data, isCall, call-number-below, most-transfer-octets}
 use Rattle.annex.specs.Items.{Item, Part}
-use Rattle.annex.specs.Layout.{layoutItem, layoutItems, layoutPart}
-use Rattle.annex.specs.Allowed.{every, isOctet, lengthRight, faultIn, valueRight, valueFits}
+use Rattle.annex.specs.Layout.{layoutItems, layoutPart}
+use Rattle.annex.specs.Allowed.{every, isOctet, valueRight, valueFits}
 use Rattle.annex.specs.Walk.{Seen, unseen, timesSeen, counted}
 use Rattle.annex.specs.Reading.{octetAllowed}
 use Rattle.annex.specs.Writing.{itemWriting, itemsWriting, dataWriting, partWriting, partsWriting}
@@ -21,9 +20,9 @@ use Rattle.annex.specs.declared.Answer.{Answer}
 use Rattle.annex.specs.declared.Answer.the-variants.{Accepted, Refused}
 use Rattle.annex.specs.declared.Common.{Common}
 use Rattle.laws.specs.Bools.{and-left, and-right}
-use Rattle.laws.specs.Steps.{passed, then-passed, sounded, PlaceTo, accepted-place, refuse-place, sound-place, refuse-then}
-use Rattle.laws.specs.Places.{farther, item-from}
-use Rattle.laws.specs.Laid.{length-layout, lead-small, length-small}
+use Rattle.laws.specs.Steps.{passed, then-passed, refuse-then}
+use Rattle.laws.specs.Places.{farther, item-from, item-place}
+use Rattle.theorems.specs.Writings.{item-written}
 use Rattle.limits.specs.Along.{partFrom}
 use Rattle.refusing.specs.Laying.{headLength, head-long, length-head, plain-laid}
 
@@ -33,37 +32,6 @@ use Rattle.refusing.specs.Laying.{headLength, head-long, length-head, pl
 abbrev pub placedAt : ℕ → Answer → Answer
 placedAt p (Accepted n) = Accepted n
 placedAt p (Refused k q) = Refused k p
-
--- what an accepted one says
-pub record ItemPassed (times p : ℕ) (i : Item) (n : ℕ) : Type 0 where
-  pub fewer : times < oftenOf (nameOf (i .header))
-  pub behind : n ≡ p + length (layoutItem i)
-  pub short : length (layoutItem i) ≤ 257
-
-pub item-passed : (times p : ℕ) (i : Item) (n : ℕ) → itemWriting times p i ≡ Accepted n → ItemPassed times p i n
-unfolding itemWriting
-item-passed times p i n e =
-    let e₁ = passed (not (nameUsed (i .header))) _ p n _ e in
-    let e₂ = passed (not (pliRight (i .header))) _ p n _ (e₁ .1) in
-    let e₃ = passed (leb (oftenOf (nameOf (i .header))) times) _ p n _ (e₂ .1) in
-    let e₄ = passed (not (lengthRight i)) _ p n _ (e₃ .1) in
-    let e₅ = sounded (headerAt p) (faultIn i) n (Accepted (p + length (layoutItem i))) (e₄ .1) in
-    let same : p + length (layoutItem i) ≡ n = cc in
-    record {
-      fewer = leb-false _ _ (e₃ .0);
-      behind = sym same;
-      short = omega (arith, length-layout i, lead-small (extentOf (i .header)), length-small i (not-false _ (e₄ .0)));
-    }
-
--- it is refused at its header
-item-place : (times : ℕ) (i : Item) → PlaceTo 0 (itemWriting times 0 i)
-unfolding itemWriting
-item-place times i =
-    refuse-place 0 (not (nameUsed (i .header))) _ 0 _ (omega arith)
-    (refuse-place 0 (not (pliRight (i .header))) _ 0 _ (omega arith)
-    (refuse-place 0 (leb (oftenOf (nameOf (i .header))) times) _ 0 _ (omega arith)
-    (refuse-place 0 (not (lengthRight i)) _ 0 _ (omega arith)
-    (sound-place 0 (headerAt 0) (faultIn i) (Accepted (0 + length (layoutItem i))) (λ k j e. omega arith) (accepted-place 0 (0 + length (layoutItem i)))))))
 
 -- a parameter with the header h, judged at place 0, first among those from the place p on
 module _ (seen : Seen) (p h : ℕ) (i : Item) (is : List Item) (a : Answer) (same : i .header ≡ h) (e : itemWriting (timesSeen seen h) 0 i ≡ a) where
@@ -75,7 +43,7 @@ module _ (seen : Seen) (p h : ℕ) (i : Item) (is : List Item) (a : Answer) (sam
 
   pub items-refused : (k z : ℕ) → a ≡ Refused k z → itemsWriting seen p (i ∷ is) ≡ Refused k p
   items-refused k z r =
-      let none : z ≡ 0 = omega (arith, item-place (timesSeen seen h) i .at k z (e ∙ r)) in
+      let none : z ≡ 0 = omega (arith, item-place (timesSeen seen h) 0 i .at k z (e ∙ r)) in
       let here : p + z ≡ p = omega arith in
       rw (told, r) (ap (Refused k) here)
 
@@ -93,7 +61,7 @@ items-behind [] seen p n e = let same : p ≡ n = cc in omega arith
 items-behind (i ∷ is) seen p n e =
     let k = i .header in
     let t = then-passed (itemWriting (timesSeen seen k) p i) (λ q. itemsWriting (counted seen k) q is) n e in
-    let w = item-passed (timesSeen seen k) p i (t .0) (t .1) in
+    let w = item-written (timesSeen seen k) p i (t .0) (t .1) in
     simp length-append (omega (arith, w .behind, items-behind is (counted seen k) (t .0) n (t .2)))
 
 -- ---- a common parameter

@@ -22,7 +22,7 @@ use Rattle.annex.specs.Editing.{Edit, newHeader, newAfter, newHead, newContents
 use Rattle.annex.specs.Editing.Edit.{Replacing, Appending, Removing}
 use Rattle.annex.specs.declared.Answer.the-variants.{Accepted}
 use Rattle.annex.specs.declared.Fault.the-variants.{Sound}
-use Rattle.laws.specs.Steps.{passed, then-passed, sounded}
+use Rattle.laws.specs.Steps.{passed, then-passed, sounded, head-taken, head-right}
 use Rattle.theorems.specs.Lengths.{Long}
 use Rattle.theorems.specs.Messages.{message-read}
 
@@ -70,20 +70,19 @@ new-passed new b k j a =
     let xs = newAfter new in
     let l = afterOf (extentOf h) (getD xs 0 0) in
     let a₁ = passed (eqb (length new) 0) _ 0 j _ a in
-    let a₂ = passed (not (nameUsed h)) _ 0 j _ (a₁ .1) in
-    let a₃ = passed (not (pliRight h)) _ 0 j _ (a₂ .1) in
-    let a₄ = passed b k 0 j (newContents new) (a₃ .1) in
-    let a₅ = passed (not (eqb (length xs) l)) _ 0 j _ (a₄ .1) in
-    let a₆ = sounded (headerAt 0) (faultOf h (contentsIn (extentOf h) xs)) j (Accepted 0) (a₅ .1) in
+    let a₂ = head-taken 0 h j _ (a₁ .1) in
+    let a₃ = passed b k 0 j (newContents new) (a₂ .rest) in
+    let a₄ = passed (not (eqb (length xs) l)) _ 0 j _ (a₃ .1) in
+    let a₅ = sounded (headerAt 0) (faultOf h (contentsIn (extentOf h) xs)) j (Accepted 0) (a₄ .1) in
     let some : 0 < length new = omega (arith, eqb-false (length new) 0 (a₁ .0)) in (
       record {
         some = some;
-        used = not-false (nameUsed h) (a₂ .0);
-        pli = not-false (pliRight h) (a₃ .0);
-        long = eqb-true (length xs) l (not-false (eqb (length xs) l) (a₅ .0));
-        sound = a₆ .0;
+        used = a₂ .used;
+        pli = a₂ .pli;
+        long = eqb-true (length xs) l (not-false (eqb (length xs) l) (a₄ .0));
+        sound = a₅ .0;
       },
-      a₄ .0,
+      a₃ .0,
     )
 
 -- the edit's own tests
@@ -135,7 +134,7 @@ edit-taken e d n k a =
 new-accepts : (new : List ℕ) (k : ℕ) → NewRight new → newHead new (refuse false k 0 (newContents new)) ≡ Accepted 0
 new-accepts new k r =
     let some = r .some in
-    rw (ne-eqb (length new) 0 (λ e. omega arith), r .used, r .pli, eq-eqb (length (newAfter new)) _ (r .long), r .sound)
+    rw (ne-eqb (length new) 0 (λ e. omega arith), head-right 0 (newHeader new) _ (r .used) (r .pli), eq-eqb (length (newAfter new)) _ (r .long), r .sound)
 
 edit-right : (e : Edit) (is : List Item) → EditRight e is → editRefusal e is ≡ Accepted 0
 unfolding editRefusal

@@ -11,8 +11,8 @@ use borrow.Author.Tests.{not-false, leb-false, lt-leb, ltb-true, ltb-false, le-l
 use lib.Dec.{eqb, leb, ltb}
 use lib.ListN.{length, drop, length-append}
 use Rattle.annex.specs.Answers.{missing, transfer-over, over-limits, refuse, headerAt}
-use Rattle.annex.specs.Units.{nameOf}
-use Rattle.annex.specs.Heads.{among, commonHeaders, user-class, signal-kind, transfer-data, most-commons, most-transfers, most-transfer-octets, most-octets, nameUsed, pliRight, oftenOf}
+use Rattle.annex.specs.Units.{nameOf, extentOf}
+use Rattle.annex.specs.Heads.{among, commonHeaders, user-class, signal-kind, transfer-data, most-commons, most-transfers, most-transfer-octets, most-octets, oftenOf}
 use Rattle.annex.specs.Items.{Item, Part}
 use Rattle.annex.specs.Layout.{layoutItem, layoutItems, layoutPart, layout}
 use Rattle.annex.specs.Allowed.{every, Each, isOctet, lengthRight, faultIn, valueRight, valueFits, HeldItem, HeldPart, Held, itemsIn, contentsSum, namesOf, partNamesOf, Allowed, Writable}
@@ -23,7 +23,8 @@ use Rattle.annex.specs.Records.{pack, isWhole, view, readingOf}
 use Rattle.annex.specs.declared.Record.{Record}
 use Rattle.annex.specs.declared.Answer.the-variants.{Accepted}
 use Rattle.laws.specs.Bools.{and-left, and-right}
-use Rattle.laws.specs.Steps.{passed, then-passed, sounded}
+use Rattle.laws.specs.Steps.{passed, then-passed, sounded, head-taken, head-right}
+use Rattle.laws.specs.Laid.{length-layout, lead-small, length-small}
 use Rattle.theorems.specs.Counts.{Full, full-unseen, full-counted, none-seen, moved, Sparing, sparing-first, sparing-rest, sparing-cons, sparing-more}
 use Rattle.theorems.specs.Transfers.{AllowedItem, AllowedItems, none-often}
 use Rattle.theorems.specs.Commons.{AllowedPart, no-items}
@@ -36,29 +37,24 @@ use Rattle.theorems.specs.Views.{FitsStruct, view-held, view-pack, whole
 
 -- what an accepted one says; n is the place behind it
 pub record ItemWritten (times p : ℕ) (i : Item) (n : ℕ) : Type 0 where
-  pub allowed : AllowedItem i
+  pub allowed : HeldItem i → AllowedItem i
+  pub short : length (layoutItem i) ≤ most-transfer-octets + 2
   pub fewer : times < oftenOf (nameOf (i .header))
   pub behind : n ≡ p + length (layoutItem i)
 
-pub item-written : (times p : ℕ) (i : Item) (n : ℕ) → HeldItem i → itemWriting times p i ≡ Accepted n → ItemWritten times p i n
+pub item-written : (times p : ℕ) (i : Item) (n : ℕ) → itemWriting times p i ≡ Accepted n → ItemWritten times p i n
 unfolding itemWriting
-item-written times p i n h e =
-    let e₁ = passed (not (nameUsed (i .header))) _ p n _ e in
-    let e₂ = passed (not (pliRight (i .header))) _ p n _ (e₁ .1) in
-    let e₃ = passed (leb (oftenOf (nameOf (i .header))) times) _ p n _ (e₂ .1) in
-    let e₄ = passed (not (lengthRight i)) _ p n _ (e₃ .1) in
-    let e₅ = sounded (headerAt p) (faultIn i) n (Accepted (p + length (layoutItem i))) (e₄ .1) in
+item-written times p i n e =
+    let t = head-taken p (i .header) n _ e in
+    let e₁ = passed (leb (oftenOf (nameOf (i .header))) times) _ p n _ (t .rest) in
+    let e₂ = passed (not (lengthRight i)) _ p n _ (e₁ .1) in
+    let e₃ = sounded (headerAt p) (faultIn i) n (Accepted (p + length (layoutItem i))) (e₂ .1) in
+    let right = not-false (lengthRight i) (e₂ .0) in
     let same : p + length (layoutItem i) ≡ n = cc in
     record {
-      allowed =
-          record {
-            held = h;
-            used = not-false _ (e₁ .0);
-            pli = not-false _ (e₂ .0);
-            length-right = not-false _ (e₄ .0);
-            faultless = e₅ .0;
-          };
-      fewer = leb-false _ _ (e₃ .0);
+      allowed = λ h. record { held = h; used = t .used; pli = t .pli; length-right = right; faultless = e₃ .0 };
+      short = omega (arith, length-layout i, lead-small (extentOf (i .header)), length-small i right);
+      fewer = leb-false _ _ (e₁ .0);
       behind = sym same;
     }
 
@@ -66,7 +62,7 @@ item-written times p i n h e =
 pub item-writes : (times p : ℕ) (i : Item) → AllowedItem i → times < oftenOf (nameOf (i .header)) → itemWriting times p i ≡ Accepted (p + length (layoutItem i))
 unfolding itemWriting
 item-writes times p i a f =
-    rw (a .used, a .pli, lt-leb (oftenOf (nameOf (i .header))) times f, a .length-right, a .faultless)
+    rw (head-right p (i .header) _ (a .used) (a .pli), lt-leb (oftenOf (nameOf (i .header))) times f, a .length-right, a .faultless)
 
 -- ---- transfer parameters
 
@@ -82,10 +78,10 @@ items-written [] seen p n f s h e = let same : p ≡ n = cc in record { each = t
 items-written (i ∷ is) seen p n f s h e =
     let k = i .header in
     let t = then-passed (itemWriting (timesSeen seen k) p i) (λ q. itemsWriting (counted seen k) q is) n e in
-    let w = item-written (timesSeen seen k) p i (t .0) (h .0) (t .1) in
+    let w = item-written (timesSeen seen k) p i (t .0) (t .1) in
     let r = items-written is (counted seen k) (t .0) n (full-counted seen k f) (sparing-more oftenOf seen k f s (w .fewer)) (h .1) (t .2) in
     record {
-      each = (w .allowed, r .each);
+      each = (w .allowed (h .0), r .each);
       often = sparing-cons oftenOf seen k f (namesOf is) (r .often);
       behind = simp length-append (omega (arith, w .behind, r .behind));
     }

@@ -13,9 +13,10 @@ use Rattle.annex.specs.Walk.{unseen, timesSeen}
 use Rattle.annex.specs.Writing.{itemsWriting}
 use Rattle.laws.specs.Often.{few-often}
 use Rattle.laws.specs.Laid.{own-header}
+use Rattle.theorems.specs.Writings.{ItemWritten, item-written}
 use Rattle.layout.specs.Laying.{itemFrom}
 use Rattle.limits.specs.Along.{transferAt, ownAt, usedAt, itemsAt, Turn, turn, items-end, length-mapped}
-use Rattle.refusing.specs.Refusing.{ItemPassed, item-passed, items-refused, items-accepted, items-over}
+use Rattle.refusing.specs.Refusing.{items-refused, items-accepted, items-over}
 use Rattle.refusing.proofs.items_refusal.Statement.{statement}
 use Rattle.refusing.proofs.items_refusal.Tie as tie
 
@@ -86,8 +87,8 @@ returns c =
 taken : (c : tie.After-known-told Inv-loop μ-loop) →
     let i = c .before .before .before .before .before .before .before .before .before in
     let q = i .before .before .before .before .args .t1 in
-    ItemPassed (timesSeen (i .before .loop .seen) (transferAt q (i .before .loop .k) .header)) 0 (itemAt i) (c .before .a .given .0 .0)
-taken c = item-passed _ _ _ _ (sym (c .before .before .before .refusal .ensures) ∙ c .before .a .given .1)
+    ItemWritten (timesSeen (i .before .loop .seen) (transferAt q (i .before .loop .k) .header)) 0 (itemAt i) (c .before .a .given .0 .0)
+taken c = item-written _ _ _ _ (sym (c .before .before .before .refusal .ensures) ∙ c .before .a .given .1)
 
 add-seen : tie.Need-add-seen Inv-loop μ-loop
 add-seen c =
