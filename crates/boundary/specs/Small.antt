@@ -7,9 +7,9 @@ use mathlib.Core.Bool.{Bool, true, false, cond, not}
 use mathlib.Core.List.{List, [], _∷_}
 use lib.Dec.{eqb, leb, ltb}
 use lib.ListN.{length, getD, take, drop, length-take, length-drop}
-use Rattle.annex.specs.Answers.{unused-name, other-pli, repeated-name, cut-contents, bad-form, transfer-over, no-room, absent, numberOf, placeOf, givenOf, refuse, soundThen, headerAt, andThen, classValueOf, classPlaceOf, classGivenOf}
+use Rattle.annex.specs.Answers.{repeated-name, bad-form, transfer-over, no-room, absent, numberOf, placeOf, givenOf, refuse, headerAt, andThen, classValueOf, classPlaceOf, classGivenOf}
 use Rattle.annex.specs.Units.{nameOf, afterOf, extentOf, contentsIn}
-use Rattle.annex.specs.Heads.{clear, among, transfer-data, most-octets, most-transfer-octets, nameUsed, pliRight, oftenOf, zeroesOf}
+use Rattle.annex.specs.Heads.{clear, among, transfer-data, most-octets, most-transfer-octets, oftenOf, zeroesOf}
 use Rattle.annex.specs.Contents.{faultOf}
 use Rattle.annex.specs.Items.{Item, Part}
 use Rattle.annex.specs.Layout.{layoutItems, layout}
@@ -18,13 +18,11 @@ use Rattle.annex.specs.Reading.{verdictOf, recordOf}
 use Rattle.annex.specs.Packed.{oneNumber, packedAnswer, row-octets, octetSpans}
 use Rattle.annex.specs.Finding.{foundAnswer, foundPart, findAnswer, findPart}
 use Rattle.annex.specs.Spans.{rowsOf, spansBy}
-use Rattle.annex.specs.Editing.{Edit, newHeader, newAfter, newContents, editRefusal, edited, recordEditing, editingOf}
+use Rattle.annex.specs.Editing.{Edit, newHeader, newAfter, newHead, newContents, editRefusal, edited, recordEditing, editingOf}
 use Rattle.annex.specs.Editing.Edit.{Replacing, Appending, Removing}
 use Rattle.annex.specs.Classes.{ClassList, classLists, classBy, classIn, classOf}
 use Rattle.annex.specs.declared.Answer.{Answer}
 use Rattle.annex.specs.declared.Answer.the-variants.{Accepted, Refused}
-use Rattle.annex.specs.declared.Fault.{Fault}
-use Rattle.annex.specs.declared.Fault.the-variants.{Sound, Bad}
 use Rattle.annex.specs.declared.Key.{Key}
 use Rattle.annex.specs.declared.Found.{Found}
 use Rattle.annex.specs.declared.Found.the-variants.{At, Nowhere}
@@ -34,7 +32,7 @@ use Rattle.annex.specs.declared.ClassAnswer.{ClassAnswer}
 use Rattle.annex.specs.declared.ClassAnswer.the-variants as classes
 use Rattle.laws.specs.Few.{rows-few}
 use Rattle.laws.specs.Offsets.{fault-within}
-use Rattle.laws.specs.Steps.{place-told, verdict-place}
+use Rattle.laws.specs.Steps.{PlaceTo, accepted-place, refuse-place, then-place, head-place, sound-place, place-told, verdict-place}
 use Rattle.laws.specs.Finding.{Inside, plainBy, plain-inside, foundBy, plain-found}
 use Rattle.theorems.specs.Messages.{message-read}
 use Rattle.theorems.specs.Layouts.{laid-then-read}
@@ -65,25 +63,6 @@ upto-refuse false k p n a h u = u
 pub upto-then : (a : Answer) (f : ℕ → Answer) (k n : ℕ) → k ≤ n → Upto k a → ((q : ℕ) → q ≤ k → Upto n (f q)) → Upto n (andThen a f)
 upto-then (Accepted q) f k n h u g = g q (u .1)
 upto-then (Refused j p) f k n h u g = (omega (arith, u .0), omega arith)
-
-place-refuse : (b : Bool) (k p n : ℕ) (a : Answer) → p ≤ n → placeOf a ≤ n → placeOf (refuse b k p a) ≤ n
-place-refuse true k p n a h u = h
-place-refuse false k p n a h u = u
-
--- four at the first octet
-place-four : (a b c d : Bool) (i j k l n : ℕ) (rest : Answer) → placeOf rest ≤ n → placeOf (refuse a i 0 (refuse b j 0 (refuse c k 0 (refuse d l 0 rest)))) ≤ n
-place-four true b c d i j k l n rest h = omega arith
-place-four false true c d i j k l n rest h = omega arith
-place-four false false true d i j k l n rest h = omega arith
-place-four false false false d i j k l n rest h = place-refuse d l 0 n rest (omega arith) h
-
-place-then : (a : Answer) (f : ℕ → Answer) (n : ℕ) → placeOf a ≤ n → ((q : ℕ) → placeOf (f q) ≤ n) → placeOf (andThen a f) ≤ n
-place-then (Accepted q) f n u g = g q
-place-then (Refused j p) f n u g = u
-
-place-sound : (place : ℕ → ℕ → ℕ) (f : Fault) (n k : ℕ) → ((j i : ℕ) → f ≡ Bad j i → place j i ≤ k) → placeOf (soundThen place f (Accepted n)) ≤ k
-place-sound place Sound n k h = omega arith
-place-sound place (Bad j i) n k h = h j i refl
 
 -- ---- reading
 
@@ -132,44 +111,44 @@ module _ (m : List ℕ) where
 
 -- ---- editing
 
--- what the new octets are refused for
-new-place : (new : List ℕ) → placeOf (newContents new) ≤ 274
-new-place new =
+-- a new parameter, with a test b of its name
+new-place : (new : List ℕ) (b : Bool) (k : ℕ) → PlaceTo 274 (newHead new (refuse b k 0 (newContents new)))
+new-place new b k =
     let h = newHeader new in
     let xs = newAfter new in
-    let f = faultOf h (contentsIn (extentOf h) xs) in
-    place-refuse (not (eqb (length xs) (afterOf (extentOf h) (getD xs 0 0)))) cut-contents 0 274 (soundThen (headerAt 0) f (Accepted 0)) (omega arith) (place-sound (headerAt 0) f 0 274 (λ j i e. omega arith))
+    refuse-place 274 (eqb (length new) 0) _ 0 _ (omega arith)
+    (head-place 274 0 h _ (omega arith)
+    (refuse-place 274 b k 0 _ (omega arith)
+    (refuse-place 274 (not (eqb (length xs) (afterOf (extentOf h) (getD xs 0 0)))) _ 0 _ (omega arith)
+    (sound-place 274 (headerAt 0) (faultOf h (contentsIn (extentOf h) xs)) (Accepted 0) (λ j i e. omega arith) (accepted-place 274 0)))))
 
-edit-place : (e : Edit) (is : List Item) → placeOf (editRefusal e is) ≤ 274
+edit-place : (e : Edit) (is : List Item) → PlaceTo 274 (editRefusal e is)
 unfolding editRefusal
-edit-place (Replacing new which) is =
-    let h = newHeader new in
-    place-four (eqb (length new) 0) (not (nameUsed h)) (not (pliRight h)) (leb (timesIn (nameOf h) (namesOf is)) which) cut-contents unused-name other-pli absent 274 (newContents new) (new-place new)
+edit-place (Replacing new which) is = new-place new (leb (timesIn (nameOf (newHeader new)) (namesOf is)) which) absent
 edit-place (Appending new) is =
-    let h = newHeader new in
-    place-four (eqb (length new) 0) (not (nameUsed h)) (not (pliRight h)) (leb (oftenOf (nameOf h)) (timesIn (nameOf h) (namesOf is))) cut-contents unused-name other-pli repeated-name 274 (newContents new) (new-place new)
-edit-place (Removing x which) is = place-refuse (leb (timesIn x (namesOf is)) which) absent 0 274 (Accepted 0) (omega arith) (omega arith)
+    let x = nameOf (newHeader new) in
+    new-place new (leb (oftenOf x) (timesIn x (namesOf is))) repeated-name
+edit-place (Removing x which) is = refuse-place 274 (leb (timesIn x (namesOf is)) which) absent 0 (Accepted 0) (omega arith) (accepted-place 274 0)
 
-record-place : (e : Edit) (r : List Part) (room : ℕ) → placeOf (recordEditing e r room) ≤ 274
+record-place : (e : Edit) (r : List Part) (room : ℕ) → PlaceTo 274 (recordEditing e r room)
 unfolding recordEditing
 record-place e r room =
     let n = length (layout (edited e r)) in
-    let over = ltb most-transfer-octets (length (layoutItems (itemsIn (edited e r)))) in
-    let last = refuse (ltb room n) no-room 0 (Accepted n) in
-    place-refuse (not (among transfer-data (headersOf r))) absent 0 274 (andThen (editRefusal e (itemsIn r)) (λ _. refuse over transfer-over 0 last)) (omega arith)
-    (place-then (editRefusal e (itemsIn r)) (λ _. refuse over transfer-over 0 last) 274 (edit-place e (itemsIn r))
-    (λ q. place-refuse over transfer-over 0 274 last (omega arith) (place-refuse (ltb room n) no-room 0 274 (Accepted n) (omega arith) (omega arith))))
+    refuse-place 274 (not (among transfer-data (headersOf r))) absent 0 _ (omega arith)
+    (then-place 274 (editRefusal e (itemsIn r)) _ (edit-place e (itemsIn r))
+    (λ q. refuse-place 274 (ltb most-transfer-octets (length (layoutItems (itemsIn (edited e r))))) transfer-over 0 _ (omega arith)
+    (refuse-place 274 (ltb room n) no-room 0 (Accepted n) (omega arith) (accepted-place 274 n))))
 
-editing-place : (e : Edit) (d : List ℕ) (n : ℕ) → placeOf (editingOf e d n) ≤ 274
+editing-place : (e : Edit) (d : List ℕ) (n : ℕ) → PlaceTo 274 (editingOf e d n)
 unfolding editingOf
 editing-place e d n =
     let m = take n d in
-    place-refuse (ltb (length d) n) no-room 0 274 (andThen (verdictOf m) (λ _. recordEditing e (recordOf m) (length d))) (omega arith)
-    (place-then (verdictOf m) (λ _. recordEditing e (recordOf m) (length d)) 274 (verdict-upto m .0) (λ q. record-place e (recordOf m) (length d)))
+    refuse-place 274 (ltb (length d) n) no-room 0 _ (omega arith)
+    (then-place 274 (verdictOf m) _ (verdict-place faultOf fault-within m) (λ q. record-place e (recordOf m) (length d)))
 
 -- the message so edited is that of an allowed record
 pub editing-upto : (e : Edit) (d : List ℕ) (n : ℕ) → every isOctet d ≡ true → OfOctets e → Upto 274 (editingOf e d n)
-editing-upto e d n o w = (editing-place e d n, go (editingOf e d n) refl)
+editing-upto e d n o w = (place-told 274 (editingOf e d n) (editing-place e d n), go (editingOf e d n) refl)
   where
     go : (a : Answer) → editingOf e d n ≡ a → givenOf (editingOf e d n) ≤ 274
     go (Accepted k) f =

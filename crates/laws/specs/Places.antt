@@ -35,7 +35,7 @@ sound-farther s there here Sound a c h e = e
 sound-farther s there here (Bad k i) a c h e = ap (λ (p : ℕ). Refused k p) (h k i)
 
 module _ (s : ℕ) where
-  pub item-farther : (times p : ℕ) (i : Item) → itemWriting times (s + p) i ≡ farther s (itemWriting times p i)
+  item-farther : (times p : ℕ) (i : Item) → itemWriting times (s + p) i ≡ farther s (itemWriting times p i)
   unfolding itemWriting
   item-farther times p i =
       let e : s + p + length (layoutItem i) ≡ s + (p + length (layoutItem i)) = omega arith in

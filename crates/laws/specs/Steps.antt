@@ -101,15 +101,19 @@ pub record PlaceTo (l : ℕ) (a : Answer) : Type 0 where
 pub accepted-place : (l n : ℕ) → PlaceTo l (Accepted n)
 accepted-place l n = record { at = λ k p e. absurd (let z : _≡_ {A = ℕ} 0 1 = cc in omega arith) }
 
-pub refused-place : (l k p : ℕ) → p ≤ l → PlaceTo l (Refused k p)
+refused-place : (l k p : ℕ) → p ≤ l → PlaceTo l (Refused k p)
 refused-place l k p h = record { at = λ j q e. let same : p ≡ q = cc in omega arith }
 
-pub refuse-else : (l : ℕ) (b : Bool) (k p : ℕ) (a : Answer) → p ≤ l → (b ≡ false → PlaceTo l a) → PlaceTo l (refuse b k p a)
+refuse-else : (l : ℕ) (b : Bool) (k p : ℕ) (a : Answer) → p ≤ l → (b ≡ false → PlaceTo l a) → PlaceTo l (refuse b k p a)
 refuse-else l true k p a h g = refused-place l k p h
 refuse-else l false k p a h g = g refl
 
 pub refuse-place : (l : ℕ) (b : Bool) (k p : ℕ) (a : Answer) → p ≤ l → PlaceTo l a → PlaceTo l (refuse b k p a)
 refuse-place l b k p a h g = refuse-else l b k p a h (λ _. g)
+
+pub then-place : (l : ℕ) (a : Answer) (f : ℕ → Answer) → PlaceTo l a → ((q : ℕ) → PlaceTo l (f q)) → PlaceTo l (andThen a f)
+then-place l (Accepted q) f g h = h q
+then-place l (Refused k p) f g h = g
 
 pub head-place : (l p h : ℕ) (a : Answer) → p ≤ l → PlaceTo l a → PlaceTo l (headWriting p h a)
 head-place l p h a i g = let o = head-refuse h in rw (o .2 p a) (refuse-place l (o .0) (o .1) p a i g)
@@ -123,14 +127,14 @@ pub place-told : (l : ℕ) (a : Answer) → PlaceTo l a → placeOf a ≤ l
 place-told l (Accepted n) g = omega arith
 place-told l (Refused k p) g = g .at k p refl
 
-pub place-up : (l m : ℕ) (a : Answer) → l ≤ m → PlaceTo l a → PlaceTo m a
+place-up : (l m : ℕ) (a : Answer) → l ≤ m → PlaceTo l a → PlaceTo m a
 place-up l m a h g = record { at = λ k p e. omega (arith, g .at k p e) }
 
 -- ---- places in a walk
 
 module _ (step : Step) (close : Seen → ℕ → Answer)
     (l : ℕ) (placed : (seen : Seen) (h : ℕ) (xs : List ℕ) → PlaceTo (length xs + l) (step seen h xs)) (closed : (seen : Seen) (p : ℕ) → PlaceTo (p + l) (close seen p)) where
-  pub walk-place : (xs : List ℕ) (seen : Seen) (k p : ℕ) → PlaceTo (p + length xs + l) (walk (judging step close) seen k p xs)
+  walk-place : (xs : List ℕ) (seen : Seen) (k p : ℕ) → PlaceTo (p + length xs + l) (walk (judging step close) seen k p xs)
   unfolding walk
   walk-place [] seen k p = let e : p + 0 + l ≡ p + l = omega arith in rw e (closed seen p)
   walk-place (x ∷ xs) seen (suc k) p = place-up (p + 1 + length xs + l) _ _ (omega arith) (walk-place xs seen k (p + 1))
@@ -191,10 +195,6 @@ behind-data n xs h = simp (length-drop, length-take) (omega arith)
 shifted-place : (l s : ℕ) (a : Answer) → PlaceTo l a → PlaceTo (s + l) (shifted s a)
 shifted-place l s (Accepted n) g = accepted-place (s + l) n
 shifted-place l s (Refused k p) g = refused-place (s + l) k (s + p) (omega (arith, g .at k p refl))
-
-then-place : (l n : ℕ) (a : Answer) → PlaceTo l a → PlaceTo l (andThen a (λ _. Accepted n))
-then-place l n (Accepted k) g = accepted-place l n
-then-place l n (Refused k p) g = g
 
 -- C5 by the part behind its length octet
 data-part : (n : ℕ) (xs : List ℕ) → contentsIn (commonExtentOf transfer-data) (take n xs) ≡ take (n - 1) (drop 1 xs)
@@ -321,7 +321,7 @@ module _ (rule : Rule) (inside : RuleWithin rule) where
   data-place n xs h =
       let t = contentsIn (commonExtentOf transfer-data) (take n xs) in
       place-up (2 + length t) (2 + length xs) _ (omega (arith, behind-data n xs h))
-      (then-place (2 + length t) n _ (shifted-place (length t) 2 _ (transfers-place t)))
+      (then-place (2 + length t) _ _ (shifted-place (length t) 2 _ (transfers-place t)) (λ _. accepted-place (2 + length t) n))
 
   pub common-place : (times : ℕ) (whole : Bool) (h : ℕ) (xs : List ℕ) → PlaceTo (length xs + 2) (commonBy rule times whole h xs)
   common-place times whole h xs = go (commonForm times h xs) refl

@@ -1,13 +1,12 @@
 -- The caller's table of octets while the rows of a message are stored: what is left to store decides what it will hold.
-use Prim.Native.Nat.{ℕ, suc, _+_, _*_, _/_, _≤_}
-use native.Mathlib.Nat.{add-zero}
+use Prim.Native.Nat.{ℕ, _+_, _*_, _/_, _≤_}
 use native.Mathlib.Omega.{arith}
 use mathlib.Core.Path.{_≡_, refl, sym, _∙_}
 use mathlib.Core.Bool.{Bool, true, false}
-use mathlib.Core.List.{List, [], _∷_, _++_}
+use mathlib.Core.List.{List, [], _∷_}
 use borrow.Author.Tests.{ltb-false}
 use lib.Dec.{ltb}
-use lib.ListN.{length, set, length-append}
+use lib.ListN.{length, length-append}
 use lib.Seq.{sets, length-sets}
 use Rattle.annex.specs.Reading.{verdictOf}
 use Rattle.annex.specs.Spans.{rowsOf, spansOf, spansBy}
