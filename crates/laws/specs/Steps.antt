@@ -336,7 +336,7 @@ module _ (rule : Rule) (inside : RuleWithin rule) where
           rw (common-formed rule times whole h xs n e) (byKind (eqb h end-mark) (eqb h transfer-data) n (form-taken times h xs n e .within))
       go (Refused k p) e = rw (common-refused rule times whole h xs k p e) (refused-place _ k p (omega (arith, form-place times h xs .at k p e)))
 
-  -- a verdict's refusal lies at most two octets behind the message
+  -- no place of a verdict is more than two over the octets that a message may have
   pub verdict-place : (m : List ℕ) → PlaceTo (most-octets + 2) (verdictBy rule m)
   unfolding verdictBy messageVerdictBy
   verdict-place m =
