@@ -90,7 +90,7 @@ abbrev pub headFits : Common → Bool
 headFits c = cond (eqb (c .header) sequence) (isOctet (c .value)) (cond (isCall (c .header)) (ltb (c .value) call-number-below) true)
 
 module _ (c : Common) (is : List Item) where
-  pub part-header : partFrom c is .header ≡ c .header
+  part-header : partFrom c is .header ≡ c .header
   part-header = go (eqb (c .header) transfer-data) refl
     where
       go : (b : Bool) → eqb (c .header) transfer-data ≡ b → partFrom c is .header ≡ c .header
@@ -137,7 +137,7 @@ part-checked times p c is =
     go false e = ap (λ n. Accepted (p + n)) (ap (λ (l : List ℕ). length l) (plain-laid c is (eqb-false (c .header) transfer-data e)) ∙ length-head c)
 
 -- a common parameter: first without its transfer parameters, then those of C5
-pub part-stepped : (times p : ℕ) (c : Common) (is : List Item) → partWriting times p (partFrom c is) ≡ andThen (partHeadWriting times p c) (λ n. cond (eqb (c .header) transfer-data) (dataWriting p is) (Accepted n))
+part-stepped : (times p : ℕ) (c : Common) (is : List Item) → partWriting times p (partFrom c is) ≡ andThen (partHeadWriting times p c) (λ n. cond (eqb (c .header) transfer-data) (dataWriting p is) (Accepted n))
 part-stepped times p c is =
     let f : ℕ → Answer = λ n. cond (eqb (c .header) transfer-data) (dataWriting p is) (Accepted n) in
     let e : andThen (partHeadWriting times p c) f ≡ headThen times p c (f (p + headLength (c .header))) = simp refuse-then in

@@ -59,7 +59,7 @@ item-written times p i n e =
     }
 
 -- and that is enough
-pub item-writes : (times p : ℕ) (i : Item) → AllowedItem i → times < oftenOf (nameOf (i .header)) → itemWriting times p i ≡ Accepted (p + length (layoutItem i))
+item-writes : (times p : ℕ) (i : Item) → AllowedItem i → times < oftenOf (nameOf (i .header)) → itemWriting times p i ≡ Accepted (p + length (layoutItem i))
 unfolding itemWriting
 item-writes times p i a f =
     rw (head-right p (i .header) _ (a .used) (a .pli), lt-leb (oftenOf (nameOf (i .header))) times f, a .length-right, a .faultless)
@@ -67,12 +67,12 @@ item-writes times p i a f =
 -- ---- transfer parameters
 
 -- no name stands oftener than it may, among those seen and these
-pub record ItemsWritten (seen : Seen) (p : ℕ) (is : List Item) (n : ℕ) : Type 0 where
+record ItemsWritten (seen : Seen) (p : ℕ) (is : List Item) (n : ℕ) : Type 0 where
   pub each : Each AllowedItem is
   pub often : Sparing oftenOf seen (namesOf is)
   pub behind : n ≡ p + length (layoutItems is)
 
-pub items-written : (is : List Item) (seen : Seen) (p n : ℕ) → Full seen → Sparing oftenOf seen [] → Each HeldItem is → itemsWriting seen p is ≡ Accepted n → ItemsWritten seen p is n
+items-written : (is : List Item) (seen : Seen) (p n : ℕ) → Full seen → Sparing oftenOf seen [] → Each HeldItem is → itemsWriting seen p is ≡ Accepted n → ItemsWritten seen p is n
 unfolding itemsWriting layoutItems
 items-written [] seen p n f s h e = let same : p ≡ n = cc in record { each = tt; often = s; behind = omega arith }
 items-written (i ∷ is) seen p n f s h e =
@@ -86,7 +86,7 @@ items-written (i ∷ is) seen p n f s h e =
       behind = simp length-append (omega (arith, w .behind, r .behind));
     }
 
-pub items-write : (is : List Item) (seen : Seen) (p : ℕ) → Full seen → Sparing oftenOf seen (namesOf is) → Each AllowedItem is → itemsWriting seen p is ≡ Accepted (p + length (layoutItems is))
+items-write : (is : List Item) (seen : Seen) (p : ℕ) → Full seen → Sparing oftenOf seen (namesOf is) → Each AllowedItem is → itemsWriting seen p is ≡ Accepted (p + length (layoutItems is))
 unfolding itemsWriting layoutItems
 items-write [] seen p f s a = let e : p ≡ p + 0 = omega arith in ap Accepted e
 items-write (i ∷ is) seen p f s a =
@@ -97,7 +97,7 @@ items-write (i ∷ is) seen p f s a =
 
 -- ---- C5: none is seen at its start, and 14 comes at its end
 
-pub data-written : (p : ℕ) (is : List Item) (n : ℕ) → Each HeldItem is → dataWriting p is ≡ Accepted n → AllowedItems is × (n ≡ p + 2 + length (layoutItems is))
+data-written : (p : ℕ) (is : List Item) (n : ℕ) → Each HeldItem is → dataWriting p is ≡ Accepted n → AllowedItems is × (n ≡ p + 2 + length (layoutItems is))
 unfolding dataWriting
 data-written p is n h e =
     let over : ℕ → Bool = λ q. ltb most-transfer-octets (q - (p + 2)) in
@@ -115,7 +115,7 @@ data-written p is n h e =
       omega (arith, w .behind),
     )
 
-pub data-writes : (p : ℕ) (is : List Item) → AllowedItems is → dataWriting p is ≡ Accepted (p + 2 + length (layoutItems is))
+data-writes : (p : ℕ) (is : List Item) → AllowedItems is → dataWriting p is ≡ Accepted (p + 2 + length (layoutItems is))
 unfolding dataWriting
 data-writes p is a =
     let l = length (layoutItems is) in
@@ -125,12 +125,12 @@ data-writes p is a =
 -- ---- a common parameter
 
 -- the like of a transfer parameter; its name was not seen
-pub record PartWritten (times p : ℕ) (q : Part) (n : ℕ) : Type 0 where
+record PartWritten (times p : ℕ) (q : Part) (n : ℕ) : Type 0 where
   pub allowed : AllowedPart q
   pub new : times ≡ 0
   pub behind : n ≡ p + length (layoutPart q)
 
-pub part-written : (times p : ℕ) (q : Part) (n : ℕ) → HeldPart q → partWriting times p q ≡ Accepted n → PartWritten times p q n
+part-written : (times p : ℕ) (q : Part) (n : ℕ) → HeldPart q → partWriting times p q ≡ Accepted n → PartWritten times p q n
 unfolding partWriting layoutPart
 part-written times p q n h e =
     let e₁ = passed (not (among (q .header) commonHeaders)) _ p n _ e in
@@ -152,7 +152,7 @@ part-written times p q n h e =
         let same : p + length (layoutPart q) ≡ n = cc in
         (rw (plain-items q h b) no-items, sym same)
 
-pub part-writes : (times p : ℕ) (q : Part) → AllowedPart q → times ≡ 0 → partWriting times p q ≡ Accepted (p + length (layoutPart q))
+part-writes : (times p : ℕ) (q : Part) → AllowedPart q → times ≡ 0 → partWriting times p q ≡ Accepted (p + length (layoutPart q))
 unfolding partWriting layoutPart
 part-writes times p q a z = rw (a .listed, z, a .right, a .fits) (go (eqb (q .header) transfer-data) refl)
   where
@@ -166,14 +166,14 @@ part-writes times p q a z = rw (a .listed, z, a .right, a .fits) (go (eqb (q .he
 -- ---- the common parameters
 
 -- each once, and 01 and 06 among those seen and these; n is the place behind the end mark
-pub record PartsWritten (seen : Seen) (p : ℕ) (r : List Part) (n : ℕ) : Type 0 where
+record PartsWritten (seen : Seen) (p : ℕ) (r : List Part) (n : ℕ) : Type 0 where
   pub each : Each AllowedPart r
   pub once : Sparing (λ x. 1) seen (partNamesOf r)
   pub class : 0 < stood seen (partNamesOf r) (nameOf user-class)
   pub kind : 0 < stood seen (partNamesOf r) (nameOf signal-kind)
   pub behind : n ≡ p + length (layout r)
 
-pub parts-written : (r : List Part) (seen : Seen) (p n : ℕ) → Full seen → Sparing (λ x. 1) seen [] → Held r → partsWriting seen p r ≡ Accepted n → PartsWritten seen p r n
+parts-written : (r : List Part) (seen : Seen) (p n : ℕ) → Full seen → Sparing (λ x. 1) seen [] → Held r → partsWriting seen p r ≡ Accepted n → PartsWritten seen p r n
 unfolding partsWriting layout
 parts-written [] seen p n f s h e =
     let w = passed (not (wholeIn seen)) missing p n (Accepted (p + 1)) e in
@@ -197,7 +197,7 @@ parts-written (q ∷ r) seen p n f s h e =
       behind = simp length-append (omega (arith, w .behind, v .behind));
     }
 
-pub parts-write : (r : List Part) (seen : Seen) (p : ℕ) → Full seen → Standing seen (partNamesOf r) → Each AllowedPart r → partsWriting seen p r ≡ Accepted (p + length (layout r))
+parts-write : (r : List Part) (seen : Seen) (p : ℕ) → Full seen → Standing seen (partNamesOf r) → Each AllowedPart r → partsWriting seen p r ≡ Accepted (p + length (layout r))
 unfolding partsWriting layout
 parts-write [] seen p f s a = rw (standing-whole seen s)
 parts-write (q ∷ r) seen p f s a =
