@@ -1,5 +1,5 @@
 -- Spans: document 01, "Spans": the rows of a message, those of C5 right behind its own, the end mark's last; 15 comes after reading's
--- numbers; and what the table then holds. As reading is, they are by a rule of contents; `rowsOf` and `spansOf` are by the rule in force.
+-- numbers; and what the table then holds. As reading is, they are by a rule of contents; the names at the end are by the rule in force.
 use Prim.Native.Nat.{ℕ, _+_, _-_}
 use mathlib.Core.Bool.{cond}
 use mathlib.Core.List.{List, [], _∷_, _++_}
@@ -17,13 +17,13 @@ use Rattle.annex.specs.declared.Answer.{Answer}
 use Rattle.annex.specs.declared.Answer.the-variants.{Accepted}
 
 -- Spans: offset of the header, header, how many octets the contents have
-abbrev pub rowOf : Extent → ℕ → Par → Row
-rowOf e s q = record { offset = s + q .place; header = q .head; len = length (q .own) - leadOf e }
+abbrev pub parRow : Extent → ℕ → Par → Row
+parRow e s q = record { offset = s + q .place; header = q .head; len = length (q .own) - leadOf e }
 
 -- the rows of transfer parameters, in transfer data that starts at s
 unfoldable pub transferRows : ℕ → List Par → List Row
 transferRows s [] = []
-transferRows s (q ∷ qs) = rowOf (extentOf (q .head)) s q ∷ transferRows s qs
+transferRows s (q ∷ qs) = parRow (extentOf (q .head)) s q ∷ transferRows s qs
 
 module _ (rule : Rule) where
   -- the rows inside a common parameter: those of a C5
@@ -32,7 +32,7 @@ module _ (rule : Rule) where
 
   unfoldable pub commonRowsBy : List Par → List Row
   commonRowsBy [] = []
-  commonRowsBy (q ∷ qs) = rowOf (commonExtentOf (q .head)) 0 q ∷ (innerRowsBy q ++ commonRowsBy qs)
+  commonRowsBy (q ∷ qs) = parRow (commonExtentOf (q .head)) 0 q ∷ (innerRowsBy q ++ commonRowsBy qs)
 
   -- the rows of an accepted message
   unfoldable pub rowsBy : List ℕ → List Row

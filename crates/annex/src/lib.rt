@@ -108,7 +108,7 @@ pub enum Form {
 }
 
 // How a record holds a parameter's values: as the contents, as digits with marks, as a number, as a number after 06. A number is held with
-// whether it may be withheld: then, with presentation 2, nothing else is told of it.
+// whether it may be withheld: then, with presentation 2, nothing but its screening is told of it.
 pub enum Holding {
     AsContents,
     AsDigits(Marks),

@@ -63,7 +63,7 @@ has-room s k used e =
     }
 
 -- a whole parameter has the values that its head tells
-pub values-told : (s : List ℕ) → itemSize s ≤ length s → length (itemFront s .values) ≡ headFront s .len
+values-told : (s : List ℕ) → itemSize s ≤ length s → length (itemFront s .values) ≡ headFront s .len
 values-told s h = length-take-le (headFront s .len) (drop 11 s) (rw (length-drop 11 s) (omega arith))
 
 -- a parameter put in, the rest behind it
@@ -205,7 +205,7 @@ counted-more : {A : Type 0} (x : A) (n l m : ℕ) (f : Front A) → m ≤ l → 
 counted-more x n l m Short h c = tt
 counted-more x n l m (Taken xs k) h c = (ap suc (c .0), omega (arith, c .1))
 
-pub items-counted : (n : ℕ) (s : List ℕ) → Counted n (length s) (itemsFront n s)
+items-counted : (n : ℕ) (s : List ℕ) → Counted n (length s) (itemsFront n s)
 unfolding itemsFront
 items-counted zero s = (refl, omega arith)
 items-counted (suc n) s = go (leb (itemSize s) (length s)) refl (rw (length-drop (itemSize s) s) at (items-counted n (drop (itemSize s) s)))

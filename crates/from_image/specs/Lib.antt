@@ -1,2 +1,2 @@
--- What the contracts of this crate's own steps cite.
+-- What the contracts of this crate's own steps cite, with its laws.
 pub mod Filling

@@ -80,7 +80,7 @@ all-allowed : allowance transferAllows 0 unseen ≤ most-transfers
 unfolding transferAllows allowance nameUsed
 all-allowed = simp sub-zero (omega (arith, often-sum))
 
-pub transfers-few : (t : List ℕ) → length (transfersOf t) ≤ most-transfers
+transfers-few : (t : List ℕ) → length (transfersOf t) ≤ most-transfers
 unfolding transfersBy
 transfers-few t =
     omega (arith, count (transfersOf t), spent transferAllows transferStep (λ q. 1) transfer-spends t unseen 0 0 refl, all-allowed)

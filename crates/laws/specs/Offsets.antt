@@ -26,24 +26,24 @@ use Rattle.laws.specs.Halves.{length-halves}
 pub record Within (n : ℕ) (f : Fault) : Type 0 where
   pub at : (k j : ℕ) → f ≡ Bad k j → ((k ≡ bad-form) × (j ≡ 0)) ⊎ (j < n)
 
-pub sound-within : (n : ℕ) → Within n Sound
+sound-within : (n : ℕ) → Within n Sound
 sound-within n = record { at = λ k j e. absurd (let z : _≡_ {A = ℕ} 0 1 = cc in omega arith) }
 
-pub bad-within : (n k j : ℕ) → j < n → Within n (Bad k j)
+bad-within : (n k j : ℕ) → j < n → Within n (Bad k j)
 bad-within n k j l = record { at = λ m i e. inr (let same : j ≡ i = cc in omega arith) }
 
 form-within : (n : ℕ) → Within n (Bad bad-form 0)
 form-within n = record { at = λ m i e. inl ((cc), (cc)) }
 
 -- 12, and what follows where the form is kept
-pub formed-within : (n : ℕ) (b : Bool) (f : Fault) → (b ≡ true → Within n f) → Within n (formedThen b f)
+formed-within : (n : ℕ) (b : Bool) (f : Fault) → (b ≡ true → Within n f) → Within n (formedThen b f)
 formed-within n true f w = w refl
 formed-within n false f w = form-within n
 
-pub formed-alone : (n : ℕ) (b : Bool) → Within n (formed b)
+formed-alone : (n : ℕ) (b : Bool) → Within n (formed b)
 formed-alone n b = formed-within n b Sound (λ t. sound-within n)
 
-pub cond-within : (n : ℕ) (b : Bool) (f g : Fault) → Within n f → Within n g → Within n (cond b f g)
+cond-within : (n : ℕ) (b : Bool) (f g : Fault) → Within n f → Within n g → Within n (cond b f g)
 cond-within n true f g v w = v
 cond-within n false f g v w = w
 

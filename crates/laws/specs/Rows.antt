@@ -17,7 +17,7 @@ use Rattle.annex.specs.Heads.{transfer-data, most-octets}
 use Rattle.annex.specs.Allowed.{Each}
 use Rattle.annex.specs.Walk.{Seen, unseen, counted, Par, Step, byStep, walk, judging, listing}
 use Rattle.annex.specs.Reading.{transferStep, transfersVerdict, transfersOf, commonStep, commonClose, messageVerdict, verdictOf, commonsOf, dataIn, transfersVerdictBy, messageVerdictBy, verdictBy, commonsBy, transfersBy}
-use Rattle.annex.specs.Spans.{rowOf, transferRows, innerRows, commonRows, commonRowsBy}
+use Rattle.annex.specs.Spans.{parRow, transferRows, innerRows, commonRows, commonRowsBy}
 use Rattle.annex.specs.declared.Answer.{Answer}
 use Rattle.annex.specs.declared.Answer.the-variants.{Accepted, Refused}
 use Rattle.annex.specs.declared.Row.{Row}
@@ -62,7 +62,7 @@ module _ (step : Step) (close : Seen → ℕ → Answer)
       go (Refused k r) f e ih = absurd (let z : _≡_ {A = ℕ} 0 1 = cc in omega arith)
 
 -- the parameters of a message add up to it
-pub commons-sum : (m : List ℕ) (q : ℕ) → verdictOf m ≡ Accepted q → sumOf octetsIn (commonsOf m) ≡ length m
+commons-sum : (m : List ℕ) (q : ℕ) → verdictOf m ≡ Accepted q → sumOf octetsIn (commonsOf m) ≡ length m
 unfolding verdictBy messageVerdictBy commonsBy
 commons-sum m q e =
     omega (
@@ -151,20 +151,20 @@ module _ (extent : ℕ → Extent) where
       let size : Size = λ h xs. afterOf (extent h) (getD xs 0 0) in
       each-then {P = Lies size t} {Q = LeadIn extent} (λ q l. rw (l .long) (lead-within _ _)) (pars size 0 0 t) (pars-lie size t t 0 0 refl)
 
-  rows-sum : (s : ℕ) (qs : List Par) → Each (LeadIn extent) qs → sumOf (spanBy extent) (map (λ q. rowOf (extent (q .head)) s q) qs) ≡ sumOf octetsIn qs
+  rows-sum : (s : ℕ) (qs : List Par) → Each (LeadIn extent) qs → sumOf (spanBy extent) (map (λ q. parRow (extent (q .head)) s q) qs) ≡ sumOf octetsIn qs
   rows-sum s [] h = refl
   rows-sum s (q ∷ qs) h = omega (arith, h .0, rows-sum s qs (h .1))
 
 -- the row of a common parameter itself
 abbrev pub outsideRow : Par → Row
-outsideRow q = rowOf (commonExtentOf (q .head)) 0 q
+outsideRow q = parRow (commonExtentOf (q .head)) 0 q
 
 -- the rows outside C5 add up to the message
 pub rows-outside : (m : List ℕ) (k : ℕ) → verdictOf m ≡ Accepted k → sumOf (spanBy commonExtentOf) (map outsideRow (commonsOf m)) ≡ length m
 rows-outside m k e =
     rows-sum commonExtentOf 0 (commonsOf m) (rw (commons-plain faultOf m k e) (leads-in commonExtentOf m)) ∙ commons-sum m k e
 
-pub transfer-rows : (s : ℕ) (qs : List Par) → transferRows s qs ≡ map (λ q. rowOf (extentOf (q .head)) s q) qs
+pub transfer-rows : (s : ℕ) (qs : List Par) → transferRows s qs ≡ map (λ q. parRow (extentOf (q .head)) s q) qs
 unfolding transferRows
 transfer-rows s [] = refl
 transfer-rows s (q ∷ qs) = rw (transfer-rows s qs)

@@ -1,4 +1,5 @@
--- Laws of the steps of reading: what an accepted step says, and that its octets, and a refusal's place, lie within what it was handed.
+-- Laws of the steps of reading: what an accepted step says, and that its octets, and a refusal's place, lie within what it was handed; and
+-- of 8 and 9 of a header to be written.
 use mathlib.Core.Path.{_≡_, refl, sym, _∙_}
 use mathlib.Core.Bool.{Bool, true, false, cond, not, _||_}
 use mathlib.Core.List.{List, [], _∷_}

@@ -146,7 +146,7 @@ fn withheld_right(t: Transfer, digits: &[u8]) -> bool
     digits.len() == 0
 }
 
-// A number: its fields, and for one that may be withheld, and is, that nothing is told.
+// A number: its fields, and for one that may be withheld, and is, that nothing but its screening is told.
 fn number_right(withholdable: bool, t: Transfer, digits: &[u8]) -> bool
     ensures { λ r. ⌜ r ≡ numberRight withholdable (rawItem t (now (digits .entry))) ⌝ }
 {

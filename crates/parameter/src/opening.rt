@@ -113,7 +113,7 @@ fn open_digits(
     marked(marks, header, first / 64, digits_in(told, octets) as u16)
 }
 
-// A number, as in D7.
+// A number, as in D7 and DC: whether it may be withheld is nothing to opening it.
 fn open_number(
     header: u8,
     s: &[u8],

@@ -1,3 +1,3 @@
--- What the contracts of this crate's own steps cite beside the definitions of `annex`, with its laws.
+-- What the contracts of this crate's own steps, and of `writer`'s, cite beside the definitions of `annex`, with its laws.
 pub mod Laying
 pub mod Refusing

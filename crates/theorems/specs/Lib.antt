@@ -1,4 +1,5 @@
--- Theorems about the definitions of document 01: reading and layout undo one another, and so do reading and writing; and what an edit leaves.
+-- Theorems about the definitions of document 01: reading and layout undo one another, and so do reading and writing; and what an edit
+-- leaves. Beside them: a record's image, read, is the record.
 pub mod Lists
 pub mod Trails
 pub mod Counts

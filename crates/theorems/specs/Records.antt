@@ -77,7 +77,7 @@ pub plain-none : (r : List Part) → Each HeldPart r → Each Plain r → itemsI
 plain-none [] h p = refl
 plain-none (q ∷ r) h p = rw (plain-items q (h .0) (p .0)) (plain-none r (h .1) (p .1))
 
-pub parts-items : (r : List Part) → Each AllowedPart r → Once r → AllowedItems (itemsIn r)
+parts-items : (r : List Part) → Each AllowedPart r → Once r → AllowedItems (itemsIn r)
 parts-items [] a o = no-items
 parts-items (p ∷ r) a o = go (eqb (p .header) transfer-data) refl (parts-items r (a .1) (λ u. once-rest u))
   where
@@ -109,7 +109,7 @@ pub common-names : (r : List Part) → Each AllowedPart r → every (λ x. among
 common-names [] a = refl
 common-names (p ∷ r) a = and-both (among (nameOf (p .header)) commonNames) _ (common-name (p .header) (a .0 .listed)) (common-names r (a .1))
 
-pub few-parts : (r : List Part) → Each AllowedPart r → Once r → length r ≤ most-commons
+few-parts : (r : List Part) → Each AllowedPart r → Once r → length r ≤ most-commons
 few-parts r a o =
     omega (arith, count (partNamesOf r), length-map r (λ p. nameOf (p .header)), pigeons (λ x. 1) (λ x. 1) commonNames (partNamesOf r) (common-names r a) o)
 
@@ -123,12 +123,12 @@ used-names : (is : List Item) → Each AllowedItem is → every (λ x. among x u
 used-names [] a = refl
 used-names (i ∷ is) a = and-both (among (nameOf (i .header)) usedNames) _ (used-name (i .header) (a .0 .used)) (used-names is (a .1))
 
-pub few-items : (is : List Item) → AllowedItems is → length is ≤ most-transfers
+few-items : (is : List Item) → AllowedItems is → length is ≤ most-transfers
 few-items is a =
     omega (arith, count (namesOf is), length-map is (λ i. nameOf (i .header)), pigeons (λ x. 1) oftenOf usedNames (namesOf is) (used-names is (a .each)) (a .often), often-sum)
 
 -- contents and octets
-pub contents-within : (is : List Item) → contentsSum is ≤ length (layoutItems is)
+contents-within : (is : List Item) → contentsSum is ≤ length (layoutItems is)
 unfolding layoutItems layoutItem
 contents-within [] = omega arith
 contents-within (i ∷ is) =
@@ -155,7 +155,7 @@ values-length i = go (heldAs i)
     go (AsNumber w) = omega (arith, packed-length Numbered (i .values))
     go AsGeneric = omega (arith, packed-length Numbered (drop 1 (i .values)), length-drop 1 (i .values))
 
-pub values-within : (is : List Item) → length (valuesOf is) ≤ 2 * contentsSum is
+values-within : (is : List Item) → length (valuesOf is) ≤ 2 * contentsSum is
 unfolding valuesOf
 values-within [] = omega arith
 values-within (i ∷ is) = simp length-append (omega (arith, values-length i, values-within is))

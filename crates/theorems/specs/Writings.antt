@@ -1,4 +1,4 @@
--- Writing accepts, room aside, exactly the allowed records, and gives the length of what they lay out to: each step's tests are one
+-- Writing accepts, room aside, exactly the records that may be written, and gives the length of what they lay out to: each step's tests are one
 -- parameter's rules, and the names seen so far keep count against how often each may stand. So what was read is written as it was, and what
 -- was written is read as it was.
 use Prim.Native.Nat.{ℕ, suc, _+_, _-_, _≤_, _<_}
@@ -275,7 +275,7 @@ module _ (s : Record) (n : ℕ) (e : structWriting s ≡ Accepted n) where
   room-after room l = rw (with-room (length room) l)
 
 -- a record that may be written, packed
-pub packed-writes : (r : List Part) → Writable r → structWriting (pack r) ≡ Accepted (length (layout r))
+packed-writes : (r : List Part) → Writable r → structWriting (pack r) ≡ Accepted (length (layout r))
 packed-writes r w =
     let a = writable-allowed r w in
     let v = view-pack r (a .held) in
