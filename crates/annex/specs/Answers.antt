@@ -1,5 +1,5 @@
--- Answers and refusals: document 01, "Refusal numbers and their order". The numbers are named here, and the number, place and value of every
--- case of an answer, a class answer, a fault of contents and what was found.
+-- Answers and refusals: document 01, "Refusal numbers and their order". The numbers are named here, and the number, place and value of
+-- every case of an answer, a class answer, a fault of contents and what was found.
 use Prim.Native.Nat.{ℕ, _+_}
 use mathlib.Core.Bool.{Bool, true, false}
 use mathlib.Core.List.{List, _++_}

@@ -10,7 +10,23 @@ use Rattle.annex.specs.Contents.{numberFault, callingFault, genericFault
 use Rattle.annex.specs.Items.{Part, plainItem, markedItem, numberItem, valuePart, dataPart, holdingOf, itemOf, contentsOf}
 use Rattle.annex.specs.Layout.{layoutItem, layoutItems, layoutPart, layout}
 use Rattle.annex.specs.Walk.{walk}
-use Rattle.annex.specs.Reading.{octetAllowed, commonForm, endOf, verdictOf, recordOf, transferBy, transfersVerdictBy, dataBy, commonBy, messageVerdictBy, verdictBy, commonsBy, transfersBy, openCommonBy, recordBy}
+use Rattle.annex.specs.Reading.{
+  octetAllowed,
+  commonForm,
+  endOf,
+  verdictOf,
+  recordOf,
+  transferBy,
+  transfersVerdictBy,
+  dataBy,
+  commonBy,
+  messageVerdictBy,
+  verdictBy,
+  commonsBy,
+  transfersBy,
+  openCommonBy,
+  recordBy,
+}
 use Rattle.annex.specs.Editing.{Edit, editRefusal, instead, editedItems, edited, recordEditing, editingOf, bufferOf}
 use Rattle.annex.specs.Editing.Edit.{Replacing}
 use Rattle.annex.specs.declared.Answer.{Answer}
@@ -78,5 +94,8 @@ cases =
 
 -- what the definitions say of each case is what the table says
 pub bench : map asDefined cases ≡ cases
-unfolding afterOf leadOf commonExtentOf extentOf nameUsed pliRight oftenOf zeroesOf formOf halves joined digitOf codeOf isCode halvesFault digitsFault digitsOf packed numberFault callingFault genericFault dialledFault twoFault faultOf holdingOf itemOf contentsOf layoutItem layoutItems layoutPart layout walk transferBy transfersVerdictBy octetAllowed commonForm endOf dataBy commonBy messageVerdictBy verdictBy commonsBy transfersBy openCommonBy recordBy editRefusal instead editedItems edited recordEditing editingOf bufferOf
+unfolding afterOf leadOf commonExtentOf extentOf nameUsed pliRight oftenOf zeroesOf formOf halves joined digitOf codeOf isCode halvesFault
+    digitsFault digitsOf packed numberFault callingFault genericFault dialledFault twoFault faultOf holdingOf itemOf contentsOf layoutItem
+    layoutItems layoutPart layout walk transferBy transfersVerdictBy octetAllowed commonForm endOf dataBy commonBy messageVerdictBy
+    verdictBy commonsBy transfersBy openCommonBy recordBy editRefusal instead editedItems edited recordEditing editingOf bufferOf
 bench = refl

@@ -21,8 +21,8 @@ joined [] = []
 joined (a ∷ []) = a ∷ []
 joined (a ∷ b ∷ hs) = (a + 16 * b) ∷ joined hs
 
--- the two codes: they differ in the zero, which is 10 where digits are dialled (PLI 10) and 0 in a number (D7). In both 11 and 12 are * and #,
--- which a record holds as 10 and 11
+-- the two codes: they differ in the zero, which is 10 where digits are dialled (PLI 10) and 0 in a number (D7). In both 11 and 12 are * and
+-- #, which a record holds as 10 and 11
 abbrev pub zeroFrom : Alphabet → ℕ → ℕ
 zeroFrom Dialled h = cond (eqb h 10) 0 h
 zeroFrom Numbered h = h

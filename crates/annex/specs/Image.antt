@@ -28,7 +28,8 @@ fourOctets n = n % 256 ∷ n / 256 % 256 ∷ n / 65536 % 256 ∷ n / 16777216 % 
 -- the head of a transfer parameter: header, marks, fields, count of values
 abbrev pub imageHead : Transfer → List ℕ
 imageHead t =
-    t .header ∷ t .notification ∷ t .verification ∷ t .dialling ∷ t .«number_type» ∷ t .incomplete ∷ t .plan ∷ t .presentation ∷ t .screening ∷ twoOctets (t .len)
+    t .header ∷ t .notification ∷ t .verification ∷ t .dialling ∷ t .«number_type» ∷ t .incomplete ∷ t .plan ∷ t .presentation
+    ∷ t .screening ∷ twoOctets (t .len)
 
 -- a transfer parameter: its head, then its values
 unfoldable pub imageItem : Item → List ℕ
@@ -121,7 +122,8 @@ partThen s Short rest = Short
 unfoldable pub partsFront : ℕ → List ℕ → Front Part
 partsFront zero s = Taken [] 0
 partsFront (suc n) s =
-    cond (leb common-head (length s)) (partThen s (itemsFront (commonFront s .transfers) (drop common-head s)) (λ k. partsFront n (drop k s))) Short
+    cond (leb common-head (length s))
+    (partThen s (itemsFront (commonFront s .transfers) (drop common-head s)) (λ k. partsFront n (drop k s))) Short
 
 -- no record: 1 at 0, and the empty struct
 abbrev pub noImage : Imaged

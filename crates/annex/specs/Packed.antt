@@ -1,10 +1,21 @@
--- What the functions for Rust and C give, in numbers and octets alone: an answer as one number, the refusal's number times 2^32, the place times
--- 2^16, and the value, number 0 where accepted (places and values are below 2^16); a record as its image; a row as five octets.
+-- What the functions for Rust and C give, in numbers and octets alone: an answer as one number, the refusal's number times 2^32, the place
+-- times 2^16, and the value, number 0 where accepted (places and values are below 2^16); a record as its image; a row as five octets.
 use Prim.Native.Nat.{ℕ, _+_, _*_, _/_, _%_}
 use mathlib.Core.List.{List, [], _∷_, _++_}
 use lib.Dec.{ltb}
 use lib.ListN.{length, drop}
-use Rattle.annex.specs.Answers.{numberOf, placeOf, givenOf, classNumberOf, classPlaceOf, classGivenOf, no-room, refuse, andThen, roomAfter}
+use Rattle.annex.specs.Answers.{
+  numberOf,
+  placeOf,
+  givenOf,
+  classNumberOf,
+  classPlaceOf,
+  classGivenOf,
+  no-room,
+  refuse,
+  andThen,
+  roomAfter,
+}
 use Rattle.annex.specs.Layout.{layout}
 use Rattle.annex.specs.Reading.{verdictOf, recordOf}
 use Rattle.annex.specs.Records.{view}

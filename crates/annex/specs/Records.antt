@@ -1,5 +1,5 @@
--- The record as a struct, and as the sequence of values that it stands for: document 01, "Writing". Two structs that stand for the same values
--- are the same record; in a struct handed out all room that is not used is zero.
+-- The record as a struct, and as the sequence of values that it stands for: document 01, "Writing". Two structs that stand for the same
+-- values are the same record; in a struct handed out all room that is not used is zero.
 use Prim.Native.Nat.{ℕ, _+_, _-_, _/_, _%_}
 use mathlib.Core.Bool.{Bool, cond, _&&_}
 use mathlib.Core.List.{List, [], _∷_, _++_, map}

@@ -1,5 +1,6 @@
--- Writing: document 01, "Refusal numbers and their order", Writing: 1, then each parameter's refusals in the order in which its octets would
--- stand, each at the place where they would stand; 14 behind the last of C5, 6 at the end mark, 15 last; and what the room then holds.
+-- Writing: document 01, "Refusal numbers and their order", Writing: 1, then each parameter's refusals in the order in which its octets
+-- would stand, each at the place where they would stand; 14 behind the last of C5, 6 at the end mark, 15 last; and what the room then
+-- holds.
 use Prim.Native.Nat.{ℕ, _+_, _-_}
 use mathlib.Core.Bool.{Bool, cond, not, _||_}
 use mathlib.Core.List.{List, [], _∷_}

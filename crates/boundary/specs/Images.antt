@@ -37,7 +37,8 @@ module _ (m room : List ℕ) (g : Reading) (e : ReadPromise m g) (r : ℕ) where
       (h ∙ rw (f, v), rw v)
 
   -- the struct is that of an allowed record, so it stays within its arrays and shows the record
-  pub read-accepted : every isOctet m ≡ true → (n : ℕ) → g .answer ≡ Accepted n → (a : Answer) (now : List ℕ) → ToImagePromise (g .«record») room a now → r ≡ packedAnswer a → TkReadPromise m room r now
+  pub read-accepted : every isOctet m ≡ true → (n : ℕ) → g .answer ≡ Accepted n → (a : Answer) (now : List ℕ)
+      → ToImagePromise (g .«record») room a now → r ≡ packedAnswer a → TkReadPromise m room r now
   unfolding readingOf imageReading imageRead imagingOf imagedIn
   read-accepted o n f a now t h =
       let v : verdictOf m ≡ Accepted n = cc verdict-is in
@@ -54,6 +55,7 @@ module _ (image room : List ℕ) (g : Imaged) (e : FromImagePromise image g) (r 
   unfolding imageWriting imageWritten
   write-refused k p f h = rw (← e, f) (h ∙ rw f, refl)
 
-  pub write-accepted : (n : ℕ) → g .answer ≡ Accepted n → (a : Answer) (now : List ℕ) → WritePromise (g .held) room a now → r ≡ packedAnswer a → TkWritePromise image room r now
+  pub write-accepted : (n : ℕ) → g .answer ≡ Accepted n → (a : Answer) (now : List ℕ) → WritePromise (g .held) room a now
+      → r ≡ packedAnswer a → TkWritePromise image room r now
   unfolding imageWriting imageWritten writtenOf
   write-accepted n f a now t h = rw (← e, f) (h ∙ ap packedAnswer (t .0), t .1)

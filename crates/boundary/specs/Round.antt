@@ -19,14 +19,17 @@ use Rattle.theorems.specs.Images.{allowed-back}
 
 module _ (m : List ℕ) (o : every isOctet m ≡ true) (n : ℕ) (e : verdictOf m ≡ Accepted n) where
   -- with room for it, the image of an accepted message's record is written at the front
-  pub image-written : (room : List ℕ) → length (imageOf (recordOf m)) ≤ length room → TkReadPromise m room (packedAnswer (Accepted (length (imageOf (recordOf m))))) (imageOf (recordOf m) ++ drop (length (imageOf (recordOf m))) room)
+  pub image-written : (room : List ℕ) → length (imageOf (recordOf m)) ≤ length room
+      → TkReadPromise m room (packedAnswer (Accepted (length (imageOf (recordOf m)))))
+      (imageOf (recordOf m) ++ drop (length (imageOf (recordOf m))) room)
   unfolding imageReading imageRead
   image-written room l =
       let t = le-ltb (length room) (length (imageOf (recordOf m))) l in
       (rw (e, t), rw (e, t))
 
   -- and with room for the message, that image gives the message
-  pub message-back : (room : List ℕ) → length m ≤ length room → TkWritePromise (imageOf (recordOf m)) room (packedAnswer (Accepted (length m))) (m ++ drop (length m) room)
+  pub message-back : (room : List ℕ) → length m ≤ length room
+      → TkWritePromise (imageOf (recordOf m)) room (packedAnswer (Accepted (length m))) (m ++ drop (length m) room)
   unfolding imageWriting imageWritten readingOf writtenOf
   message-back room l =
       let r = recordOf m in

@@ -1,5 +1,5 @@
--- Places and values are below 2^16 in every answer that is packed, so that nothing of it is lost: packed, its number, place and value can be
--- told again.
+-- Places and values are below 2^16 in every answer that is packed, so that nothing of it is lost: packed, its number, place and value can
+-- be told again.
 use Prim.Native.Nat.{ℕ, _-_, _/_, _%_, _≤_, _<_}
 use native.Mathlib.Omega.{arith}
 use mathlib.Core.Path.{_≡_, refl}
@@ -7,7 +7,22 @@ use mathlib.Core.Bool.{Bool, true, false, cond, not}
 use mathlib.Core.List.{List, [], _∷_}
 use lib.Dec.{eqb, leb, ltb}
 use lib.ListN.{length, getD, take, drop, length-take, length-drop}
-use Rattle.annex.specs.Answers.{repeated-name, bad-form, transfer-over, no-room, absent, numberOf, placeOf, givenOf, refuse, headerAt, andThen, classValueOf, classPlaceOf, classGivenOf}
+use Rattle.annex.specs.Answers.{
+  repeated-name,
+  bad-form,
+  transfer-over,
+  no-room,
+  absent,
+  numberOf,
+  placeOf,
+  givenOf,
+  refuse,
+  headerAt,
+  andThen,
+  classValueOf,
+  classPlaceOf,
+  classGivenOf,
+}
 use Rattle.annex.specs.Units.{nameOf, afterOf, extentOf, contentsIn}
 use Rattle.annex.specs.Heads.{clear, among, transfer-data, most-octets, most-transfer-octets, oftenOf, zeroesOf}
 use Rattle.annex.specs.Contents.{faultOf}
@@ -44,10 +59,12 @@ use Rattle.theorems.specs.Edits.{OfOctets, edited-allowed}
 abbrev pub Upto : ℕ → Answer → Type 0
 Upto n a = (placeOf a ≤ n) × (givenOf a ≤ n)
 
-pub parts-back : (k p v : ℕ) → p < 65536 → v < 65536 → (oneNumber k p v / 4294967296 ≡ k) × (oneNumber k p v / 65536 % 65536 ≡ p) × (oneNumber k p v % 65536 ≡ v)
+pub parts-back : (k p v : ℕ) → p < 65536 → v < 65536
+    → (oneNumber k p v / 4294967296 ≡ k) × (oneNumber k p v / 65536 % 65536 ≡ p) × (oneNumber k p v % 65536 ≡ v)
 parts-back k p v h l = (omega arith, omega arith, omega arith)
 
-pub answer-back : (a : Answer) → Upto 65535 a → (packedAnswer a / 4294967296 ≡ numberOf a) × (packedAnswer a / 65536 % 65536 ≡ placeOf a) × (packedAnswer a % 65536 ≡ givenOf a)
+pub answer-back : (a : Answer) → Upto 65535 a
+    → (packedAnswer a / 4294967296 ≡ numberOf a) × (packedAnswer a / 65536 % 65536 ≡ placeOf a) × (packedAnswer a % 65536 ≡ givenOf a)
 answer-back (Accepted n) u = parts-back 0 0 n (omega arith) (omega (arith, u .1))
 answer-back (Refused k p) u = parts-back k p 0 (omega (arith, u .0)) (omega arith)
 
@@ -88,7 +105,8 @@ rows-upto m room =
 
 -- where the contents start, and how many octets they have
 module _ (m : List ℕ) where
-  found-upto : (f : Found) → Inside (length m) f → (length m ≤ most-octets) → Upto most-octets (foundAnswer f) × (length (foundPart m f) ≤ most-octets)
+  found-upto : (f : Found) → Inside (length m) f → (length m ≤ most-octets)
+      → Upto most-octets (foundAnswer f) × (length (foundPart m f) ≤ most-octets)
   found-upto (At s e) i l =
       let w = i .at s e refl in
       ((omega arith, omega arith), omega (arith, length-take (e - s) (drop s m), length-drop s m))
@@ -128,7 +146,8 @@ edit-place (Replacing new which) is = new-place new (leb (timesIn (nameOf (newHe
 edit-place (Appending new) is =
     let x = nameOf (newHeader new) in
     new-place new (leb (oftenOf x) (timesIn x (namesOf is))) repeated-name
-edit-place (Removing x which) is = refuse-place 274 (leb (timesIn x (namesOf is)) which) absent 0 (Accepted 0) (omega arith) (accepted-place 274 0)
+edit-place (Removing x which) is =
+    refuse-place 274 (leb (timesIn x (namesOf is)) which) absent 0 (Accepted 0) (omega arith) (accepted-place 274 0)
 
 record-place : (e : Edit) (r : List Part) (room : ℕ) → PlaceTo 274 (recordEditing e r room)
 unfolding recordEditing

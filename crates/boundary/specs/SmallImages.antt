@@ -16,7 +16,17 @@ use Rattle.annex.specs.Allowed.{every, isOctet, valueRight, valueFits, itemsIn,
 use Rattle.annex.specs.Walk.{Seen, unseen, timesSeen, counted}
 use Rattle.annex.specs.Reading.{wholeIn, verdictOf, recordOf}
 use Rattle.annex.specs.Records.{pack, isWhole, view}
-use Rattle.annex.specs.Writing.{itemWriting, itemsWriting, dataWriting, partWriting, partsWriting, overLimits, recordWriting, structWriting, writingOf}
+use Rattle.annex.specs.Writing.{
+  itemWriting,
+  itemsWriting,
+  dataWriting,
+  partWriting,
+  partsWriting,
+  overLimits,
+  recordWriting,
+  structWriting,
+  writingOf,
+}
 use Rattle.annex.specs.Image.{Front, imageOf, partsFront, noImage, isWithin, imagedBy, imagedOf}
 use Rattle.annex.specs.Image.Front.{Taken, Short}
 use Rattle.annex.specs.Packed.{imageReading, imageWriting}
@@ -41,11 +51,14 @@ pub image-upto : (m : List ℕ) (room : ℕ) → every isOctet m ≡ true → Up
 unfolding imageReading imageOf
 image-upto m room o = go (verdictOf m) refl (verdict-upto m)
   where
-    go : (a : Answer) → verdictOf m ≡ a → Upto 274 a → Upto most-image (andThen a (λ _. refuse (ltb room (length (imageOf (recordOf m)))) no-room 0 (Accepted (length (imageOf (recordOf m))))))
+    go : (a : Answer) → verdictOf m ≡ a → Upto 274 a
+        → Upto most-image
+        (andThen a (λ _. refuse (ltb room (length (imageOf (recordOf m)))) no-room 0 (Accepted (length (imageOf (recordOf m))))))
     go (Accepted n) e u =
         let r = recordOf m in
         let w = allowed-within r (read-then-laid m o n e .1) in
-        let l : length (imageOf r) ≤ most-image = omega (arith, parts-long r, items-long (itemsIn r), w .commons, w .transfers, w .values) in
+        let l : length (imageOf r) ≤ most-image =
+        omega (arith, parts-long r, items-long (itemsIn r), w .commons, w .transfers, w .values) in
         upto-refuse (ltb room (length (imageOf r))) no-room 0 most-image (Accepted (length (imageOf r))) (omega arith) (omega arith, l)
     go (Refused k p) e u = (omega (arith, u .0), omega arith)
 
@@ -65,14 +78,17 @@ items-upto [] seen p = (omega arith, omega arith)
 items-upto (i ∷ is) seen p =
     let l = length-append (layoutItem i) (layoutItems is) in
     let n = p + length (layoutItem i ++ layoutItems is) in
-    upto-then (itemWriting (timesSeen seen (i .header)) p i) (λ q. itemsWriting (counted seen (i .header)) q is) (p + length (layoutItem i)) n (omega arith) (item-upto (timesSeen seen (i .header)) p i)
-    (λ q h. upto-more (itemsWriting (counted seen (i .header)) q is) (q + length (layoutItems is)) n (omega arith) (items-upto is (counted seen (i .header)) q))
+    upto-then (itemWriting (timesSeen seen (i .header)) p i) (λ q. itemsWriting (counted seen (i .header)) q is)
+    (p + length (layoutItem i)) n (omega arith) (item-upto (timesSeen seen (i .header)) p i)
+    (λ q h. upto-more (itemsWriting (counted seen (i .header)) q is) (q + length (layoutItems is)) n (omega arith)
+    (items-upto is (counted seen (i .header)) q))
 
 data-upto : (p : ℕ) (is : List Item) → Upto (p + 2 + length (layoutItems is)) (dataWriting p is)
 unfolding dataWriting
 data-upto p is =
     let n = p + 2 + length (layoutItems is) in
-    upto-then (itemsWriting unseen (p + 2) is) (λ q. refuse (ltb most-transfer-octets (q - (p + 2))) transfer-over p (Accepted q)) n n (omega arith) (items-upto is unseen (p + 2))
+    upto-then (itemsWriting unseen (p + 2) is) (λ q. refuse (ltb most-transfer-octets (q - (p + 2))) transfer-over p (Accepted q)) n n
+    (omega arith) (items-upto is unseen (p + 2))
     (λ q h. upto-refuse (ltb most-transfer-octets (q - (p + 2))) transfer-over p n (Accepted q) (omega arith) (omega arith, h))
 
 part-upto : (times p : ℕ) (q : Part) → Upto (p + length (layoutPart q)) (partWriting times p q)
@@ -86,9 +102,12 @@ part-upto times p q =
     (upto-refuse (not (valueFits q)) _ p n late (omega arith)
     (go (eqb (q .header) transfer-data) (cond (isCall (q .header)) (callOctets (q .value)) (q .value ∷ []))))))
   where
-    go : (b : Bool) (other : List ℕ) → Upto (p + length (q .header ∷ cond b (dataOctets (layoutItems (q .items))) other)) (cond b (dataWriting p (q .items)) (Accepted (p + length (q .header ∷ cond b (dataOctets (layoutItems (q .items))) other))))
+    go : (b : Bool) (other : List ℕ)
+        → Upto (p + length (q .header ∷ cond b (dataOctets (layoutItems (q .items))) other))
+        (cond b (dataWriting p (q .items)) (Accepted (p + length (q .header ∷ cond b (dataOctets (layoutItems (q .items))) other))))
     go true other =
-        upto-more (dataWriting p (q .items)) (p + 2 + length (layoutItems (q .items))) (p + length (q .header ∷ dataOctets (layoutItems (q .items)))) (omega arith) (data-upto p (q .items))
+        upto-more (dataWriting p (q .items)) (p + 2 + length (layoutItems (q .items)))
+        (p + length (q .header ∷ dataOctets (layoutItems (q .items)))) (omega arith) (data-upto p (q .items))
     go false other = (omega arith, omega arith)
 
 parts-upto : (r : List Part) (seen : Seen) (p : ℕ) → Upto (p + length (layout r)) (partsWriting seen p r)
@@ -97,8 +116,10 @@ parts-upto [] seen p = upto-refuse (not (wholeIn seen)) missing p (p + 1) (Accep
 parts-upto (q ∷ qs) seen p =
     let l = length-append (layoutPart q) (layout qs) in
     let n = p + length (layoutPart q ++ layout qs) in
-    upto-then (partWriting (timesSeen seen (q .header)) p q) (λ k. partsWriting (counted seen (q .header)) k qs) (p + length (layoutPart q)) n (omega arith) (part-upto (timesSeen seen (q .header)) p q)
-    (λ k h. upto-more (partsWriting (counted seen (q .header)) k qs) (k + length (layout qs)) n (omega arith) (parts-upto qs (counted seen (q .header)) k))
+    upto-then (partWriting (timesSeen seen (q .header)) p q) (λ k. partsWriting (counted seen (q .header)) k qs)
+    (p + length (layoutPart q)) n (omega arith) (part-upto (timesSeen seen (q .header)) p q)
+    (λ k h. upto-more (partsWriting (counted seen (q .header)) k qs) (k + length (layout qs)) n (omega arith)
+    (parts-upto qs (counted seen (q .header)) k))
 
 -- a header and a length octet at most, before the contents
 items-few : (is : List Item) → length (layoutItems is) ≤ 2 * length is + contentsSum is
@@ -111,7 +132,9 @@ part-few : (p : Part) → length (layoutPart p) ≤ 4 + length (layoutItems (p .
 unfolding layoutPart
 part-few p = go (eqb (p .header) transfer-data) (isCall (p .header))
   where
-    go : (b c : Bool) → length (p .header ∷ cond b (dataOctets (layoutItems (p .items))) (cond c (callOctets (p .value)) (p .value ∷ []))) ≤ 4 + length (layoutItems (p .items))
+    go : (b c : Bool)
+        → length (p .header ∷ cond b (dataOctets (layoutItems (p .items))) (cond c (callOctets (p .value)) (p .value ∷ []))) ≤ 4 + length
+        (layoutItems (p .items))
     go true c = omega arith
     go false true = omega arith
     go false false = omega arith
@@ -120,7 +143,9 @@ parts-few : (r : List Part) → length (layout r) ≤ 1 + 4 * length r + length 
 unfolding layout layoutItems
 parts-few [] = omega arith
 parts-few (p ∷ r) =
-    let a = ap (λ (l : List ℕ). length l) (layout-append (p .items) (itemsIn r)) ∙ length-append (layoutItems (p .items)) (layoutItems (itemsIn r)) in
+    let a =
+    ap (λ (l : List ℕ). length l) (layout-append (p .items) (itemsIn r))
+    ∙ length-append (layoutItems (p .items)) (layoutItems (itemsIn r)) in
     omega (arith, length-append (layoutPart p) (layout r), part-few p, parts-few r, a)
 
 -- as many common parameters, transfer parameters and octets of contents as a record may hold
@@ -135,12 +160,15 @@ record-upto r =
     (ltb-false most-transfers (length (itemsIn r)))
     (ltb-false most-transfer-octets (contentsSum (itemsIn r)))
   where
-    go : (a b c : Bool) → (a ≡ false → length r ≤ most-commons) → (b ≡ false → length (itemsIn r) ≤ most-transfers) → (c ≡ false → contentsSum (itemsIn r) ≤ most-transfer-octets) → Upto most-written (refuse (a || (b || c)) over-limits 0 (partsWriting unseen 0 r))
+    go : (a b c : Bool) → (a ≡ false → length r ≤ most-commons) → (b ≡ false → length (itemsIn r) ≤ most-transfers)
+        → (c ≡ false → contentsSum (itemsIn r) ≤ most-transfer-octets)
+        → Upto most-written (refuse (a || (b || c)) over-limits 0 (partsWriting unseen 0 r))
     go true b c h i j = (omega arith, omega arith)
     go false true c h i j = (omega arith, omega arith)
     go false false true h i j = (omega arith, omega arith)
     go false false false h i j =
-        upto-more (partsWriting unseen 0 r) (0 + length (layout r)) most-written (omega (arith, parts-few r, items-few (itemsIn r), h refl, i refl, j refl)) (parts-upto r unseen 0)
+        upto-more (partsWriting unseen 0 r) (0 + length (layout r)) most-written
+        (omega (arith, parts-few r, items-few (itemsIn r), h refl, i refl, j refl)) (parts-upto r unseen 0)
 
 writing-upto : (s : Record) (room : ℕ) → Upto most-written (writingOf s room)
 unfolding writingOf structWriting
@@ -160,6 +188,9 @@ write-upto (n ∷ s) room = go (partsFront n s)
     go Short = (omega arith, omega arith)
     go (Taken r k) = told (eqb k (length s) && isWithin r)
       where
-        told : (b : Bool) → Upto most-written (andThen (cond b (record { answer = Accepted (length r); held = pack r }) noImage .answer) (λ _. writingOf (cond b (record { answer = Accepted (length r); held = pack r }) noImage .held) room))
+        told : (b : Bool)
+            → Upto most-written
+            (andThen (cond b (record { answer = Accepted (length r); held = pack r }) noImage .answer)
+            (λ _. writingOf (cond b (record { answer = Accepted (length r); held = pack r }) noImage .held) room))
         told true = writing-upto (pack r) room
         told false = (omega arith, omega arith)

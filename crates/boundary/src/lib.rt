@@ -1,5 +1,5 @@
-// The codec for Rust and C: numbers and lent octets alone. An answer is one number: the refusal's number times 2^32, the place times 2^16, and
-// the value; number 0 where accepted.
+// The codec for Rust and C: numbers and lent octets alone. An answer is one number: the refusal's number times 2^32, the place times 2^16,
+// and the value; number 0 where accepted.
 use annex::Answer;
 use annex::Class;
 use annex::ClassAnswer;
@@ -18,7 +18,15 @@ ghost use mathlib.Core.Path.{_≡_};
 ghost use Rattle.annex.specs.Answers.{classValueOf};
 ghost use Rattle.annex.specs.Editing.{Edit.Replacing, Edit.Appending, Edit.Removing};
 ghost use Rattle.annex.specs.Packed.{oneNumber, packedAnswer, packedLength};
-ghost use Rattle.annex.specs.Promises.{TkReadPromise, TkWritePromise, TkRowsPromise, TkFindCommonPromise, TkFindTransferPromise, TkClassPromise, TkEditPromise};
+ghost use Rattle.annex.specs.Promises.{
+  TkReadPromise,
+  TkWritePromise,
+  TkRowsPromise,
+  TkFindCommonPromise,
+  TkFindTransferPromise,
+  TkClassPromise,
+  TkEditPromise,
+};
 
 fn pack(number: u8, place: usize, value: usize) -> u64
     ensures { λ r. ⌜ r ≡ oneNumber number place value ⌝ }
@@ -84,7 +92,8 @@ pub extern "C" fn tk_write(image: &[u8], room: &mut [u8]) -> u64
     pack_answer(write(held, room))
 }
 
-// The rows of a message, five octets each, from the table's front on: how many there are. Octets past the last stay, and a refusal leaves all.
+// The rows of a message, five octets each, from the table's front on: how many there are. Octets past the last stay, and a refusal leaves
+// all.
 #[no_mangle]
 pub extern "C" fn tk_rows(message: &[u8], table: &mut [u8]) -> u64
     ensures { λ r. ⌜ TkRowsPromise (now (message .entry)) (now (table .entry)) r (now (table .exit)) ⌝ }

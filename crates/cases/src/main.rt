@@ -1,8 +1,8 @@
-// Runs edits and writes records, and prints each answer with the whole lent memory after it. Standard input has the cases one after the other:
-// the kind, three numbers (2 octets each, least first) and octets.
-// 0 replace, 1 append, 2 remove: n, the buffer's length and the new octets' length; the buffer and the new octets, for a removal the name first.
-// 3 to 6 write a record: to what a part of the struct is changed (3 nothing, 4 its count of common parameters, 5 the first one's count of transfer
-// parameters, 6 the first transfer parameter's count of values), the room's length and the image's length; the record's image.
+// Runs edits and writes records, and prints each answer with the whole lent memory after it. Standard input has the cases one after the
+// other: the kind, three numbers (2 octets each, least first) and octets. 0 replace, 1 append, 2 remove: n, the buffer's length and the new
+// octets' length; the buffer and the new octets, for a removal the name first. 3 to 6 write a record: to what a part of the struct is
+// changed (3 nothing, 4 its count of common parameters, 5 the first one's count of transfer parameters, 6 the first transfer parameter's
+// count of values), the room's length and the image's length; the record's image.
 mod edits;
 mod printing;
 mod records;

@@ -50,15 +50,19 @@ same-answer (Refused k p) (Refused l q) t =
     cc
 
 -- an arm of a range, or a `_`, with the keys of the arms before it
-pub in-range : (h : ℕ) (v : ClassAnswer) (kss : List (List ℕ)) (lo n : ℕ) → T (all (λ k. amongAny k kss || sameAnswer v (listedClass h k)) lo n) → (x : ℕ) → None kss x → lo ≤ x → x < lo + n → v ≡ listedClass h x
+pub in-range : (h : ℕ) (v : ClassAnswer) (kss : List (List ℕ)) (lo n : ℕ)
+    → T (all (λ k. amongAny k kss || sameAnswer v (listedClass h k)) lo n) → (x : ℕ) → None kss x → lo ≤ x → x < lo + n
+    → v ≡ listedClass h x
 in-range h v = span-by sameAnswer same-answer v (listedClass h)
 
 -- an arm of keys
-pub at-keys : (h : ℕ) (v : ClassAnswer) (ks : List ℕ) → T (allOf (λ k. sameAnswer v (listedClass h k)) ks) → (x : ℕ) → OneOf ks x → v ≡ listedClass h x
+pub at-keys : (h : ℕ) (v : ClassAnswer) (ks : List ℕ) → T (allOf (λ k. sameAnswer v (listedClass h k)) ks) → (x : ℕ) → OneOf ks x
+    → v ≡ listedClass h x
 at-keys h v = one-of-by sameAnswer same-answer v (listedClass h)
 
 -- an arm of a range of the high half around one of the low half
-pub in-halves : (h : ℕ) (v : ClassAnswer) (hi m lo n : ℕ) → T (all (λ a. all (λ b. sameAnswer v (listedClass h (a * 16 + b))) lo n) hi m) → (x : ℕ) → hi ≤ x / 16 → x / 16 < hi + m → lo ≤ x % 16 → x % 16 < lo + n → v ≡ listedClass h x
+pub in-halves : (h : ℕ) (v : ClassAnswer) (hi m lo n : ℕ) → T (all (λ a. all (λ b. sameAnswer v (listedClass h (a * 16 + b))) lo n) hi m)
+    → (x : ℕ) → hi ≤ x / 16 → x / 16 < hi + m → lo ≤ x % 16 → x % 16 < lo + n → v ≡ listedClass h x
 in-halves h v hi m lo n t x p q r s =
     let e : x / 16 * 16 + x % 16 ≡ x = omega arith in
     rw e at (same-answer v (listedClass h (x / 16 * 16 + x % 16))
@@ -75,6 +79,7 @@ pub unlisted : (ls : List ClassList) (h x : ℕ) → T (not (among h (listed ls)
 unlisted [] h x t = refl
 unlisted (l ∷ ls) h x t = go (eqb h (l .header)) t (unlisted ls h x)
   where
-    go : (b : Bool) → T (not (b || among h (listed ls))) → (T (not (among h (listed ls))) → Refused no-class-list 0 ≡ listedIn ls h x) → Refused no-class-list 0 ≡ cond b (Is (classBy l x)) (listedIn ls h x)
+    go : (b : Bool) → T (not (b || among h (listed ls))) → (T (not (among h (listed ls))) → Refused no-class-list 0 ≡ listedIn ls h x)
+        → Refused no-class-list 0 ≡ cond b (Is (classBy l x)) (listedIn ls h x)
     go true u r = absurd u
     go false u r = r u

@@ -26,7 +26,9 @@ cleared : (ls : List ClassList) (h x : ℕ) → whereClear (clear (zeroesOf h) x
 cleared [] h x = refl
 cleared (l ∷ ls) h x = by (eqb h (l .header)) (cleared ls h x)
   where
-    by : (b : Bool) → whereClear (clear (zeroesOf h) x) (listedIn ls h x) ≡ classIn ls h x → whereClear (clear (zeroesOf h) x) (cond b (Is (classBy l x)) (listedIn ls h x)) ≡ cond b (cond (clear (zeroesOf h) x) (Is (classBy l x)) (Refused bad-form 0)) (classIn ls h x)
+    by : (b : Bool) → whereClear (clear (zeroesOf h) x) (listedIn ls h x) ≡ classIn ls h x
+        → whereClear (clear (zeroesOf h) x) (cond b (Is (classBy l x)) (listedIn ls h x))
+        ≡ cond b (cond (clear (zeroesOf h) x) (Is (classBy l x)) (Refused bad-form 0)) (classIn ls h x)
     by true r = refl
     by false r = r
 

@@ -11,7 +11,8 @@ use Rattle.annex.specs.Allowed.{every}
 pub every-one : (f : ℕ → Bool) (xs : List ℕ) (i : ℕ) → i < length xs → every f (drop i xs) ≡ f (getD xs i 0) && every f (drop (i + 1) xs)
 every-one f xs i h = rw (add-one i, drop-cons xs i 0 h)
 
-pub every-turn : (f : ℕ → Bool) (xs : List ℕ) (i : ℕ) (all good : Bool) → all ≡ good && every f (drop i xs) → i < length xs → all ≡ (good && f (getD xs i 0)) && every f (drop (i + 1) xs)
+pub every-turn : (f : ℕ → Bool) (xs : List ℕ) (i : ℕ) (all good : Bool) → all ≡ good && every f (drop i xs) → i < length xs
+    → all ≡ (good && f (getD xs i 0)) && every f (drop (i + 1) xs)
 every-turn f xs i all good e h =
     e ∙ ap (λ (b : Bool). good && b) (every-one f xs i h) ∙ sym (and-assoc good (f (getD xs i 0)) (every f (drop (i + 1) xs)))
 

@@ -17,7 +17,8 @@ use Rattle.laws.specs.Stores.{sets-turn}
 use Rattle.laws.specs.Laid.{packed-at, code-here, code-past}
 use Rattle.digits.specs.Pairs.{isPair}
 
-pub pairs-sound : (z : Alphabet) (k m : ℕ) (s : List ℕ) → every (isPair z) (take k s) ≡ true → ((q : ℕ) → halvesFault z m q (halves (drop k s)) ≡ Sound) → (p : ℕ) → halvesFault z (k * 2 + m) p (halves s) ≡ Sound
+pub pairs-sound : (z : Alphabet) (k m : ℕ) (s : List ℕ) → every (isPair z) (take k s) ≡ true
+    → ((q : ℕ) → halvesFault z m q (halves (drop k s)) ≡ Sound) → (p : ℕ) → halvesFault z (k * 2 + m) p (halves s) ≡ Sound
 unfolding halvesFault halves
 pairs-sound z zero m s e f p =
     let n : zero * 2 + m ≡ m = omega arith in
@@ -31,14 +32,16 @@ pairs-sound z (suc k) m (x ∷ s) e f p =
     (pairs-sound z k m s r f (p + 1 + 1))
 
 -- an even count of digits fills its octets
-pub even-sound : (z : Alphabet) (n k at : ℕ) (s : List ℕ) → n ≡ k * 2 → drop k s ≡ [] → every (isPair z) (take k s) ≡ true → digitsFault z n at s ≡ Sound
+pub even-sound : (z : Alphabet) (n k at : ℕ) (s : List ℕ) → n ≡ k * 2 → drop k s ≡ [] → every (isPair z) (take k s) ≡ true
+    → digitsFault z n at s ≡ Sound
 unfolding digitsFault halvesFault halves
 even-sound z n k at s e d t =
     let g : n ≡ k * 2 + 0 = omega arith in
     rw g (pairs-sound z k 0 s t (λ q. rw d) (2 * at))
 
 -- of an odd count the last octet is the last digit's code itself: the filler above it is 0
-pub odd-sound : (z : Alphabet) (n k at x : ℕ) (s : List ℕ) → n ≡ k * 2 + 1 → drop k s ≡ x ∷ [] → every (isPair z) (take k s) ≡ true → isCode z x ≡ true → digitsFault z n at s ≡ Sound
+pub odd-sound : (z : Alphabet) (n k at x : ℕ) (s : List ℕ) → n ≡ k * 2 + 1 → drop k s ≡ x ∷ [] → every (isPair z) (take k s) ≡ true
+    → isCode z x ≡ true → digitsFault z n at s ≡ Sound
 unfolding digitsFault halvesFault halves
 odd-sound z n k at x s e d t c =
     let l = code-small z x c in
@@ -54,7 +57,8 @@ alone s k e =
 -- ---- two digits at a time
 
 -- two stores at the end of a run
-pub sets-two : (l : List ℕ) (i : ℕ) (vs : List ℕ) (j a b : ℕ) → j + 1 < length vs → a ≡ getD vs j 0 → b ≡ getD vs (j + 1) 0 → set (set (sets l i (take j vs)) (i + j) a) (i + j + 1) b ≡ sets l i (take (j + 2) vs)
+pub sets-two : (l : List ℕ) (i : ℕ) (vs : List ℕ) (j a b : ℕ) → j + 1 < length vs → a ≡ getD vs j 0 → b ≡ getD vs (j + 1) 0
+    → set (set (sets l i (take j vs)) (i + j) a) (i + j + 1) b ≡ sets l i (take (j + 2) vs)
 sets-two l i vs j a b h e f =
     let g : i + j + 1 ≡ i + (j + 1) = omega arith in
     let k : j + 2 ≡ j + 1 + 1 = omega arith in
@@ -66,13 +70,15 @@ low-digit z n s i h =
     let e : 2 * i / 2 ≡ i = omega arith in
     sym (digitsOf-at z n s (2 * i) h ∙ ap (digitOf z) (halves-even s (2 * i) (omega arith) ∙ rw e))
 
-pub high-digit : (z : Alphabet) (n : ℕ) (s : List ℕ) (i : ℕ) → 2 * i + 1 < n → digitOf z (getD s i 0 / 16) ≡ getD (digitsOf z n s) (2 * i + 1) 0
+pub high-digit : (z : Alphabet) (n : ℕ) (s : List ℕ) (i : ℕ) → 2 * i + 1 < n
+    → digitOf z (getD s i 0 / 16) ≡ getD (digitsOf z n s) (2 * i + 1) 0
 high-digit z n s i h =
     let e : (2 * i + 1) / 2 ≡ i = omega arith in
     sym (digitsOf-at z n s (2 * i + 1) h ∙ ap (digitOf z) (halves-odd s (2 * i + 1) (λ k. omega arith) ∙ rw e))
 
 -- the octet of two digits, and of an odd last one
-pub pair-octet : (z : Alphabet) (ds : List ℕ) (i : ℕ) → 2 * i + 1 < length ds → getD (packed z ds) i 0 ≡ codeOf z (getD ds (2 * i) 0) + 16 * codeOf z (getD ds (2 * i + 1) 0)
+pub pair-octet : (z : Alphabet) (ds : List ℕ) (i : ℕ) → 2 * i + 1 < length ds
+    → getD (packed z ds) i 0 ≡ codeOf z (getD ds (2 * i) 0) + 16 * codeOf z (getD ds (2 * i + 1) 0)
 pair-octet z ds i h =
     let e : i * 2 ≡ 2 * i = omega arith in
     packed-at z ds i ∙ rw (e, code-here z ds (2 * i) (omega arith), code-here z ds (2 * i + 1) h)

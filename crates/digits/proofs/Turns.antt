@@ -21,7 +21,8 @@ first-left i n = go (ltb i n) refl
     go true e = lt-ltb 0 (n - i) (omega (arith, ltb-true i n e))
     go false e = le-ltb 0 (n - i) (omega (arith, ltb-false i n e))
 
-one : (z : Alphabet) (n p h : ℕ) (hs : List ℕ) (b : Bool) (m : ℕ) → ltb 0 n ≡ b → n - 1 ≡ m → halvesFault z n p (h ∷ hs) ≡ cond (cond b (isCode z h) (eqb h 0)) (halvesFault z m (p + 1) hs) (Bad bad-digit (p / 2))
+one : (z : Alphabet) (n p h : ℕ) (hs : List ℕ) (b : Bool) (m : ℕ) → ltb 0 n ≡ b → n - 1 ≡ m
+    → halvesFault z n p (h ∷ hs) ≡ cond (cond b (isCode z h) (eqb h 0)) (halvesFault z m (p + 1) hs) (Bad bad-digit (p / 2))
 unfolding halvesFault
 one z zero p h hs b m e f = rw (← e, ← f)
 one z (suc n) p h hs b m e f =
@@ -29,7 +30,10 @@ one z (suc n) p h hs b m e f =
     rw (sym e ∙ lt-ltb 0 (suc n) (omega arith), g)
 
 -- the half at i: a digit where i is below n, and else 0
-pub halves-turn : (z : Alphabet) (n i p : ℕ) (hs : List ℕ) → i < length hs → halvesFault z (n - i) p (drop i hs) ≡ cond (cond (ltb i n) (isCode z (getD hs i 0)) (eqb (getD hs i 0) 0)) (halvesFault z (n - (i + 1)) (p + 1) (drop (i + 1) hs)) (Bad bad-digit (p / 2))
+pub halves-turn : (z : Alphabet) (n i p : ℕ) (hs : List ℕ) → i < length hs
+    → halvesFault z (n - i) p (drop i hs)
+    ≡ cond (cond (ltb i n) (isCode z (getD hs i 0)) (eqb (getD hs i 0) 0)) (halvesFault z (n - (i + 1)) (p + 1) (drop (i + 1) hs))
+    (Bad bad-digit (p / 2))
 halves-turn z n i p hs l =
     ap (halvesFault z (n - i) p) (drop-cons hs i 0 l ∙ ap (λ (k : ℕ). getD hs i 0 ∷ drop k hs) (sym (add-one i)))
     ∙ one z (n - i) p (getD hs i 0) (drop (i + 1) hs) (ltb i n) (n - (i + 1)) (first-left i n) (omega arith)

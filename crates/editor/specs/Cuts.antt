@@ -27,7 +27,8 @@ use Rattle.editor.specs.Steps.{editOf, Brings, freeEnd, spotIn, ownAnswe
 use Rattle.editor.specs.Splicing.{Cut}
 
 -- the stretch of a message that the transfer data is
-stretch : (before front old back after : List ℕ) (l s k : ℕ) → s ≡ length before + 2 → k ≡ length (front ++ (old ++ back)) → take k (drop s (before ++ (transfer-data ∷ l ∷ (front ++ (old ++ (back ++ after)))))) ≡ front ++ (old ++ back)
+stretch : (before front old back after : List ℕ) (l s k : ℕ) → s ≡ length before + 2 → k ≡ length (front ++ (old ++ back))
+    → take k (drop s (before ++ (transfer-data ∷ l ∷ (front ++ (old ++ (back ++ after)))))) ≡ front ++ (old ++ back)
 stretch before front old back after l s k p q =
     let five = before ++ (transfer-data ∷ l ∷ []) in
     let t = front ++ (old ++ back) in
@@ -44,10 +45,12 @@ module _ (m front old put back : List ℕ) (s j from to : ℕ) (v : transfersVer
   stood : (x which : ℕ) → Stands x which m (front ++ (old ++ back)) s (length front) old
       → wholeSearch x which (front ++ (old ++ back)) ≡ At from to → (from ≡ length front) × (to ≡ length front + length old)
   stood x which w f =
-      let g : At (length front) (length front + length old) ≡ At from to = sym (whole-stands x which m (front ++ (old ++ back)) s (length front) old j v w) ∙ f in
+      let g : At (length front) (length front + length old) ≡ At from to =
+      sym (whole-stands x which m (front ++ (old ++ back)) s (length front) old j v w) ∙ f in
       (cc, cc)
 
-  spot-is : (k : Kind) (new : List ℕ) → Brings k new → Told (editOf k new) m (front ++ (old ++ back)) s (length front) old put back → spotIn k new (front ++ (old ++ back)) ≡ At from to → (from ≡ length front) × (to ≡ length front + length old) × (new ≡ put)
+  spot-is : (k : Kind) (new : List ℕ) → Brings k new → Told (editOf k new) m (front ++ (old ++ back)) s (length front) old put back
+      → spotIn k new (front ++ (old ++ back)) ≡ At from to → (from ≡ length front) × (to ≡ length front + length old) × (new ≡ put)
   spot-is (kind.Replacing which) new b w f = let q = stood (nameOf (newHeader new)) which (w .1) f in (q .0, q .1, sym (w .0))
   spot-is kind.Appending new b w f =
       let x = nameOf (newHeader new) in
@@ -64,20 +67,27 @@ of-octets kind.Appending new o = o
 of-octets (kind.Removing x which) new o = tt
 
 -- every step but the last is accepted; the transfer data was found from s to before t, and the spot in it from a to before z
-pub cut : (k : Kind) (new d : List ℕ) (n s t a z j : ℕ) → Brings k new → every isOctet new ≡ true → Data d n s t → spotIn k new (take (t - s) (drop s d)) ≡ At a z → ownAnswer k new (take (t - s) (drop s d)) ≡ Accepted j → Cut (editOf k new) d n s t a z new
+pub cut : (k : Kind) (new d : List ℕ) (n s t a z j : ℕ) → Brings k new → every isOctet new ≡ true → Data d n s t
+    → spotIn k new (take (t - s) (drop s d)) ≡ At a z → ownAnswer k new (take (t - s) (drop s d)) ≡ Accepted j
+    → Cut (editOf k new) d n s t a z new
 cut k new d n s t a z j b o w f r =
     let e = editOf k new in
     let m = take n d in
     let v = w .message in
-    let right : EditRight e (itemsIn (recordOf m)) = edit-passed e (itemsIn (recordOf m)) j (own-steps d n _ (w .octets) v s t (w .found) k new b ∙ r) in
+    let right : EditRight e (itemsIn (recordOf m)) =
+    edit-passed e (itemsIn (recordOf m)) j (own-steps d n _ (w .octets) v s t (w .found) k new b ∙ r) in
     let has-data : among transfer-data (headersOf (recordOf m)) ≡ true = sym (data-held d n _ (w .octets) v) ∙ rw (w .found) in
-    let y : Spliced e m (editedIn e d n) = message-splices e m _ (every-take isOctet n d (w .octets)) v has-data right (of-octets k new o) in
+    let y : Spliced e m (editedIn e d n) =
+    message-splices e m _ (every-take isOctet n d (w .octets)) v has-data right (of-octets k new o) in
     let l = length (y .front ++ (y .old ++ y .back)) in
-    let g : At (length (y .before) + 2) (length (y .before) + 2 + l) ≡ At s t = sym (y .found) ∙ common-plain transfer-data m _ v ∙ w .found in
+    let g : At (length (y .before) + 2) (length (y .before) + 2 + l) ≡ At s t =
+    sym (y .found) ∙ common-plain transfer-data m _ v ∙ w .found in
     let p : s ≡ length (y .before) + 2 = cc in
     let q : t ≡ length (y .before) + 2 + l = cc in
     let long : t - s ≡ l = omega arith in
-    let part-is : take (t - s) (drop s d) ≡ y .front ++ (y .old ++ y .back) = sym (data-part d n _ (w .octets) v s t (w .found)) ∙ ap (λ (x : List ℕ). take (t - s) (drop s x)) (y .was) ∙ stretch (y .before) (y .front) (y .old) (y .back) (y .after) l s (t - s) p long in
+    let part-is : take (t - s) (drop s d) ≡ y .front ++ (y .old ++ y .back) =
+    sym (data-part d n _ (w .octets) v s t (w .found)) ∙ ap (λ (x : List ℕ). take (t - s) (drop s x)) (y .was)
+    ∙ stretch (y .before) (y .front) (y .old) (y .back) (y .after) l s (t - s) p long in
     let spot = spot-is m (y .front) (y .old) (y .new) (y .back) _ _ a z (y .sound) k new b (y .told) (rw (← part-is) f) in
     record {
       within = w .within;

@@ -1,5 +1,5 @@
--- The last step of an edit: 14 and 15, the new octets in the place of the old, and C5's length octet. Where its numbers are those of the edit,
--- it keeps the edit's promise.
+-- The last step of an edit: 14 and 15, the new octets in the place of the old, and C5's length octet. Where its numbers are those of the
+-- edit, it keeps the edit's promise.
 use Prim.Native.Nat.{ℕ, _+_, _-_, _≤_, _<_}
 use native.Mathlib.Omega.{arith}
 use mathlib.Core.Path.{_≡_, sym, ap, _∙_}
@@ -60,12 +60,16 @@ module _ (d : List ℕ) (n start end from to : ℕ) (new : List ℕ) (p : Placed
   pub no-room-left : spliceFits d n (start + from) (to - from) new ≡ false → length d < messageLength n (to - from) new
   no-room-left e =
       let a : start + from + (to - from) ≤ n = omega (arith, p .order, p .within, p .message) in
-      leb-false (messageLength n (to - from) new) (length d) (rw (le-leb (start + from + (to - from)) n a, le-leb n (length d) (p .whole)) at e)
+      leb-false (messageLength n (to - from) new) (length d)
+      (rw (le-leb (start + from + (to - from)) n a, le-leb n (length d) (p .whole)) at e)
 
-  pub length-stored : Fitting d n (start + from) (to - from) new → set (spliced d n (start + from) (to - from) new) (start - 1) (dataLength start end (to - from) new) ≡ holding d n (splicedWith d n start end from to new)
+  pub length-stored : Fitting d n (start + from) (to - from) new
+      → set (spliced d n (start + from) (to - from) new) (start - 1) (dataLength start end (to - from) new)
+      ≡ holding d n (splicedWith d n start end from to new)
   length-stored f =
       let e : start + from + (to - from) ≡ start + to = omega (arith, p .order) in
-      rw e at (set-spliced d n (start + from) (to - from) new f (start - 1) (dataLength start end (to - from) new) (omega (arith, p .counted)))
+      rw e at
+      (set-spliced d n (start + from) (to - from) new f (start - 1) (dataLength start end (to - from) new) (omega (arith, p .counted)))
 
 -- ---- the numbers of an edit
 
@@ -81,10 +85,13 @@ pub record Cut (e : Edit) (d : List ℕ) (n start end from to : ℕ) (new : List
 
 module _ {e : Edit} {d : List ℕ} {n start end from to : ℕ} {new : List ℕ} (c : Cut e d n start end from to new) where
   -- how long the parts are
-  parts : length (c .splice .front ++ (c .splice .old ++ c .splice .back)) ≡ length (c .splice .front) + length (c .splice .old) + length (c .splice .back)
+  parts : length (c .splice .front ++ (c .splice .old ++ c .splice .back))
+      ≡ length (c .splice .front) + length (c .splice .old) + length (c .splice .back)
   parts = simp length-append (omega arith)
 
-  whole : n ≡ length (c .splice .before) + 2 + length (c .splice .front) + length (c .splice .old) + length (c .splice .back) + length (c .splice .after)
+  whole : n
+      ≡ length (c .splice .before) + 2 + length (c .splice .front) + length (c .splice .old) + length (c .splice .back) + length
+      (c .splice .after)
   whole =
       let l = c .within in
       sym (length-take-le n d l) ∙ ap length (c .splice .was) ∙ simp length-append (omega arith)
@@ -102,17 +109,35 @@ module _ {e : Edit} {d : List ℕ} {n start end from to : ℕ} {new : List ℕ} 
   -- the lengths and the octets are those of the edited record
   data-long : dataLength start end (to - from) new ≡ length (layoutItems (itemsIn (editedIn e d n)))
   data-long =
-      omega (arith, c .start-is, c .end-is, c .from-is, c .to-is, ap length (c .new-is), parts, length-transfer e (take n d) (editedIn e d n) (c .splice))
+      omega (
+        arith,
+        c .start-is,
+        c .end-is,
+        c .from-is,
+        c .to-is,
+        ap length (c .new-is),
+        parts,
+        length-transfer e (take n d) (editedIn e d n) (c .splice),
+      )
 
   message-long : messageLength n (to - from) new ≡ length (layout (editedIn e d n))
   message-long =
-      omega (arith, c .from-is, c .to-is, ap length (c .new-is), whole, length-take-le n d (c .within), length-becomes e (take n d) (editedIn e d n) (c .splice))
+      omega (
+        arith,
+        c .from-is,
+        c .to-is,
+        ap length (c .new-is),
+        whole,
+        length-take-le n d (c .within),
+        length-becomes e (take n d) (editedIn e d n) (c .splice),
+      )
 
   message-is : splicedWith d n start end from to new ≡ layout (editedIn e d n)
   message-is =
       let p : start - 1 ≡ length (c .splice .before) + 1 = omega (arith, c .start-is) in
       let f : start + from ≡ length (c .splice .before) + 2 + length (c .splice .front) = omega (arith, c .start-is, c .from-is) in
-      let g : start + to ≡ length (c .splice .before) + 2 + length (c .splice .front) + length (c .splice .old) = omega (arith, c .start-is, c .to-is) in
+      let g : start + to ≡ length (c .splice .before) + 2 + length (c .splice .front) + length (c .splice .old) =
+      omega (arith, c .start-is, c .to-is) in
       let t : take (start + from) d ≡ take (start + from) (take n d) = sym (take-take (start + from) n d (omega (arith, f, whole))) in
       rw (data-long, p, t, f, g, c .new-is) (octets-become e (take n d) (editedIn e d n) (c .splice))
 

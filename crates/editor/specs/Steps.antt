@@ -114,7 +114,8 @@ free-refuse l (At s e) a = refl
 free-refuse l Nowhere a = refl
 
 -- a new parameter whose header is accepted has one
-new-head-then : (new : List ℕ) (f : Answer → Answer) → newHead new (f (newContents new)) ≡ andThen (newHead new (Accepted 0)) (λ _. f (contentsAnswer new))
+new-head-then : (new : List ℕ) (f : Answer → Answer)
+    → newHead new (f (newContents new)) ≡ andThen (newHead new (Accepted 0)) (λ _. f (contentsAnswer new))
 new-head-then [] f = refl
 new-head-then (h ∷ xs) f =
     rw (ne-eqb (length (h ∷ xs)) 0 (λ e. omega arith)) (sym (head-then 0 h (Accepted 0) (λ _. f (newContents (h ∷ xs)))))
@@ -158,7 +159,8 @@ module _ (d : List ℕ) (n j : ℕ) (o : every isOctet d ≡ true) (v : verdictO
         → leb (timesIn x (namesOf (itemsIn (recordOf (take n d))))) which ≡ not (isFound (wholeSearch x which (take (t - s) (drop s d))))
     name-lacks x which = times-test _ which ∙ ap not (sym (name-there x which (take n d) octets-held j v) ∙ name-held x which)
 
-    pub own-steps : (k : Kind) (new : List ℕ) → Brings k new → editRefusal (editOf k new) (itemsIn (recordOf (take n d))) ≡ ownAnswer k new (take (t - s) (drop s d))
+    pub own-steps : (k : Kind) (new : List ℕ) → Brings k new
+        → editRefusal (editOf k new) (itemsIn (recordOf (take n d))) ≡ ownAnswer k new (take (t - s) (drop s d))
     unfolding editRefusal
     own-steps (kind.Replacing which) new b =
         let x = nameOf (newHeader new) in
@@ -176,11 +178,15 @@ module _ (d : List ℕ) (n j : ℕ) (o : every isOctet d ≡ true) (v : verdictO
         rw (name-lacks x which, b) (found-refuse (kind.Removing x which) (wholeSearch x which (take (t - s) (drop s d))) (Accepted 0) refl)
 
 module _ (k : Kind) (new : List ℕ) (b : Brings k new) (d : List ℕ) (n : ℕ) where
-  record-steps : (j : ℕ) → every isOctet d ≡ true → verdictOf (take n d) ≡ Accepted j → recordEditing (editOf k new) (recordOf (take n d)) (length d) ≡ dataAnswer k new d n (commonPlain transfer-data (take n d))
+  record-steps : (j : ℕ) → every isOctet d ≡ true → verdictOf (take n d) ≡ Accepted j
+      → recordEditing (editOf k new) (recordOf (take n d)) (length d) ≡ dataAnswer k new d n (commonPlain transfer-data (take n d))
   unfolding recordEditing
   record-steps j o v = rw (← data-held d n j o v) (go (commonPlain transfer-data (take n d)) refl)
     where
-      go : (f : Found) → commonPlain transfer-data (take n d) ≡ f → refuse (not (isFound f)) absent 0 (andThen (editRefusal (editOf k new) (itemsIn (recordOf (take n d)))) (λ _. roomAnswer (editOf k new) d n)) ≡ dataAnswer k new d n f
+      go : (f : Found) → commonPlain transfer-data (take n d) ≡ f
+          → refuse (not (isFound f)) absent 0
+          (andThen (editRefusal (editOf k new) (itemsIn (recordOf (take n d)))) (λ _. roomAnswer (editOf k new) d n))
+          ≡ dataAnswer k new d n f
       go (At s t) f = rw (own-steps d n j o v s t f k new b)
       go Nowhere f = refl
 
@@ -188,12 +194,15 @@ module _ (k : Kind) (new : List ℕ) (b : Brings k new) (d : List ℕ) (n : ℕ)
   unfolding editingOf
   steps-edit o = ap (refuse (ltb (length d) n) no-room 0) (go (verdictOf (take n d)) refl)
     where
-      go : (a : Answer) → verdictOf (take n d) ≡ a → andThen a (λ _. recordEditing (editOf k new) (recordOf (take n d)) (length d)) ≡ andThen a (λ _. dataAnswer k new d n (commonPlain transfer-data (take n d)))
+      go : (a : Answer) → verdictOf (take n d) ≡ a
+          → andThen a (λ _. recordEditing (editOf k new) (recordOf (take n d)) (length d))
+          ≡ andThen a (λ _. dataAnswer k new d n (commonPlain transfer-data (take n d)))
       go (Accepted j) v = record-steps j o v
       go (Refused i p) v = refl
 
   -- a step that refuses keeps the promise, with the buffer unchanged
-  pub refused : (r : Answer) (i p : ℕ) → every isOctet d ≡ true → r ≡ Refused i p → stepsAnswer k new d n ≡ r → EditPromise (editOf k new) d n r d
+  pub refused : (r : Answer) (i p : ℕ) → every isOctet d ≡ true → r ≡ Refused i p → stepsAnswer k new d n ≡ r
+      → EditPromise (editOf k new) d n r d
   refused r i p o q a =
       let s = steps-edit o ∙ a in
       (sym s, sym (buffer-refused (editOf k new) d n i p (s ∙ q)))
@@ -212,10 +221,12 @@ data-inside {d} {n} {s} {t} w =
     let i = common-inside transfer-data (take n d) .at s t (w .found) in
     (i .0, omega (arith, i .1, length-take n d, w .within))
 
-pub own-refused : (k : Kind) (new d : List ℕ) (n s t : ℕ) (r : Answer) (i p : ℕ) → Brings k new → Data d n s t → r ≡ Refused i p → ownAnswer k new (take (t - s) (drop s d)) ≡ r → EditPromise (editOf k new) d n r d
+pub own-refused : (k : Kind) (new d : List ℕ) (n s t : ℕ) (r : Answer) (i p : ℕ) → Brings k new → Data d n s t → r ≡ Refused i p
+    → ownAnswer k new (take (t - s) (drop s d)) ≡ r → EditPromise (editOf k new) d n r d
 own-refused k new d n s t r i p b w q a =
     refused k new b d n r i p (w .octets) q (rw (le-ltb (length d) n (w .within), w .message, w .found, a, q))
 
 -- with the header accepted and the spot found, the contents decide
-pub own-left : (k : Kind) (new t : List ℕ) (j a b : ℕ) → headAnswer k new ≡ Accepted j → spotIn k new t ≡ At a b → ownAnswer k new t ≡ contentsAnswer new
+pub own-left : (k : Kind) (new t : List ℕ) (j a b : ℕ) → headAnswer k new ≡ Accepted j → spotIn k new t ≡ At a b
+    → ownAnswer k new t ≡ contentsAnswer new
 own-left k new t j a b h f = rw (h, f)

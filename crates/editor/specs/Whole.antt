@@ -52,4 +52,5 @@ whole-stands x which m t s at old k v w =
     let l = ap length (w .laid) in
     let named : isSought (Name x which) (w .item .header) ≡ true = eq-eqb x _ (sym (w .named)) in
     let end : at + 1 + length (drop 1 (layoutItem (w .item))) ≡ at + length old = omega arith in
-    rw (← transfers-plain faultOf t k v, w .listed, ← end) (rw (w .before) at (whole-behind x which (w .ahead) (itemPar at (w .item)) (w .rest) named))
+    rw (← transfers-plain faultOf t k v, w .listed, ← end)
+    (rw (w .before) at (whole-behind x which (w .ahead) (itemPar at (w .item)) (w .rest) named))

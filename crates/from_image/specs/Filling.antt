@@ -12,7 +12,22 @@ use Rattle.annex.specs.Heads.{most-commons, most-transfers}
 use Rattle.annex.specs.Items.{Item, Part}
 use Rattle.annex.specs.Allowed.{itemsIn}
 use Rattle.annex.specs.Records.{headOf, commonHeadOf, valuesOf, pack}
-use Rattle.annex.specs.Image.{Front, more, headFront, itemFront, itemSize, itemsFront, commonFront, partFront, partThen, partsFront, noImage, isWithin, imagedBy, imagedOf}
+use Rattle.annex.specs.Image.{
+  Front,
+  more,
+  headFront,
+  itemFront,
+  itemSize,
+  itemsFront,
+  commonFront,
+  partFront,
+  partThen,
+  partsFront,
+  noImage,
+  isWithin,
+  imagedBy,
+  imagedOf,
+}
 use Rattle.annex.specs.Image.Front.{Taken, Short}
 use Rattle.annex.specs.declared.Common.{Common}
 use Rattle.annex.specs.declared.Record.{Record}
@@ -29,7 +44,8 @@ fitsAt s k used = leb (itemSize s) (length s) && (ltb k most-transfers && leb (u
 abbrev pub unfilled : Filled
 unfilled = record { whole = false; held = emptyRecord; transfers = 0; used = 0; octets = 0 }
 
--- the struct q, of whose transfer places k and of whose values `used` are taken, with these transfer parameters put in, i octets before them
+-- the struct q, of whose transfer places k and of whose values `used` are taken, with these transfer parameters put in, i octets before
+-- them
 abbrev pub filledBy : Record → ℕ → ℕ → ℕ → Front Item → Filled
 filledBy q k used i (Taken is n) =
     cond (leb (k + length is) most-transfers && leb (used + length (valuesOf is)) 512)
@@ -67,15 +83,26 @@ values-told : (s : List ℕ) → itemSize s ≤ length s → length (itemFront s
 values-told s h = length-take-le (headFront s .len) (drop 11 s) (rw (length-drop 11 s) (omega arith))
 
 -- a parameter put in, the rest behind it
-filled-more : (q : Record) (x : Item) (k used i n : ℕ) (f : Front Item) → filledBy q k used i (more x n f) ≡ filledBy (record { commons = q .commons; common = q .common; transfer = set (q .transfer) k (headOf x); values = sets (q .values) used (x .values) }) (k + 1) (used + length (x .values)) (i + n) f
+filled-more : (q : Record) (x : Item) (k used i n : ℕ) (f : Front Item)
+    → filledBy q k used i (more x n f)
+    ≡ filledBy
+    (record {
+      commons = q .commons;
+      common = q .common;
+      transfer = set (q .transfer) k (headOf x);
+      values = sets (q .values) used (x .values);
+    })
+    (k + 1) (used + length (x .values)) (i + n) f
 unfolding valuesOf
 filled-more q x k used i n Short = refl
 filled-more q x k used i n (Taken is m) =
     let held = items-turn q x is k used in
     let ek : k + suc (length is) ≡ k + 1 + length is = omega arith in
-    let eu : used + length (x .values ++ valuesOf is) ≡ used + length (x .values) + length (valuesOf is) = omega (arith, length-append (x .values) (valuesOf is)) in
+    let eu : used + length (x .values ++ valuesOf is) ≡ used + length (x .values) + length (valuesOf is) =
+    omega (arith, length-append (x .values) (valuesOf is)) in
     let en : i + (n + m) ≡ i + n + m = omega arith in
-    λ j. cond (leb (ek j) most-transfers && leb (eu j) 512) (record { whole = true; held = held j; transfers = ek j; used = eu j; octets = en j }) unfilled
+    λ j. cond (leb (ek j) most-transfers && leb (eu j) 512)
+    (record { whole = true; held = held j; transfers = ek j; used = eu j; octets = en j }) unfilled
 
 -- a parameter that has no room, whatever is behind it
 neither : {A : Type 0} (a b : Bool) (x y : A) → (a ≡ true → b ≡ true → ⊥) → cond (a && b) x y ≡ y
@@ -83,18 +110,22 @@ neither true true x y h = absurd (h refl refl)
 neither true false x y h = refl
 neither false b x y h = refl
 
-filled-over : (q : Record) (x : Item) (k used i n : ℕ) (f : Front Item) → (k < most-transfers → used + length (x .values) ≤ 512 → ⊥) → filledBy q k used i (more x n f) ≡ unfilled
+filled-over : (q : Record) (x : Item) (k used i n : ℕ) (f : Front Item) → (k < most-transfers → used + length (x .values) ≤ 512 → ⊥)
+    → filledBy q k used i (more x n f) ≡ unfilled
 unfolding valuesOf
 filled-over q x k used i n Short h = refl
 filled-over q x k used i n (Taken is m) h =
     neither (leb (k + suc (length is)) most-transfers) (leb (used + length (x .values ++ valuesOf is)) 512) _ unfilled
-    (λ a b. h (omega (arith, leb-true (k + suc (length is)) most-transfers a)) (omega (arith, leb-true (used + length (x .values ++ valuesOf is)) 512 b, length-append (x .values) (valuesOf is))))
+    (λ a b. h (omega (arith, leb-true (k + suc (length is)) most-transfers a))
+    (omega (arith, leb-true (used + length (x .values ++ valuesOf is)) 512 b, length-append (x .values) (valuesOf is))))
 
-pub filled-stop : (q : Record) (s : List ℕ) (k used i n : ℕ) → fitsAt s k used ≡ false → filledBy q k used i (itemsFront (suc n) s) ≡ unfilled
+pub filled-stop : (q : Record) (s : List ℕ) (k used i n : ℕ) → fitsAt s k used ≡ false
+    → filledBy q k used i (itemsFront (suc n) s) ≡ unfilled
 unfolding itemsFront
 filled-stop q s k used i n e = go (leb (itemSize s) (length s)) refl e
   where
-    go : (b : Bool) → leb (itemSize s) (length s) ≡ b → b && (ltb k most-transfers && leb (used + headFront s .len) 512) ≡ false → filledBy q k used i (cond b (more (itemFront s) (itemSize s) (itemsFront n (drop (itemSize s) s))) Short) ≡ unfilled
+    go : (b : Bool) → leb (itemSize s) (length s) ≡ b → b && (ltb k most-transfers && leb (used + headFront s .len) 512) ≡ false
+        → filledBy q k used i (cond b (more (itemFront s) (itemSize s) (itemsFront n (drop (itemSize s) s))) Short) ≡ unfilled
     go false w f = refl
     go true w f =
         filled-over q (itemFront s) k used i (itemSize s) (itemsFront n (drop (itemSize s) s))
@@ -106,7 +137,15 @@ filled-stop q s k used i n e = go (leb (itemSize s) (length s)) refl e
 -- the parameter at i of the octets, with its values from there to its end
 pub filled-turn : (q : Record) (s : List ℕ) (k used i n : ℕ) → fitsAt (drop i s) k used ≡ true →
     let t = headFront (drop i s) in
-    filledBy q k used i (itemsFront (suc n) (drop i s)) ≡ filledBy (record { commons = q .commons; common = q .common; transfer = set (q .transfer) k t; values = sets (q .values) used (take (t .len) (drop (i + 11) s)) }) (k + 1) (used + t .len) (i + 11 + t .len) (itemsFront n (drop (i + 11 + t .len) s))
+    filledBy q k used i (itemsFront (suc n) (drop i s))
+    ≡ filledBy
+    (record {
+      commons = q .commons;
+      common = q .common;
+      transfer = set (q .transfer) k t;
+      values = sets (q .values) used (take (t .len) (drop (i + 11) s));
+    })
+    (k + 1) (used + t .len) (i + 11 + t .len) (itemsFront n (drop (i + 11 + t .len) s))
 unfolding itemsFront
 filled-turn q s k used i n e =
     let d = drop i s in
@@ -114,10 +153,12 @@ filled-turn q s k used i n e =
     let l = values-told d (r .whole) in
     let a : i + (11 + headFront d .len) ≡ i + 11 + headFront d .len = omega arith in
     let o : drop (itemSize d) d ≡ drop (i + 11 + headFront d .len) s = drop-drop (itemSize d) i s ∙ ap (λ (m : ℕ). drop m s) a in
-    rw (le-leb (itemSize d) (length d) (r .whole)) (filled-more q (itemFront d) k used i (itemSize d) (itemsFront n (drop (itemSize d) d)) ∙ rw (l, a, o, drop-drop 11 i s))
+    rw (le-leb (itemSize d) (length d) (r .whole))
+    (filled-more q (itemFront d) k used i (itemSize d) (itemsFront n (drop (itemSize d) d)) ∙ rw (l, a, o, drop-drop 11 i s))
 
 -- none left
-pub filled-end : (q : Record) (s : List ℕ) (k used i : ℕ) → k ≤ most-transfers → used ≤ 512 → filledBy q k used i (itemsFront 0 s) ≡ record { whole = true; held = q; transfers = k; used = used; octets = i }
+pub filled-end : (q : Record) (s : List ℕ) (k used i : ℕ) → k ≤ most-transfers → used ≤ 512
+    → filledBy q k used i (itemsFront 0 s) ≡ record { whole = true; held = q; transfers = k; used = used; octets = i }
 unfolding itemsFront valuesOf
 filled-end q s k used i hk hu =
     let ek : k + 0 ≡ k = omega arith in
@@ -130,7 +171,11 @@ filled-end q s k used i hk hu =
 -- the struct q with these common parameters put in, i octets before them, of n in all
 abbrev pub imagedFrom : ℕ → Record → ℕ → ℕ → ℕ → Front Part → Imaged
 imagedFrom n q k used i (Taken ps j) =
-    cond (eqb (i + j) n && (leb (q .commons + length ps) most-commons && (leb (k + length (itemsIn ps)) most-transfers && leb (used + length (valuesOf (itemsIn ps))) 512)))
+    cond
+    (eqb (i + j) n
+    &&
+    (leb (q .commons + length ps) most-commons
+    && (leb (k + length (itemsIn ps)) most-transfers && leb (used + length (valuesOf (itemsIn ps))) 512)))
     (record { answer = Accepted (q .commons + length ps); held = withParts q ps k used })
     noImage
 imagedFrom n q k used i Short = noImage
@@ -144,13 +189,18 @@ imaged-start n (Taken r k) =
     let ec : length r ≡ 0 + length r = omega arith in
     let et : length (itemsIn r) ≡ 0 + length (itemsIn r) = omega arith in
     let ev : length (valuesOf (itemsIn r)) ≡ 0 + length (valuesOf (itemsIn r)) = omega arith in
-    go (eqb k n && (leb (length r) most-commons && (leb (length (itemsIn r)) most-transfers && leb (length (valuesOf (itemsIn r))) 512))) refl
+    go
+    (eqb k n && (leb (length r) most-commons && (leb (length (itemsIn r)) most-transfers && leb (length (valuesOf (itemsIn r))) 512))) refl
     ∙ (λ j.
     cond (eqb (ek j) n && (leb (ec j) most-commons && (leb (et j) most-transfers && leb (ev j) 512)))
     (record { answer = Accepted (ec j); held = withParts emptyRecord r 0 0 })
     noImage)
   where
-    go : (t : Bool) → eqb k n && (leb (length r) most-commons && (leb (length (itemsIn r)) most-transfers && leb (length (valuesOf (itemsIn r))) 512)) ≡ t → cond {A = Imaged} t (record { answer = Accepted (length r); held = pack r }) noImage ≡ cond t (record { answer = Accepted (length r); held = withParts emptyRecord r 0 0 }) noImage
+    go : (t : Bool)
+        → eqb k n && (leb (length r) most-commons && (leb (length (itemsIn r)) most-transfers && leb (length (valuesOf (itemsIn r))) 512))
+        ≡ t
+        → cond {A = Imaged} t (record { answer = Accepted (length r); held = pack r }) noImage
+        ≡ cond t (record { answer = Accepted (length r); held = withParts emptyRecord r 0 0 }) noImage
     go false e = refl
     go true e =
         let c = leb (length r) most-commons in
@@ -159,17 +209,23 @@ imaged-start n (Taken r k) =
         let e′ = and-right (eqb k n) (c && (t && v)) e in
         let e″ = and-right c (t && v) e′ in
         let p : pack r ≡ withParts emptyRecord r 0 0 =
-        sym (filled-whole r (leb-true (length r) most-commons (and-left c (t && v) e′)) (leb-true (length (itemsIn r)) most-transfers (and-left t v e″)) (leb-true (length (valuesOf (itemsIn r))) 512 (and-right t v e″))) in
+        sym
+        (filled-whole r (leb-true (length r) most-commons (and-left c (t && v) e′))
+        (leb-true (length (itemsIn r)) most-transfers (and-left t v e″))
+        (leb-true (length (valuesOf (itemsIn r))) 512 (and-right t v e″))) in
         λ j. record { answer = Accepted (length r); held = p j }
 
 -- a common parameter put in, the rest behind it
-imaged-more : (n : ℕ) (q q′ : Record) (k k′ used used′ i m : ℕ) (p : Part) → q′ .commons ≡ q .commons + 1 → k′ ≡ k + length (p .items) → used′ ≡ used + length (valuesOf (p .items)) → ((ps : List Part) → withParts q (p ∷ ps) k used ≡ withParts q′ ps k′ used′) → (f : Front Part) → imagedFrom n q k used i (more p m f) ≡ imagedFrom n q′ k′ used′ (i + m) f
+imaged-more : (n : ℕ) (q q′ : Record) (k k′ used used′ i m : ℕ) (p : Part) → q′ .commons ≡ q .commons + 1 → k′ ≡ k + length (p .items)
+    → used′ ≡ used + length (valuesOf (p .items)) → ((ps : List Part) → withParts q (p ∷ ps) k used ≡ withParts q′ ps k′ used′)
+    → (f : Front Part) → imagedFrom n q k used i (more p m f) ≡ imagedFrom n q′ k′ used′ (i + m) f
 imaged-more n q q′ k k′ used used′ i m p c t v h Short = refl
 imaged-more n q q′ k k′ used used′ i m p c t v h (Taken ps x) =
     let ei : i + (m + x) ≡ i + m + x = omega arith in
     let ec : q .commons + suc (length ps) ≡ q′ .commons + length ps = omega arith in
     let ek : k + length (p .items ++ itemsIn ps) ≡ k′ + length (itemsIn ps) = omega (arith, length-append (p .items) (itemsIn ps)) in
-    let eu : used + length (valuesOf (p .items ++ itemsIn ps)) ≡ used′ + length (valuesOf (itemsIn ps)) = rw (values-append (p .items) (itemsIn ps)) (omega (arith, length-append (valuesOf (p .items)) (valuesOf (itemsIn ps)))) in
+    let eu : used + length (valuesOf (p .items ++ itemsIn ps)) ≡ used′ + length (valuesOf (itemsIn ps)) =
+    rw (values-append (p .items) (itemsIn ps)) (omega (arith, length-append (valuesOf (p .items)) (valuesOf (itemsIn ps)))) in
     λ j.
     cond (eqb (ei j) n && (leb (ec j) most-commons && (leb (ek j) most-transfers && leb (eu j) 512)))
     (record { answer = Accepted (ec j); held = h ps j })
@@ -183,12 +239,17 @@ none-of true true false d x y h = refl
 none-of true false c d x y h = refl
 none-of false b c d x y h = refl
 
-imaged-over : (n : ℕ) (q : Record) (k used i m : ℕ) (p : Part) (f : Front Part) → (q .commons < most-commons → k + length (p .items) ≤ most-transfers → used + length (valuesOf (p .items)) ≤ 512 → ⊥) → imagedFrom n q k used i (more p m f) ≡ noImage
+imaged-over : (n : ℕ) (q : Record) (k used i m : ℕ) (p : Part) (f : Front Part)
+    → (q .commons < most-commons → k + length (p .items) ≤ most-transfers → used + length (valuesOf (p .items)) ≤ 512 → ⊥)
+    → imagedFrom n q k used i (more p m f) ≡ noImage
 imaged-over n q k used i m p Short h = refl
 imaged-over n q k used i m p (Taken ps x) h =
     let a = length-append (p .items) (itemsIn ps) in
-    let b = ap (λ (l : List ℕ). length l) (values-append (p .items) (itemsIn ps)) ∙ length-append (valuesOf (p .items)) (valuesOf (itemsIn ps)) in
-    none-of (eqb (i + (m + x)) n) (leb (q .commons + suc (length ps)) most-commons) (leb (k + length (p .items ++ itemsIn ps)) most-transfers) (leb (used + length (valuesOf (p .items ++ itemsIn ps))) 512) _ noImage
+    let b =
+    ap (λ (l : List ℕ). length l) (values-append (p .items) (itemsIn ps))
+    ∙ length-append (valuesOf (p .items)) (valuesOf (itemsIn ps)) in
+    none-of (eqb (i + (m + x)) n) (leb (q .commons + suc (length ps)) most-commons)
+    (leb (k + length (p .items ++ itemsIn ps)) most-transfers) (leb (used + length (valuesOf (p .items ++ itemsIn ps))) 512) _ noImage
     (λ c t v.
     h (omega (arith, leb-true (q .commons + suc (length ps)) most-commons c))
     (omega (arith, leb-true (k + length (p .items ++ itemsIn ps)) most-transfers t))
@@ -210,7 +271,8 @@ unfolding itemsFront
 items-counted zero s = (refl, omega arith)
 items-counted (suc n) s = go (leb (itemSize s) (length s)) refl (rw (length-drop (itemSize s) s) at (items-counted n (drop (itemSize s) s)))
   where
-    go : (b : Bool) → leb (itemSize s) (length s) ≡ b → Counted n (length s - itemSize s) (itemsFront n (drop (itemSize s) s)) → Counted (suc n) (length s) (cond b (more (itemFront s) (itemSize s) (itemsFront n (drop (itemSize s) s))) Short)
+    go : (b : Bool) → leb (itemSize s) (length s) ≡ b → Counted n (length s - itemSize s) (itemsFront n (drop (itemSize s) s))
+        → Counted (suc n) (length s) (cond b (more (itemFront s) (itemSize s) (itemsFront n (drop (itemSize s) s))) Short)
     go false e c = tt
     go true e c =
         counted-more (itemFront s) n (length s) (itemSize s) (itemsFront n (drop (itemSize s) s)) (leb-true (itemSize s) (length s) e) c
@@ -224,12 +286,21 @@ record Put (q : Record) (k used : ℕ) (is : List Item) (m : ℕ) (f : Filled) :
   places : k + length is ≤ most-transfers
   values : used + length (valuesOf is) ≤ 512
 
-filled-put : (q : Record) (k used : ℕ) (is : List Item) (m : ℕ) (f : Filled) → f ≡ filledBy q k used 0 (Taken is m) → f .whole ≡ true → Put q k used is m f
+filled-put : (q : Record) (k used : ℕ) (is : List Item) (m : ℕ) (f : Filled) → f ≡ filledBy q k used 0 (Taken is m) → f .whole ≡ true
+    → Put q k used is m f
 filled-put q k used is m f e w = go (leb (k + length is) most-transfers) refl (leb (used + length (valuesOf is)) 512) refl
   where
     go : (a : Bool) → leb (k + length is) most-transfers ≡ a → (b : Bool) → leb (used + length (valuesOf is)) 512 ≡ b → Put q k used is m f
     go true a true b =
-        let g : f ≡ record { whole = true; held = withItems q is k used; transfers = k + length is; used = used + length (valuesOf is); octets = 0 + m } = e ∙ rw (a, b) in
+        let g : f
+        ≡ record {
+          whole = true;
+          held = withItems q is k used;
+          transfers = k + length is;
+          used = used + length (valuesOf is);
+          octets = 0 + m;
+        } =
+        e ∙ rw (a, b) in
         record {
           held = ap (λ (x : Filled). x .held) g;
           transfers = ap (λ (x : Filled). x .transfers) g;
@@ -238,20 +309,25 @@ filled-put q k used is m f e w = go (leb (k + length is) most-transfers) refl (l
           places = leb-true (k + length is) most-transfers a;
           values = leb-true (used + length (valuesOf is)) 512 b;
         }
-    go true a false b = absurd (let g : f ≡ unfilled = e ∙ rw (a, b) in let z : _≡_ {A = ℕ} 0 1 = cc (ap (λ (x : Filled). x .whole) g) in omega arith)
-    go false a b b′ = absurd (let g : f ≡ unfilled = e ∙ rw a in let z : _≡_ {A = ℕ} 0 1 = cc (ap (λ (x : Filled). x .whole) g) in omega arith)
+    go true a false b =
+        absurd (let g : f ≡ unfilled = e ∙ rw (a, b) in let z : _≡_ {A = ℕ} 0 1 = cc (ap (λ (x : Filled). x .whole) g) in omega arith)
+    go false a b b′ =
+        absurd (let g : f ≡ unfilled = e ∙ rw a in let z : _≡_ {A = ℕ} 0 1 = cc (ap (λ (x : Filled). x .whole) g) in omega arith)
 
 -- a part after six others, or whose transfer parameters are not whole or have no room
-part-over : (n : ℕ) (q : Record) (k used i : ℕ) (s : List ℕ) (j : Front Item) (rest : ℕ → Front Part) → most-commons ≤ q .commons → imagedFrom n q k used i (partThen s j rest) ≡ noImage
+part-over : (n : ℕ) (q : Record) (k used i : ℕ) (s : List ℕ) (j : Front Item) (rest : ℕ → Front Part) → most-commons ≤ q .commons
+    → imagedFrom n q k used i (partThen s j rest) ≡ noImage
 part-over n q k used i s Short rest h = refl
 part-over n q k used i s (Taken is m) rest h = imaged-over n q k used i (6 + m) (partFront s is) (rest (6 + m)) (λ c t v. omega arith)
 
-part-stop : (n : ℕ) (q : Record) (k used i : ℕ) (s : List ℕ) (j : Front Item) (rest : ℕ → Front Part) (f : Filled) → f ≡ filledBy q k used 0 j → f .whole ≡ false → imagedFrom n q k used i (partThen s j rest) ≡ noImage
+part-stop : (n : ℕ) (q : Record) (k used i : ℕ) (s : List ℕ) (j : Front Item) (rest : ℕ → Front Part) (f : Filled)
+    → f ≡ filledBy q k used 0 j → f .whole ≡ false → imagedFrom n q k used i (partThen s j rest) ≡ noImage
 part-stop n q k used i s Short rest f e w = refl
 part-stop n q k used i s (Taken is m) rest f e w =
     imaged-over n q k used i (6 + m) (partFront s is) (rest (6 + m))
     (λ c t v.
-    let g : filledBy q k used 0 (Taken is m) .whole ≡ true = rw (le-leb (k + length is) most-transfers t, le-leb (used + length (valuesOf is)) 512 v) in
+    let g : filledBy q k used 0 (Taken is m) .whole ≡ true =
+    rw (le-leb (k + length is) most-transfers t, le-leb (used + length (valuesOf is)) 512 v) in
     let g′ : f .whole ≡ true = ap (λ (x : Filled). x .whole) e ∙ g in
     let z : _≡_ {A = ℕ} 0 1 = cc in omega arith)
 
@@ -259,25 +335,35 @@ part-stop n q k used i s (Taken is m) rest f e w =
 abbrev pub withHead : Record → ℕ → Common → Record
 withHead q k c = record { commons = k + 1; common = set (q .common) k c; transfer = q .transfer; values = q .values }
 
-part-put-in : (n : ℕ) (q : Record) (k used i : ℕ) (s : List ℕ) (is : List Item) (m : ℕ) (rest : ℕ → Front Part) (f : Filled) (c : Common) → c ≡ commonHeadOf (partFront s is) → Put q k used is m f → imagedFrom n q k used i (partThen s (Taken is m) rest) ≡ imagedFrom n (withHead (f .held) (q .commons) c) (f .transfers) (f .used) (i + 6 + f .octets) (rest (6 + f .octets))
+part-put-in : (n : ℕ) (q : Record) (k used i : ℕ) (s : List ℕ) (is : List Item) (m : ℕ) (rest : ℕ → Front Part) (f : Filled) (c : Common)
+    → c ≡ commonHeadOf (partFront s is) → Put q k used is m f
+    → imagedFrom n q k used i (partThen s (Taken is m) rest)
+    ≡ imagedFrom n (withHead (f .held) (q .commons) c) (f .transfers) (f .used) (i + 6 + f .octets) (rest (6 + f .octets))
 part-put-in n q k used i s is m rest f c hc u =
     let p = partFront s is in
     let same : f .held .commons ≡ q .commons = ap (λ (r : Record). r .commons) (u .held) in
     let h : (ps : List Part) → withParts q (p ∷ ps) k used ≡ withParts (withHead (f .held) (q .commons) c) ps (f .transfers) (f .used) =
     λ ps.
     part-put q (f .held) k used p ps c (u .held) hc
-    ∙ rw (u .transfers, u .used-up) (ap (λ (x : ℕ). withParts (withHead (f .held) x c) ps (k + length is) (used + length (valuesOf is))) same) in
+    ∙ rw (u .transfers, u .used-up)
+    (ap (λ (x : ℕ). withParts (withHead (f .held) x c) ps (k + length is) (used + length (valuesOf is))) same) in
     let a : i + (6 + f .octets) ≡ i + 6 + f .octets = omega arith in
-    rw (← u .octets) (imaged-more n q (withHead (f .held) (q .commons) c) k (f .transfers) used (f .used) i (6 + f .octets) p refl (u .transfers) (u .used-up) h (rest (6 + f .octets)) ∙ rw a)
+    rw (← u .octets)
+    (imaged-more n q (withHead (f .held) (q .commons) c) k (f .transfers) used (f .used) i (6 + f .octets) p refl (u .transfers)
+    (u .used-up) h (rest (6 + f .octets))
+    ∙ rw a)
 
 -- a part that is put in
 pub record Next (n : ℕ) (q : Record) (k used i l : ℕ) (whole rest : Front Part) (f : Filled) (c : Common) : Type 0 where
-  pub becomes : imagedFrom n q k used i whole ≡ imagedFrom n (withHead (f .held) (q .commons) c) (f .transfers) (f .used) (i + 6 + f .octets) rest
+  pub becomes : imagedFrom n q k used i whole
+      ≡ imagedFrom n (withHead (f .held) (q .commons) c) (f .transfers) (f .used) (i + 6 + f .octets) rest
   pub places : f .transfers ≤ most-transfers
   pub values : f .used ≤ 512
   pub octets : f .octets ≤ l
 
-part-next : (n : ℕ) (q : Record) (k used i l : ℕ) (s : List ℕ) (j : Front Item) (rest : ℕ → Front Part) (f : Filled) (c : Common) → Counted (c .transfers) l j → c ≡ commonFront s → f ≡ filledBy q k used 0 j → f .whole ≡ true → Next n q k used i l (partThen s j rest) (rest (6 + f .octets)) f c
+part-next : (n : ℕ) (q : Record) (k used i l : ℕ) (s : List ℕ) (j : Front Item) (rest : ℕ → Front Part) (f : Filled) (c : Common)
+    → Counted (c .transfers) l j → c ≡ commonFront s → f ≡ filledBy q k used 0 j → f .whole ≡ true
+    → Next n q k used i l (partThen s j rest) (rest (6 + f .octets)) f c
 part-next n q k used i l s Short rest f c d ec e w =
     absurd (let z : _≡_ {A = ℕ} 0 1 = cc (ap (λ (x : Filled). x .whole) e) in omega arith)
 part-next n q k used i l s (Taken is m) rest f c d ec e w =
@@ -302,13 +388,22 @@ module _ (n : ℕ) (q : Record) (k used i m : ℕ) (s : List ℕ) where
   unfolding partsFront
   parts-over h = go (leb 6 (length (drop i s)))
     where
-      go : (b : Bool) → imagedFrom n q k used i (cond b (partThen (drop i s) (itemsFront (commonFront (drop i s) .transfers) (drop 6 (drop i s))) (λ x. partsFront m (drop x (drop i s)))) Short) ≡ noImage
-      go true = part-over n q k used i (drop i s) (itemsFront (commonFront (drop i s) .transfers) (drop 6 (drop i s))) (λ x. partsFront m (drop x (drop i s))) h
+      go : (b : Bool)
+          → imagedFrom n q k used i
+          (cond b
+          (partThen (drop i s) (itemsFront (commonFront (drop i s) .transfers) (drop 6 (drop i s)))
+          (λ x. partsFront m (drop x (drop i s)))) Short)
+          ≡ noImage
+      go true =
+          part-over n q k used i (drop i s) (itemsFront (commonFront (drop i s) .transfers) (drop 6 (drop i s)))
+          (λ x. partsFront m (drop x (drop i s))) h
       go false = refl
 
   -- a head, and the transfer parameters behind it
-  module _ (c : Common) (f : Filled) (h : 6 ≤ length (drop i s)) (ec : c ≡ commonFront (drop i s)) (e : f ≡ filledBy q k used 0 (itemsFront (c .transfers) (drop (i + 6) s))) where
-    opened : partsFront (suc m) (drop i s) ≡ partThen (drop i s) (itemsFront (c .transfers) (drop (i + 6) s)) (λ x. partsFront m (drop x (drop i s)))
+  module _ (c : Common) (f : Filled) (h : 6 ≤ length (drop i s)) (ec : c ≡ commonFront (drop i s))
+      (e : f ≡ filledBy q k used 0 (itemsFront (c .transfers) (drop (i + 6) s))) where
+    opened : partsFront (suc m) (drop i s)
+        ≡ partThen (drop i s) (itemsFront (c .transfers) (drop (i + 6) s)) (λ x. partsFront m (drop x (drop i s)))
     unfolding partsFront
     opened =
         let t : c .transfers ≡ commonFront (drop i s) .transfers = ap (λ (x : Common). x .transfers) ec in
@@ -319,16 +414,19 @@ module _ (n : ℕ) (q : Record) (k used i m : ℕ) (s : List ℕ) where
         ap (λ x. imagedFrom n q k used i x) opened
         ∙ part-stop n q k used i (drop i s) (itemsFront (c .transfers) (drop (i + 6) s)) (λ x. partsFront m (drop x (drop i s))) f e w
 
-    pub parts-next : f .whole ≡ true → Next n q k used i (length (drop (i + 6) s)) (partsFront (suc m) (drop i s)) (partsFront m (drop (i + 6 + f .octets) s)) f c
+    pub parts-next : f .whole ≡ true
+        → Next n q k used i (length (drop (i + 6) s)) (partsFront (suc m) (drop i s)) (partsFront m (drop (i + 6 + f .octets) s)) f c
     parts-next w =
         let a : i + (6 + f .octets) ≡ i + 6 + f .octets = omega arith in
         let o : drop (6 + f .octets) (drop i s) ≡ drop (i + 6 + f .octets) s = drop-drop (6 + f .octets) i s ∙ ap (λ (x : ℕ). drop x s) a in
         rw (opened, ← o)
-        (part-next n q k used i (length (drop (i + 6) s)) (drop i s) (itemsFront (c .transfers) (drop (i + 6) s)) (λ x. partsFront m (drop x (drop i s))) f c (items-counted (c .transfers) (drop (i + 6) s)) ec e w)
+        (part-next n q k used i (length (drop (i + 6) s)) (drop i s) (itemsFront (c .transfers) (drop (i + 6) s))
+        (λ x. partsFront m (drop x (drop i s))) f c (items-counted (c .transfers) (drop (i + 6) s)) ec e w)
 
 -- none left: all octets are taken, or there are some left over
 module _ (n : ℕ) (q : Record) (k used i : ℕ) (s : List ℕ) where
-  pub parts-end : q .commons ≤ most-commons → k ≤ most-transfers → used ≤ 512 → imagedFrom n q k used i (partsFront 0 s) ≡ cond (eqb i n) (record { answer = Accepted (q .commons); held = q }) noImage
+  pub parts-end : q .commons ≤ most-commons → k ≤ most-transfers → used ≤ 512
+      → imagedFrom n q k used i (partsFront 0 s) ≡ cond (eqb i n) (record { answer = Accepted (q .commons); held = q }) noImage
   unfolding partsFront valuesOf
   parts-end c t v =
       let ei : i + 0 ≡ i = omega arith in
@@ -342,7 +440,9 @@ module _ (n : ℕ) (q : Record) (k used i : ℕ) (s : List ℕ) where
       noImage)
       ∙ rw (le-leb (q .commons) most-commons c, le-leb k most-transfers t, le-leb used 512 v) (and-true (eqb i n))
     where
-      and-true : (b : Bool) → cond {A = Imaged} (b && true) (record { answer = Accepted (q .commons); held = q }) noImage ≡ cond b (record { answer = Accepted (q .commons); held = q }) noImage
+      and-true : (b : Bool)
+          → cond {A = Imaged} (b && true) (record { answer = Accepted (q .commons); held = q }) noImage
+          ≡ cond b (record { answer = Accepted (q .commons); held = q }) noImage
       and-true true = refl
       and-true false = refl
 

@@ -71,7 +71,8 @@ fn transfer_head(s: &[u8]) -> Transfer
     }
 }
 
-// Whether the transfer parameter at the front is whole, and has room in the array after k others, and room for its values after the used ones.
+// Whether the transfer parameter at the front is whole, and has room in the array after k others, and room for its values after the used
+// ones.
 fn takes(s: &[u8], k: usize, used: usize) -> bool
     requires { ⌜ used ≤ 512 ⌝ }
     ensures { λ r. ⌜ r ≡ fitsAt (now (s .entry)) k used ⌝ }

@@ -97,7 +97,8 @@ pub record CountedOpen (m : Marks) (h : ℕ) (s : List ℕ) : Type 0 where
   pub few : leb (length (openBy (AsDigits m) h s .values)) most-digits ≡ true
   pub right : marksRight m (openBy (AsDigits m) h s) ≡ true
 
-pub counted-open : (m : Marks) (h : ℕ) (s : List ℕ) → every isOctet s ≡ true → lengthFits CountOctet s ≡ true → clear (zeroesFor m) (getD s 0 0) ≡ true → dialledFault s ≡ Sound → CountedOpen m h s
+pub counted-open : (m : Marks) (h : ℕ) (s : List ℕ) → every isOctet s ≡ true → lengthFits CountOctet s ≡ true
+    → clear (zeroesFor m) (getD s 0 0) ≡ true → dialledFault s ≡ Sound → CountedOpen m h s
 unfolding afterOf dialledFault
 counted-open m h [] o l c f = absurd (let z : _≡_ {A = ℕ} 0 1 = cc in omega arith)
 counted-open m h (x ∷ s) o l c f =
@@ -124,7 +125,8 @@ pub record CountedClosed (m : Marks) (i : Item) : Type 0 where
   pub opens : openBy (AsDigits m) (i .header) (contentsBy (AsDigits m) i) ≡ ownMarks m i
   pub octets : every isOctet (contentsBy (AsDigits m) i) ≡ true
 
-pub counted-closed : (m : Marks) (i : Item) → leb (length (i .values)) most-digits ≡ true → marksRight m i ≡ true → every isDigit (i .values) ≡ true → CountedClosed m i
+pub counted-closed : (m : Marks) (i : Item) → leb (length (i .values)) most-digits ≡ true → marksRight m i ≡ true
+    → every isDigit (i .values) ≡ true → CountedClosed m i
 unfolding afterOf dialledFault
 counted-closed m i l r d =
     let n = length (i .values) in

@@ -30,7 +30,8 @@ allowance allows i [] = 0
 allowance allows i (x ∷ xs) = allows i x + allowance allows (i + 1) xs
 
 module _ (allows : ℕ → ℕ → ℕ) where
-  allowance-set : (i n x : ℕ) (seen : Seen) → n < length seen → allowance allows i (set seen n x) + allows (i + n) (getD seen n 0) ≡ allowance allows i seen + allows (i + n) x
+  allowance-set : (i n x : ℕ) (seen : Seen) → n < length seen
+      → allowance allows i (set seen n x) + allows (i + n) (getD seen n 0) ≡ allowance allows i seen + allows (i + n) x
   unfolding allowance
   allowance-set i n x [] h = absurd (omega arith)
   allowance-set i zero x (y ∷ seen) h = let e : i + 0 ≡ i = omega arith in rw e (omega arith)
@@ -39,16 +40,23 @@ module _ (allows : ℕ → ℕ → ℕ) where
       rw e (omega (arith, allowance-set (i + 1) n x seen (omega arith)))
 
   module _ (step : Step) (weight : Par → ℕ)
-      (spends : (seen : Seen) (p h : ℕ) (xs : List ℕ) (n : ℕ) → step seen h xs ≡ Accepted n → weight (parAt p h (take n xs)) + allows (nameOf h) (timesSeen seen h + 1) ≤ allows (nameOf h) (timesSeen seen h)) where
+      (spends : (seen : Seen) (p h : ℕ) (xs : List ℕ) (n : ℕ) → step seen h xs ≡ Accepted n
+      → weight (parAt p h (take n xs)) + allows (nameOf h) (timesSeen seen h + 1) ≤ allows (nameOf h) (timesSeen seen h)) where
     -- if each parameter takes its weight from what its name allows, all weights together are within what all names allow
-    pub spent : (xs : List ℕ) (seen : Seen) (k p : ℕ) → length seen ≡ 64 → sumOf weight (walk (listing step) seen k p xs) ≤ allowance allows 0 seen
+    pub spent : (xs : List ℕ) (seen : Seen) (k p : ℕ) → length seen ≡ 64
+        → sumOf weight (walk (listing step) seen k p xs) ≤ allowance allows 0 seen
     unfolding walk
     spent [] seen k p l = omega arith
     spent (x ∷ xs) seen (suc k) p l = spent xs seen k (p + 1) l
     spent (x ∷ xs) seen zero p l = go (step seen x xs) refl (spent xs (counted seen x))
       where
-        go : (a : Answer) → step seen x xs ≡ a → ((k p : ℕ) → length (counted seen x) ≡ 64 → sumOf weight (walk (listing step) (counted seen x) k p xs) ≤ allowance allows 0 (counted seen x))
-            → sumOf weight (byStep a (λ k r. []) (λ n. parAt p x (take n xs) ∷ walk (listing step) (counted seen x) n (p + 1) xs)) ≤ allowance allows 0 seen
+        go : (a : Answer) → step seen x xs ≡ a
+            →
+            ((k p : ℕ) → length (counted seen x) ≡ 64
+            → sumOf weight (walk (listing step) (counted seen x) k p xs) ≤ allowance allows 0 (counted seen x))
+            → sumOf weight
+            (byStep a (λ k r. [])
+            (λ n. parAt p x (take n xs) ∷ walk (listing step) (counted seen x) n (p + 1) xs)) ≤ allowance allows 0 seen
         go (Accepted n) f ih =
             let e : 0 + nameOf x ≡ nameOf x = omega arith in
             omega (
@@ -69,7 +77,8 @@ name-used : (h : ℕ) → nameUsed (nameOf h) ≡ nameUsed h
 unfolding nameUsed
 name-used h = let e : h % 64 % 64 ≡ h % 64 = omega arith in rw e
 
-transfer-spends : (seen : Seen) (p h : ℕ) (xs : List ℕ) (n : ℕ) → transferStep seen h xs ≡ Accepted n → 1 + transferAllows (nameOf h) (timesSeen seen h + 1) ≤ transferAllows (nameOf h) (timesSeen seen h)
+transfer-spends : (seen : Seen) (p h : ℕ) (xs : List ℕ) (n : ℕ) → transferStep seen h xs ≡ Accepted n
+    → 1 + transferAllows (nameOf h) (timesSeen seen h + 1) ≤ transferAllows (nameOf h) (timesSeen seen h)
 unfolding transferAllows
 transfer-spends seen p h xs n e =
     let t = transfer-taken faultOf _ h xs n e in
@@ -99,7 +108,8 @@ inner-few : (p h : ℕ) (own : List ℕ) → among h listedHeaders ≡ true → 
 unfolding commonAllows
 inner-few p h own l = go (eqb h transfer-data) refl
   where
-    go : (b : Bool) → eqb h transfer-data ≡ b → 1 + length (cond b (transferRows (p + 2) (transfersOf (dataIn (parAt p h own)))) []) ≤ commonAllows (nameOf h) 0
+    go : (b : Bool) → eqb h transfer-data ≡ b
+        → 1 + length (cond b (transferRows (p + 2) (transfersOf (dataIn (parAt p h own)))) []) ≤ commonAllows (nameOf h) 0
     go true e =
         let t = transfersOf (dataIn (parAt p h own)) in
         rw (eqb-true h transfer-data e, transfer-rows (p + 2) t, length-map t) (omega (arith, transfers-few (dataIn (parAt p h own))))
@@ -108,7 +118,8 @@ inner-few p h own l = go (eqb h transfer-data) refl
 abbrev rowsIn : Par → ℕ
 rowsIn q = 1 + length (innerRows q)
 
-common-spends : (seen : Seen) (p h : ℕ) (xs : List ℕ) (n : ℕ) → commonStep seen h xs ≡ Accepted n → rowsIn (parAt p h (take n xs)) + commonAllows (nameOf h) (timesSeen seen h + 1) ≤ commonAllows (nameOf h) (timesSeen seen h)
+common-spends : (seen : Seen) (p h : ℕ) (xs : List ℕ) (n : ℕ) → commonStep seen h xs ≡ Accepted n
+    → rowsIn (parAt p h (take n xs)) + commonAllows (nameOf h) (timesSeen seen h + 1) ≤ commonAllows (nameOf h) (timesSeen seen h)
 unfolding commonAllows
 common-spends seen p h xs n e =
     let t = common-taken faultOf _ _ h xs n e .1 in

@@ -69,11 +69,15 @@ pub empty-packed : emptyRecord ≡ pack []
 unfolding pack pad valuesOf
 empty-packed = refl
 
-pub filled-whole : (r : List Part) → length r ≤ 6 → length (itemsIn r) ≤ most-transfers → length (valuesOf (itemsIn r)) ≤ 512 → withParts emptyRecord r 0 0 ≡ pack r
+pub filled-whole : (r : List Part) → length r ≤ 6 → length (itemsIn r) ≤ most-transfers → length (valuesOf (itemsIn r)) ≤ 512
+    → withParts emptyRecord r 0 0 ≡ pack r
 unfolding pack
 filled-whole r c t v =
-    let ec : sets (replicate 6 noCommon) 0 (map commonHeadOf r) ≡ pad 6 noCommon (map commonHeadOf r) = sets-pad 6 noCommon (map commonHeadOf r) (omega (arith, length-map r commonHeadOf)) in
-    let et : sets (replicate most-transfers noTransfer) 0 (map headOf (itemsIn r)) ≡ pad most-transfers noTransfer (map headOf (itemsIn r)) = sets-pad most-transfers noTransfer (map headOf (itemsIn r)) (omega (arith, length-map (itemsIn r) headOf)) in
+    let ec : sets (replicate 6 noCommon) 0 (map commonHeadOf r) ≡ pad 6 noCommon (map commonHeadOf r) =
+    sets-pad 6 noCommon (map commonHeadOf r) (omega (arith, length-map r commonHeadOf)) in
+    let hs = map headOf (itemsIn r) in
+    let et : sets (replicate most-transfers noTransfer) 0 hs ≡ pad most-transfers noTransfer hs =
+    sets-pad most-transfers noTransfer hs (omega (arith, length-map (itemsIn r) headOf)) in
     let ev : sets (replicate 512 0) 0 (valuesOf (itemsIn r)) ≡ pad 512 0 (valuesOf (itemsIn r)) = sets-pad 512 0 (valuesOf (itemsIn r)) v in
     let en : 0 + length r ≡ length r = omega arith in
     λ i. record { commons = en i; common = ec i; transfer = et i; values = ev i }
@@ -87,12 +91,24 @@ filled-none q k used =
 -- ---- one turn
 
 -- one parameter of C5
-pub items-turn : (q : Record) (i : Item) (is : List Item) (k used : ℕ) → withItems q (i ∷ is) k used ≡ withItems (record { commons = q .commons; common = q .common; transfer = set (q .transfer) k (headOf i); values = sets (q .values) used (i .values) }) is (k + 1) (used + length (i .values))
+pub items-turn : (q : Record) (i : Item) (is : List Item) (k used : ℕ)
+    → withItems q (i ∷ is) k used
+    ≡ withItems
+    (record {
+      commons = q .commons;
+      common = q .common;
+      transfer = set (q .transfer) k (headOf i);
+      values = sets (q .values) used (i .values);
+    }) is
+    (k + 1) (used + length (i .values))
 unfolding valuesOf
 items-turn q i is k used =
     let ek : suc k ≡ k + 1 = omega arith in
-    let et : sets (set (q .transfer) k (headOf i)) (suc k) (map headOf is) ≡ sets (set (q .transfer) k (headOf i)) (k + 1) (map headOf is) = rw ek in
-    let ev : sets (q .values) used (i .values ++ valuesOf is) ≡ sets (sets (q .values) used (i .values)) (used + length (i .values)) (valuesOf is) = sets-append (i .values) (valuesOf is) (q .values) used in
+    let et : sets (set (q .transfer) k (headOf i)) (suc k) (map headOf is) ≡ sets (set (q .transfer) k (headOf i)) (k + 1) (map headOf is) =
+    rw ek in
+    let ev : sets (q .values) used (i .values ++ valuesOf is)
+    ≡ sets (sets (q .values) used (i .values)) (used + length (i .values)) (valuesOf is) =
+    sets-append (i .values) (valuesOf is) (q .values) used in
     λ j. record { commons = q .commons; common = q .common; transfer = et j; values = ev j }
 
 pub values-append : (is js : List Item) → valuesOf (is ++ js) ≡ valuesOf is ++ valuesOf js
@@ -105,16 +121,33 @@ map-append f [] ys = refl
 map-append f (x ∷ xs) ys = ap (λ l. f x ∷ l) (map-append f xs ys)
 
 -- one common parameter, its own parameters of C5 with it
-pub parts-turn : (q : Record) (p : Part) (ps : List Part) (k used : ℕ) → withParts q (p ∷ ps) k used ≡ withParts (record { commons = q .commons + 1; common = set (q .common) (q .commons) (commonHeadOf p); transfer = sets (q .transfer) k (map headOf (p .items)); values = sets (q .values) used (valuesOf (p .items)) }) ps (k + length (p .items)) (used + length (valuesOf (p .items)))
+pub parts-turn : (q : Record) (p : Part) (ps : List Part) (k used : ℕ)
+    → withParts q (p ∷ ps) k used
+    ≡ withParts
+    (record {
+      commons = q .commons + 1;
+      common = set (q .common) (q .commons) (commonHeadOf p);
+      transfer = sets (q .transfer) k
+          (map headOf (p .items));
+      values = sets (q .values) used (valuesOf (p .items));
+    }) ps
+    (k + length (p .items)) (used + length (valuesOf (p .items)))
 parts-turn q p ps k used =
     let en : q .commons + suc (length ps) ≡ q .commons + 1 + length ps = omega arith in
     let es : suc (q .commons) ≡ q .commons + 1 = omega arith in
-    let ec : sets (set (q .common) (q .commons) (commonHeadOf p)) (suc (q .commons)) (map commonHeadOf ps) ≡ sets (set (q .common) (q .commons) (commonHeadOf p)) (q .commons + 1) (map commonHeadOf ps) = rw es in
-    let et : sets (q .transfer) k (map headOf (p .items ++ itemsIn ps)) ≡ sets (sets (q .transfer) k (map headOf (p .items))) (k + length (p .items)) (map headOf (itemsIn ps)) =
-    ap (λ l. sets (q .transfer) k l) (map-append headOf (p .items) (itemsIn ps)) ∙ sets-append (map headOf (p .items)) (map headOf (itemsIn ps)) (q .transfer) k
-    ∙ ap (λ (n : ℕ). sets (sets (q .transfer) k (map headOf (p .items))) (k + n) (map headOf (itemsIn ps))) (length-map (p .items) headOf) in
-    let ev : sets (q .values) used (valuesOf (p .items ++ itemsIn ps)) ≡ sets (sets (q .values) used (valuesOf (p .items))) (used + length (valuesOf (p .items))) (valuesOf (itemsIn ps)) =
-    ap (λ l. sets (q .values) used l) (values-append (p .items) (itemsIn ps)) ∙ sets-append (valuesOf (p .items)) (valuesOf (itemsIn ps)) (q .values) used in
+    let ec : sets (set (q .common) (q .commons) (commonHeadOf p)) (suc (q .commons)) (map commonHeadOf ps)
+    ≡ sets (set (q .common) (q .commons) (commonHeadOf p)) (q .commons + 1) (map commonHeadOf ps) =
+    rw es in
+    let et : sets (q .transfer) k (map headOf (p .items ++ itemsIn ps))
+    ≡ sets (sets (q .transfer) k (map headOf (p .items))) (k + length (p .items)) (map headOf (itemsIn ps)) =
+    ap (λ l. sets (q .transfer) k l) (map-append headOf (p .items) (itemsIn ps))
+    ∙ sets-append (map headOf (p .items)) (map headOf (itemsIn ps)) (q .transfer) k
+    ∙ ap (λ (n : ℕ). sets (sets (q .transfer) k (map headOf (p .items))) (k + n) (map headOf (itemsIn ps)))
+    (length-map (p .items) headOf) in
+    let ev : sets (q .values) used (valuesOf (p .items ++ itemsIn ps))
+    ≡ sets (sets (q .values) used (valuesOf (p .items))) (used + length (valuesOf (p .items))) (valuesOf (itemsIn ps)) =
+    ap (λ l. sets (q .values) used l) (values-append (p .items) (itemsIn ps))
+    ∙ sets-append (valuesOf (p .items)) (valuesOf (itemsIn ps)) (q .values) used in
     λ j. record { commons = en j; common = ec j; transfer = et j; values = ev j }
 
 -- ---- the head of a common parameter
@@ -125,7 +158,8 @@ partHead h own n =
 
 -- ---- a common parameter opened
 
-items-of : (a b : Bool) (h v w : ℕ) (is : List Item) → cond {A = Part} a (part h 0 is) (cond b (valuePart h v) (valuePart h w)) .items ≡ cond a is []
+items-of : (a b : Bool) (h v w : ℕ) (is : List Item)
+    → cond {A = Part} a (part h 0 is) (cond b (valuePart h v) (valuePart h w)) .items ≡ cond a is []
 items-of true b h v w is = refl
 items-of false true h v w is = refl
 items-of false false h v w is = refl
@@ -133,7 +167,8 @@ items-of false false h v w is = refl
 pub items-opened : (q : Par) → openCommon q .items ≡ cond (eqb (q .head) transfer-data) (map openTransfer (transfersOf (dataIn q))) []
 unfolding openCommonBy
 items-opened q =
-    items-of (eqb (q .head) transfer-data) (isCall (q .head)) (q .head) (callNumber (q .own)) (getD (q .own) 0 0) (map openTransfer (transfersOf (dataIn q)))
+    items-of (eqb (q .head) transfer-data) (isCall (q .head)) (q .head) (callNumber (q .own)) (getD (q .own) 0 0)
+    (map openTransfer (transfersOf (dataIn q)))
 
 -- the head of what it opens to: a C5's has as many transfer parameters as it holds
 pub head-opened : (q : Par) → commonHeadOf (openCommon q) ≡ partHead (q .head) (q .own) (length (openCommon q .items))
@@ -143,11 +178,24 @@ head-opened q = by (eqb (q .head) transfer-data) refl (isCall (q .head))
     is : List Item
     is = map openTransfer (transfersOf (dataIn q))
 
-    by : (a : Bool) → eqb (q .head) transfer-data ≡ a → (b : Bool) → commonHeadOf (cond a (part (q .head) 0 is) (cond b (valuePart (q .head) (callNumber (q .own))) (valuePart (q .head) (getD (q .own) 0 0)))) ≡ cond a (dataHead (length (cond {A = Part} a (part (q .head) 0 is) (cond b (valuePart (q .head) (callNumber (q .own))) (valuePart (q .head) (getD (q .own) 0 0))) .items))) (cond b (valueHead (q .head) (callNumber (q .own))) (valueHead (q .head) (getD (q .own) 0 0)))
+    by : (a : Bool) → eqb (q .head) transfer-data ≡ a → (b : Bool)
+        → commonHeadOf
+        (cond a (part (q .head) 0 is) (cond b (valuePart (q .head) (callNumber (q .own))) (valuePart (q .head) (getD (q .own) 0 0))))
+        ≡ cond a
+        (dataHead
+        (length
+        (cond {A = Part} a (part (q .head) 0 is)
+        (cond b (valuePart (q .head) (callNumber (q .own))) (valuePart (q .head) (getD (q .own) 0 0))) .items)))
+        (cond b (valueHead (q .head) (callNumber (q .own))) (valueHead (q .head) (getD (q .own) 0 0)))
     by true e b = ap (λ (h : ℕ). commonHead h 0 (length is)) (eqb-true (q .head) transfer-data e)
     by false e true = refl
     by false e false = refl
 
 -- one common parameter put in, its own parameters of C5 before it
-pub part-put : (q q′ : Record) (k used : ℕ) (p : Part) (ps : List Part) (c : Common) → q′ ≡ withItems q (p .items) k used → c ≡ commonHeadOf p → withParts q (p ∷ ps) k used ≡ withParts (record { commons = q′ .commons + 1; common = set (q′ .common) (q′ .commons) c; transfer = q′ .transfer; values = q′ .values }) ps (k + length (p .items)) (used + length (valuesOf (p .items)))
+pub part-put : (q q′ : Record) (k used : ℕ) (p : Part) (ps : List Part) (c : Common) → q′ ≡ withItems q (p .items) k used
+    → c ≡ commonHeadOf p
+    → withParts q (p ∷ ps) k used
+    ≡ withParts
+    (record { commons = q′ .commons + 1; common = set (q′ .common) (q′ .commons) c; transfer = q′ .transfer; values = q′ .values }) ps
+    (k + length (p .items)) (used + length (valuesOf (p .items)))
 part-put q q′ k used p ps c e f = rw (e, f) (parts-turn q p ps k used)

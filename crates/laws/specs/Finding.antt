@@ -203,8 +203,17 @@ data-first x which m q l d f =
     let n = length (q .own) in
     let j : q .place + 1 + 1 ≡ q .place + 2 = omega arith in
     let k : q .place + 1 + n - (q .place + 2) ≡ n - 1 = omega arith in
-    let t : drop 1 (q .own) ≡ take (n - 1) (drop (q .place + 2) m) = ap (λ (r : List ℕ). drop 1 r) (l .own) ∙ rw (← from-to 1 n (drop (q .place + 1) m), drop-drop, j) in
-    rw (transfers-plain faultOf (dataIn q) _ (d f .1), transfer-sought x which which (q .place + 2) (dataIn q) _ (pars-lie transferSize (dataIn q) (dataIn q) 0 0 refl), ← l .head, f, j, k, ← t)
+    let t : drop 1 (q .own) ≡ take (n - 1) (drop (q .place + 2) m) =
+    ap (λ (r : List ℕ). drop 1 r) (l .own) ∙ rw (← from-to 1 n (drop (q .place + 1) m), drop-drop, j) in
+    rw (
+      transfers-plain faultOf (dataIn q) _ (d f .1),
+      transfer-sought x which which (q .place + 2) (dataIn q) _ (pars-lie transferSize (dataIn q) (dataIn q) 0 0 refl),
+      ← l .head,
+      f,
+      j,
+      k,
+      ← t,
+    )
 
 among-first : (x which : ℕ) (m : List ℕ) (qs : List Par) → Each (Lies commonSize m) qs → Each InnerSound qs
     → transferAmong x which qs ≡ inData x which m (contentsAt (Header transfer-data) m (soughtIn (Header transfer-data) 0 qs))

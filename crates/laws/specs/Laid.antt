@@ -196,6 +196,7 @@ joined-at (a ∷ b ∷ hs) (suc i) =
     rw (f, e) (joined-at hs i)
 
 -- two codes to an octet, low half first
-pub packed-at : (z : Alphabet) (ds : List ℕ) (i : ℕ) → getD (packed z ds) i 0 ≡ getD (map (codeOf z) ds) (i * 2) 0 + 16 * getD (map (codeOf z) ds) (i * 2 + 1) 0
+pub packed-at : (z : Alphabet) (ds : List ℕ) (i : ℕ)
+    → getD (packed z ds) i 0 ≡ getD (map (codeOf z) ds) (i * 2) 0 + 16 * getD (map (codeOf z) ds) (i * 2 + 1) 0
 unfolding packed
 packed-at z ds i = joined-at (map (codeOf z) ds) i

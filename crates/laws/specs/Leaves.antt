@@ -16,10 +16,36 @@ use Rattle.annex.specs.declared.Marks.the-variants.{Unmarked, Notified, Verifie
 use Rattle.annex.specs.declared.Form.the-variants.{Checked, Digits, Number, Calling, Generic}
 use Rattle.annex.specs.Digits.{packed}
 use Rattle.annex.specs.Contents.{presentationOf, numberFault, genericFault, faultBy, faultOf}
-use Rattle.annex.specs.Items.{Item, holdingBy, holdingOf, plainItem, openBy, itemOf, numberContents, contentsBy, heldAs, contentsOf, ownBy, ownOf}
+use Rattle.annex.specs.Items.{
+  Item,
+  holdingBy,
+  holdingOf,
+  plainItem,
+  openBy,
+  itemOf,
+  numberContents,
+  contentsBy,
+  heldAs,
+  contentsOf,
+  ownBy,
+  ownOf,
+}
 use Rattle.annex.specs.declared.Holding.{Holding}
 use Rattle.annex.specs.declared.Holding.the-variants.{AsContents, AsDigits, AsNumber, AsGeneric}
-use Rattle.annex.specs.Allowed.{every, isOctet, lengthFits, lengthBy, marksRight, fieldsRight, withheldRight, numberRight, lengthRight, faultAs, faultIn, HeldItem}
+use Rattle.annex.specs.Allowed.{
+  every,
+  isOctet,
+  lengthFits,
+  lengthBy,
+  marksRight,
+  fieldsRight,
+  withheldRight,
+  numberRight,
+  lengthRight,
+  faultAs,
+  faultIn,
+  HeldItem,
+}
 use Rattle.annex.specs.declared.Alphabet.the-variants.{Numbered}
 use Rattle.annex.specs.declared.Fault.the-variants.{Sound}
 use Rattle.laws.specs.Bools.{and-left, and-right, and-both}
@@ -59,10 +85,12 @@ record OpenAs (f : Form) (k : Holding) (h : ℕ) (s : List ℕ) : Type 0 where
   faultless : faultAs k (openBy k h s) ≡ Sound
 
 -- held as its contents, whatever is checked of them; and as a number
-open-plain : (f : Form) (h : ℕ) (s : List ℕ) → holdingBy f (getD s 0 0) ≡ AsContents → every isOctet s ≡ true → lengthFits (extentOf h) s ≡ true → faultOf h s ≡ Sound → OpenAs f AsContents h s
+open-plain : (f : Form) (h : ℕ) (s : List ℕ) → holdingBy f (getD s 0 0) ≡ AsContents → every isOctet s ≡ true
+    → lengthFits (extentOf h) s ≡ true → faultOf h s ≡ Sound → OpenAs f AsContents h s
 open-plain f h s k o l g = record { kept = k; contents = refl; octets = o; fits = λ c. rw c l; faultless = g }
 
-open-number : (w : Bool) (f : Form) (h : ℕ) (s : List ℕ) → ((x : ℕ) → holdingBy f x ≡ AsNumber w) → lengthFits (extentOf h) s ≡ true → NumberOpen s → cond (w && eqb (presentationOf s) 2) (withheldRight (openBy (AsNumber w) h s)) true ≡ true → OpenAs f (AsNumber w) h s
+open-number : (w : Bool) (f : Form) (h : ℕ) (s : List ℕ) → ((x : ℕ) → holdingBy f x ≡ AsNumber w) → lengthFits (extentOf h) s ≡ true
+    → NumberOpen s → cond (w && eqb (presentationOf s) 2) (withheldRight (openBy (AsNumber w) h s)) true ≡ true → OpenAs f (AsNumber w) h s
 open-number w f h s k l n r =
     let vs = openBy (AsNumber w) h s .values in
     record {
@@ -74,7 +102,9 @@ open-number w f h s k l n r =
     }
 
 -- DA, by its first octet
-open-generic : (v : Bool) (h : ℕ) (s : List ℕ) → eqb (getD s 0 0) 6 ≡ v → not (eqb (length s) 0) ≡ true → every isOctet s ≡ true → lengthFits (extentOf h) s ≡ true → cond v (numberFault 1 (drop 1 s)) Sound ≡ Sound → faultOf h s ≡ Sound → OpenAs Generic (cond v AsGeneric AsContents) h s
+open-generic : (v : Bool) (h : ℕ) (s : List ℕ) → eqb (getD s 0 0) 6 ≡ v → not (eqb (length s) 0) ≡ true → every isOctet s ≡ true
+    → lengthFits (extentOf h) s ≡ true → cond v (numberFault 1 (drop 1 s)) Sound ≡ Sound → faultOf h s ≡ Sound
+    → OpenAs Generic (cond v AsGeneric AsContents) h s
 open-generic true h [] e t o l g w = absurd (let z : _≡_ {A = ℕ} 0 1 = cc in omega arith)
 open-generic true h (x ∷ s) e t o l g w =
     let n = number-open 1 s (and-right (isOctet x) (every isOctet s) o) g in
@@ -90,7 +120,9 @@ open-generic true h (x ∷ s) e t o l g w =
 open-generic false h s e t o l g w = open-plain Generic h s (rw e) o l w
 
 -- each form; what is held as its contents needs to know nothing of its check
-opens-by : (f : Form) (h : ℕ) (s : List ℕ) → every isOctet s ≡ true → rowFits f (zeroesOf h) (extentOf h) ≡ true → lengthFits (extentOf h) s ≡ true → clear (zeroesOf h) (getD s 0 0) ≡ true → faultBy f s ≡ Sound → faultOf h s ≡ Sound → OpenAs f (holdingBy f (getD s 0 0)) h s
+opens-by : (f : Form) (h : ℕ) (s : List ℕ) → every isOctet s ≡ true → rowFits f (zeroesOf h) (extentOf h) ≡ true
+    → lengthFits (extentOf h) s ≡ true → clear (zeroesOf h) (getD s 0 0) ≡ true → faultBy f s ≡ Sound → faultOf h s ≡ Sound
+    → OpenAs f (holdingBy f (getD s 0 0)) h s
 unfolding genericFault
 opens-by (Checked x) h s o t l c g w = open-plain (Checked x) h s refl o l w
 opens-by (Digits m) h s o t l c g w =
@@ -160,7 +192,8 @@ opened-by f h s e l w =
     }
 
 -- what is sound opens to an allowed parameter with the same contents
-pub opened : (h : ℕ) (s : List ℕ) → h < 256 → every isOctet s ≡ true → pliRight h ≡ true → lengthFits (extentOf h) s ≡ true → faultOf h s ≡ Sound → Opened h s
+pub opened : (h : ℕ) (s : List ℕ) → h < 256 → every isOctet s ≡ true → pliRight h ≡ true → lengthFits (extentOf h) s ≡ true
+    → faultOf h s ≡ Sound → Opened h s
 unfolding faultOf
 opened h s b o p l g =
     let t = then-sound (clear (zeroesOf h) (getD s 0 0)) (faultBy (formOf h) s) g in
@@ -183,15 +216,19 @@ record CloseAs (f : Form) (k : Holding) (i : Item) : Type 0 where
   octets : every isOctet (contentsBy k i) ≡ true
 
 -- no fault by the header's row
-sound-by : (f : Form) (h : ℕ) (s : List ℕ) → formOf h ≡ f → clear (zeroesOf h) (getD s 0 0) ≡ true → faultBy f s ≡ Sound → faultOf h s ≡ Sound
+sound-by : (f : Form) (h : ℕ) (s : List ℕ) → formOf h ≡ f → clear (zeroesOf h) (getD s 0 0) ≡ true → faultBy f s ≡ Sound
+    → faultOf h s ≡ Sound
 unfolding faultOf
 sound-by f h s e c g = rw (c, e) g
 
 -- held as its contents, whatever is checked of them; and as a number
-close-plain : (f : Form) (i : Item) → holdingBy f (getD (i .values) 0 0) ≡ AsContents → every isOctet (i .values) ≡ true → lengthFits (extentOf (i .header)) (i .values) ≡ true → faultOf (i .header) (i .values) ≡ Sound → CloseAs f AsContents i
+close-plain : (f : Form) (i : Item) → holdingBy f (getD (i .values) 0 0) ≡ AsContents → every isOctet (i .values) ≡ true
+    → lengthFits (extentOf (i .header)) (i .values) ≡ true → faultOf (i .header) (i .values) ≡ Sound → CloseAs f AsContents i
 close-plain f i k o l g = record { kept = k; fits = l; sound = g; opens = refl; octets = o }
 
-close-number : (w : Bool) (f : Form) (i : Item) → formOf (i .header) ≡ f → ((x : ℕ) → holdingBy f x ≡ AsNumber w) → eqb (zeroesOf (i .header)) 0 ≡ true → lengthFits (extentOf (i .header)) (numberContents i (i .values)) ≡ true → NumberClosed i (i .values) → faultBy f (numberContents i (i .values)) ≡ Sound → CloseAs f (AsNumber w) i
+close-number : (w : Bool) (f : Form) (i : Item) → formOf (i .header) ≡ f → ((x : ℕ) → holdingBy f x ≡ AsNumber w)
+    → eqb (zeroesOf (i .header)) 0 ≡ true → lengthFits (extentOf (i .header)) (numberContents i (i .values)) ≡ true
+    → NumberClosed i (i .values) → faultBy f (numberContents i (i .values)) ≡ Sound → CloseAs f (AsNumber w) i
 close-number w f i e k z l n g =
     let s = numberContents i (i .values) in
     record {
@@ -208,7 +245,10 @@ first-put x [] e = absurd (omega arith)
 first-put x (v ∷ vs) e = ap (λ y. y ∷ vs) (sym e)
 
 -- DA, by its first value
-close-generic : (v : Bool) (i : Item) → eqb (getD (i .values) 0 0) 6 ≡ v → formOf (i .header) ≡ Generic → eqb (zeroesOf (i .header)) 0 ≡ true → every isOctet (i .values) ≡ true → lengthFits (extentOf (i .header)) (contentsBy (cond v AsGeneric AsContents) i) ≡ true → faultAs (cond v AsGeneric AsContents) i ≡ Sound → CloseAs Generic (cond v AsGeneric AsContents) i
+close-generic : (v : Bool) (i : Item) → eqb (getD (i .values) 0 0) 6 ≡ v → formOf (i .header) ≡ Generic
+    → eqb (zeroesOf (i .header)) 0 ≡ true → every isOctet (i .values) ≡ true
+    → lengthFits (extentOf (i .header)) (contentsBy (cond v AsGeneric AsContents) i) ≡ true
+    → faultAs (cond v AsGeneric AsContents) i ≡ Sound → CloseAs Generic (cond v AsGeneric AsContents) i
 unfolding genericFault
 close-generic true i e f z o l g =
     let ds = drop 1 (i .values) in
@@ -231,7 +271,10 @@ length-generic true i = refl
 length-generic false i = refl
 
 -- each form; what is held as its contents needs to know nothing of its check
-closes-by : (f : Form) (i : Item) → formOf (i .header) ≡ f → rowFits f (zeroesOf (i .header)) (extentOf (i .header)) ≡ true → every isOctet (i .values) ≡ true → contentsOf i ≡ contentsBy (holdingBy f (getD (i .values) 0 0)) i → lengthBy (holdingBy f (getD (i .values) 0 0)) i ≡ true → faultAs (holdingBy f (getD (i .values) 0 0)) i ≡ Sound → CloseAs f (holdingBy f (getD (i .values) 0 0)) i
+closes-by : (f : Form) (i : Item) → formOf (i .header) ≡ f → rowFits f (zeroesOf (i .header)) (extentOf (i .header)) ≡ true
+    → every isOctet (i .values) ≡ true → contentsOf i ≡ contentsBy (holdingBy f (getD (i .values) 0 0)) i
+    → lengthBy (holdingBy f (getD (i .values) 0 0)) i ≡ true → faultAs (holdingBy f (getD (i .values) 0 0)) i ≡ Sound
+    → CloseAs f (holdingBy f (getD (i .values) 0 0)) i
 closes-by (Checked x) i e t o c l g = close-plain (Checked x) i refl o (rw c at l) g
 closes-by (Digits m) i e t o c l g =
     let r = digits-row m (zeroesOf (i .header)) (extentOf (i .header)) t in

@@ -63,7 +63,8 @@ open-fields h x y vs b =
 pub record NumberOpen (s : List ℕ) : Type 0 where
   pub digits : every isDigit (digitsOf Numbered (countOf s) (drop 2 s)) ≡ true
   pub right : (h : ℕ) (vs : List ℕ) → fieldsRight (numberItem h (getD s 0 0) (getD s 1 0) vs) ≡ true
-  pub contents : (h : ℕ) (vs : List ℕ) → numberContents (numberItem h (getD s 0 0) (getD s 1 0) vs) (digitsOf Numbered (countOf s) (drop 2 s)) ≡ s
+  pub contents : (h : ℕ) (vs : List ℕ)
+      → numberContents (numberItem h (getD s 0 0) (getD s 1 0) vs) (digitsOf Numbered (countOf s) (drop 2 s)) ≡ s
 
 -- not odd with no digit octet
 some-digit : (x n : ℕ) → x < 256 → not (eqb (x / 128) 1 && eqb (suc (suc n)) 2) ≡ true → x / 128 ≤ n * 2
@@ -133,7 +134,8 @@ number-closed i ds r d =
     let j : y / 4 % 4 ≡ i .presentation = omega arith in
     let k : y % 4 ≡ i .screening = omega arith in
     record {
-      sound = λ at. rw (le-ltb (suc (suc (length t))) 2 (omega arith), odd-some n x (length t) a l, c) (packed-sound Numbered (at + 2) ds d);
+      sound =
+          λ at. rw (le-ltb (suc (suc (length t))) 2 (omega arith), odd-some n x (length t) a l, c) (packed-sound Numbered (at + 2) ds d);
       digits = rw c (packed-back Numbered ds d);
       opens = rw (b, g, h, j, k);
       octets = rw (lt-ltb x 256 (omega arith), lt-ltb y 256 (omega arith)) (packed-octets Numbered ds d);
@@ -168,12 +170,14 @@ pub calling-open : (h : ℕ) (s : List ℕ) → callingFault s ≡ Sound → Cal
 unfolding callingFault
 calling-open h s f = let p = by (eqb (presentationOf s) 2) f in record { number = p .0; withheld = p .1 }
   where
-    by : (v : Bool) → cond v (formed (isWithheld s)) (numberFault 0 s) ≡ Sound → (numberFault 0 s ≡ Sound) × (cond v (withheldRight (openBy (AsNumber true) h s)) true ≡ true)
+    by : (v : Bool) → cond v (formed (isWithheld s)) (numberFault 0 s) ≡ Sound
+        → (numberFault 0 s ≡ Sound) × (cond v (withheldRight (openBy (AsNumber true) h s)) true ≡ true)
     by true g = withheld-open h s (formed-sound (isWithheld s) g)
     by false g = (g, refl)
 
 -- a number that keeps it is sound as a calling number
-withheld-closed : (i : Item) → i .presentation ≡ 2 → i .screening ≤ 3 → withheldRight i ≡ true → isWithheld (numberContents i (i .values)) ≡ true
+withheld-closed : (i : Item) → i .presentation ≡ 2 → i .screening ≤ 3 → withheldRight i ≡ true
+    → isWithheld (numberContents i (i .values)) ≡ true
 withheld-closed i p s w =
     let a = eqb (i .numberType) 0 in
     let b = eqb (i .incomplete) 0 in
@@ -191,13 +195,16 @@ withheld-closed i p s w =
     let k = length-packed Numbered (i .values) in
     rw (eq-eqb (suc (suc (length t))) 2 (omega arith), eq-eqb x 0 (omega arith), lt-ltb y 16 (omega arith))
 
-pub calling-closed : (i : Item) → fieldsRight i ≡ true → cond (eqb (i .presentation) 2) (withheldRight i) true ≡ true → every isDigit (i .values) ≡ true → callingFault (numberContents i (i .values)) ≡ Sound
+pub calling-closed : (i : Item) → fieldsRight i ≡ true → cond (eqb (i .presentation) 2) (withheldRight i) true ≡ true
+    → every isDigit (i .values) ≡ true → callingFault (numberContents i (i .values)) ≡ Sound
 unfolding callingFault
 calling-closed i r w d =
     let n = number-closed i (i .values) r d in
     let p : presentationOf (numberContents i (i .values)) ≡ i .presentation = ap (λ k. k .presentation) (n .opens) in
     rw p (by (eqb (i .presentation) 2) refl w (n .sound 0))
   where
-    by : (v : Bool) → eqb (i .presentation) 2 ≡ v → cond v (withheldRight i) true ≡ true → numberFault 0 (numberContents i (i .values)) ≡ Sound → cond v (formed (isWithheld (numberContents i (i .values)))) (numberFault 0 (numberContents i (i .values))) ≡ Sound
+    by : (v : Bool) → eqb (i .presentation) 2 ≡ v → cond v (withheldRight i) true ≡ true
+        → numberFault 0 (numberContents i (i .values)) ≡ Sound
+        → cond v (formed (isWithheld (numberContents i (i .values)))) (numberFault 0 (numberContents i (i .values))) ≡ Sound
     by true e u f = rw (withheld-closed i (eqb-true _ _ e) (right-fields i r .screening-small) u)
     by false e u f = f

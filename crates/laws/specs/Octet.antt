@@ -82,20 +82,23 @@ not-any [] x n t = t
 not-any (ks ∷ kss) x n t = any (among x ks) (amongAny x kss) (λ u. n .1 (among-one ks x u)) (not-any kss x (n .0)) t
 
 -- a `_`, or an arm of a range beside arms of keys
-pub rest : (f : ℕ → Bool) (kss : List (List ℕ)) (lo n : ℕ) → T (all (λ k. amongAny k kss || f k) lo n) → (h : ℕ) → None kss h → lo ≤ h → h < lo + n → T (f h)
+pub rest : (f : ℕ → Bool) (kss : List (List ℕ)) (lo n : ℕ) → T (all (λ k. amongAny k kss || f k) lo n) → (h : ℕ) → None kss h → lo ≤ h
+    → h < lo + n → T (f h)
 rest f kss lo n t h r p q =
     either-right (amongAny h kss) (f h) (range (λ k. amongAny k kss || f k) lo n t h p q) (not-any kss h r)
 
 -- the same for what has any values, compared by a test: v is its value over the arm
 module _ {A : Type 0} (test : A → A → Bool) (tested : (a b : A) → T (test a b) → a ≡ b) where
-  pub span-by : (v : A) (f : ℕ → A) (kss : List (List ℕ)) (lo n : ℕ) → T (all (λ k. amongAny k kss || test v (f k)) lo n) → (x : ℕ) → None kss x → lo ≤ x → x < lo + n → v ≡ f x
+  pub span-by : (v : A) (f : ℕ → A) (kss : List (List ℕ)) (lo n : ℕ) → T (all (λ k. amongAny k kss || test v (f k)) lo n) → (x : ℕ)
+      → None kss x → lo ≤ x → x < lo + n → v ≡ f x
   span-by v f kss lo n t x r p q = tested v (f x) (rest (λ k. test v (f k)) kss lo n t x r p q)
 
   pub one-of-by : (v : A) (f : ℕ → A) (ks : List ℕ) → T (allOf (λ k. test v (f k)) ks) → (x : ℕ) → OneOf ks x → v ≡ f x
   one-of-by v f ks t x h = tested v (f x) (hits (λ k. test v (f k)) ks t x h)
 
 -- and for a test
-pub span : (v : Bool) (f : ℕ → Bool) (kss : List (List ℕ)) (lo n : ℕ) → T (all (λ k. amongAny k kss || same v (f k)) lo n) → (x : ℕ) → None kss x → lo ≤ x → x < lo + n → v ≡ f x
+pub span : (v : Bool) (f : ℕ → Bool) (kss : List (List ℕ)) (lo n : ℕ) → T (all (λ k. amongAny k kss || same v (f k)) lo n) → (x : ℕ)
+    → None kss x → lo ≤ x → x < lo + n → v ≡ f x
 span = span-by same same→eq
 
 pub one-of : (v : Bool) (f : ℕ → Bool) (ks : List ℕ) → T (allOf (λ k. same v (f k)) ks) → (x : ℕ) → OneOf ks x → v ≡ f x

@@ -15,7 +15,22 @@ use Rattle.annex.specs.declared.Form.{Form}
 use Rattle.annex.specs.declared.Check.the-variants.{Nothing, Long, Two}
 use Rattle.annex.specs.declared.Form.the-variants.{Checked, Digits, Number, Calling, Generic}
 use Rattle.annex.specs.Digits.{halves, isCode, halvesFault, digitsFault}
-use Rattle.annex.specs.Contents.{Rule, formedThen, formed, oddOf, presentationOf, countOf, numberFault, callingFault, genericFault, dialledFault, twoFault, checkFault, faultBy, faultOf}
+use Rattle.annex.specs.Contents.{
+  Rule,
+  formedThen,
+  formed,
+  oddOf,
+  presentationOf,
+  countOf,
+  numberFault,
+  callingFault,
+  genericFault,
+  dialledFault,
+  twoFault,
+  checkFault,
+  faultBy,
+  faultOf,
+}
 use Rattle.annex.specs.declared.Alphabet.{Alphabet}
 use Rattle.annex.specs.declared.Alphabet.the-variants.{Dialled, Numbered}
 use Rattle.annex.specs.declared.Fault.{Fault}
@@ -53,9 +68,11 @@ halves-within : (z : Alphabet) (n i : ℕ) (hs : List ℕ) (m : ℕ) → i + len
 unfolding halvesFault
 halves-within z n i [] m l = sound-within m
 halves-within z zero i (h ∷ hs) m l =
-    cond-within m (eqb h 0) (halvesFault z zero (i + 1) hs) (Bad bad-digit (i / 2)) (halves-within z zero (i + 1) hs m (omega arith)) (bad-within m bad-digit (i / 2) (omega arith))
+    cond-within m (eqb h 0) (halvesFault z zero (i + 1) hs) (Bad bad-digit (i / 2)) (halves-within z zero (i + 1) hs m (omega arith))
+    (bad-within m bad-digit (i / 2) (omega arith))
 halves-within z (suc n) i (h ∷ hs) m l =
-    cond-within m (isCode z h) (halvesFault z n (i + 1) hs) (Bad bad-digit (i / 2)) (halves-within z n (i + 1) hs m (omega arith)) (bad-within m bad-digit (i / 2) (omega arith))
+    cond-within m (isCode z h) (halvesFault z n (i + 1) hs) (Bad bad-digit (i / 2)) (halves-within z n (i + 1) hs m (omega arith))
+    (bad-within m bad-digit (i / 2) (omega arith))
 
 digits-within : (z : Alphabet) (n at : ℕ) (s : List ℕ) (m : ℕ) → at + length s ≤ m → Within m (digitsFault z n at s)
 unfolding digitsFault
@@ -66,7 +83,8 @@ unfolding numberFault
 number-within at s m l =
     formed-within m (not (ltb (length s) 2)) _
     (λ t. formed-within m (not (eqb (oddOf s) 1 && eqb (length s) 2)) _
-    (λ u. digits-within Numbered (countOf s) (at + 2) (drop 2 s) m (omega (arith, length-drop 2 s, ltb-false (length s) 2 (not-true (ltb (length s) 2) t)))))
+    (λ u. digits-within Numbered (countOf s) (at + 2) (drop 2 s) m
+    (omega (arith, length-drop 2 s, ltb-false (length s) 2 (not-true (ltb (length s) 2) t)))))
 
 calling-within : (s : List ℕ) → Within (length s) (callingFault s)
 unfolding callingFault

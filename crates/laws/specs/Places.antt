@@ -30,7 +30,8 @@ refuse-farther s true k p a c e = refl
 refuse-farther s false k p a c e = e
 
 -- a placing, and the same farther on
-sound-farther : (s : ℕ) (there here : ℕ → ℕ → ℕ) (f : Fault) (a c : Answer) → ((k i : ℕ) → there k i ≡ s + here k i) → a ≡ farther s c → soundThen there f a ≡ farther s (soundThen here f c)
+sound-farther : (s : ℕ) (there here : ℕ → ℕ → ℕ) (f : Fault) (a c : Answer) → ((k i : ℕ) → there k i ≡ s + here k i) → a ≡ farther s c
+    → soundThen there f a ≡ farther s (soundThen here f c)
 sound-farther s there here Sound a c h e = e
 sound-farther s there here (Bad k i) a c h e = ap (λ (p : ℕ). Refused k p) (h k i)
 
@@ -44,7 +45,8 @@ module _ (s : ℕ) where
       (refuse-farther s (o .0) (o .1) p _ _
       (refuse-farther s (leb (oftenOf (nameOf (i .header))) times) _ p _ _
       (refuse-farther s (not (lengthRight i)) _ p _ _
-      (sound-farther s (headerAt (s + p)) (headerAt p) (faultIn i) _ (Accepted (p + length (layoutItem i))) (λ k j. refl) (ap Accepted e)))))
+      (sound-farther s (headerAt (s + p)) (headerAt p) (faultIn i) _ (Accepted (p + length (layoutItem i))) (λ k j. refl)
+      (ap Accepted e)))))
 
 -- ---- so what is written from a place on is told by what would be written from the start
 

@@ -17,7 +17,24 @@ use Rattle.annex.specs.Contents.{Rule, faultOf}
 use Rattle.annex.specs.Heads.{end-mark, transfer-data, most-octets}
 use Rattle.annex.specs.Allowed.{Each}
 use Rattle.annex.specs.Walk.{Seen, unseen, counted, Par, Step, byStep, walk, judging, listing}
-use Rattle.annex.specs.Reading.{transfersVerdict, endOf, dataOf, commonStep, commonClose, wholeIn, commonsOf, dataIn, transfersVerdictBy, messageVerdictBy, verdictBy, commonsBy, transfersBy, transferStepBy, dataBy, commonStepBy}
+use Rattle.annex.specs.Reading.{
+  transfersVerdict,
+  endOf,
+  dataOf,
+  commonStep,
+  commonClose,
+  wholeIn,
+  commonsOf,
+  dataIn,
+  transfersVerdictBy,
+  messageVerdictBy,
+  verdictBy,
+  commonsBy,
+  transfersBy,
+  transferStepBy,
+  dataBy,
+  commonStepBy,
+}
 use Rattle.annex.specs.declared.Extent.{Extent}
 use Rattle.annex.specs.declared.Answer.{Answer}
 use Rattle.annex.specs.declared.Answer.the-variants.{Accepted, Refused}
@@ -64,16 +81,19 @@ module _ (size : Size) where
   pub pars-end : (p i : ℕ) (t : List ℕ) → length t ≤ i → pars size 0 p (drop i t) ≡ []
   pars-end p i t h = rw (drop-of-length-le t) (pars-none 0 p)
 
-  pars-cut : (p i : ℕ) (t : List ℕ) → i < length t → length (drop (i + 1) t) < size (getD t i 0) (drop (i + 1) t) → pars size 0 p (drop i t) ≡ []
+  pars-cut : (p i : ℕ) (t : List ℕ) → i < length t → length (drop (i + 1) t) < size (getD t i 0) (drop (i + 1) t)
+      → pars size 0 p (drop i t) ≡ []
   unfolding pars
   pars-cut p i t h l = rw (drop-cons t i 0, ← add-one i, lt-leb _ _ l)
 
-  pars-head : (p x n : ℕ) (xs : List ℕ) → n ≡ size x xs → n ≤ length xs → pars size 0 p (x ∷ xs) ≡ parOf p x n xs ∷ pars size 0 (p + 1 + n) (drop n xs)
+  pars-head : (p x n : ℕ) (xs : List ℕ) → n ≡ size x xs → n ≤ length xs
+      → pars size 0 p (x ∷ xs) ≡ parOf p x n xs ∷ pars size 0 (p + 1 + n) (drop n xs)
   unfolding pars
   pars-head p x n xs e l =
       rw (← e, le-leb n (length xs) l) (ap (λ (r : List Par). parOf p x n xs ∷ r) (pars-skip n (p + 1) xs))
 
-  pub pars-turn : (p q i n : ℕ) (t : List ℕ) → i < length t → n ≡ size (getD t i 0) (drop (i + 1) t) → n ≤ length (drop (i + 1) t) → p + 1 + n ≡ q → pars size 0 p (drop i t) ≡ parOf p (getD t i 0) n (drop (i + 1) t) ∷ pars size 0 q (drop (i + 1 + n) t)
+  pub pars-turn : (p q i n : ℕ) (t : List ℕ) → i < length t → n ≡ size (getD t i 0) (drop (i + 1) t) → n ≤ length (drop (i + 1) t)
+      → p + 1 + n ≡ q → pars size 0 p (drop i t) ≡ parOf p (getD t i 0) n (drop (i + 1) t) ∷ pars size 0 q (drop (i + 1 + n) t)
   pars-turn p q i n t h e l w =
       rw (drop-cons t i 0, ← add-one i, ← w, ← drop-drop n (i + 1) t) (pars-head p (getD t i 0) n (drop (i + 1) t) e l)
 
@@ -89,7 +109,8 @@ module _ (ext : ℕ → Extent) (t : List ℕ) (i n : ℕ) (inside : i < length 
   pub pars-short : length t - (i + 1) < n → pars (sizeBy ext) 0 i (drop i t) ≡ []
   pars-short h = pars-cut (sizeBy ext) i i t inside (rw (← sized, length-drop) h)
 
-  pub pars-next : n ≤ length t - (i + 1) → pars (sizeBy ext) 0 i (drop i t) ≡ parOf i (getD t i 0) n (drop (i + 1) t) ∷ pars (sizeBy ext) 0 (i + 1 + n) (drop (i + 1 + n) t)
+  pub pars-next : n ≤ length t - (i + 1)
+      → pars (sizeBy ext) 0 i (drop i t) ≡ parOf i (getD t i 0) n (drop (i + 1) t) ∷ pars (sizeBy ext) 0 (i + 1 + n) (drop (i + 1 + n) t)
   pars-next h = pars-turn (sizeBy ext) i (i + 1 + n) i n t inside sized (rw length-drop h) refl
 
 -- one octet on
@@ -112,7 +133,8 @@ pars-lie size m [] k p e = tt
 pars-lie size m (x ∷ xs) (suc k) p e = pars-lie size m xs k (p + 1) (onward m p x xs e .0)
 pars-lie size m (x ∷ xs) zero p e = go (leb (size x xs) (length xs)) refl (λ k. pars-lie size m xs k (p + 1))
   where
-    go : (b : Bool) → leb (size x xs) (length xs) ≡ b → ((k : ℕ) → drop (p + 1) m ≡ xs → Each (Lies size m) (pars size k (p + 1) xs)) → Each (Lies size m) (cond b (parOf p x (size x xs) xs ∷ pars size (size x xs) (p + 1) xs) [])
+    go : (b : Bool) → leb (size x xs) (length xs) ≡ b → ((k : ℕ) → drop (p + 1) m ≡ xs → Each (Lies size m) (pars size k (p + 1) xs))
+        → Each (Lies size m) (cond b (parOf p x (size x xs) xs ∷ pars size (size x xs) (p + 1) xs) [])
     go false f ih = tt
     go true f ih =
         let s = onward m p x xs e in
@@ -128,33 +150,42 @@ pars-lie size m (x ∷ xs) zero p e = go (leb (size x xs) (length xs)) refl (λ 
 module _ (step : Step) (close : Seen → ℕ → Answer) (size : Size)
     (sized : (seen : Seen) (h : ℕ) (xs : List ℕ) (n : ℕ) → step seen h xs ≡ Accepted n → (n ≡ size h xs) × (n ≤ length xs)) where
   -- the listed parameters are those of the length rule
-  pub listing-pars : (xs : List ℕ) (seen : Seen) (k p q : ℕ) → walk (judging step close) seen k p xs ≡ Accepted q → walk (listing step) seen k p xs ≡ pars size k p xs
+  pub listing-pars : (xs : List ℕ) (seen : Seen) (k p q : ℕ) → walk (judging step close) seen k p xs ≡ Accepted q
+      → walk (listing step) seen k p xs ≡ pars size k p xs
   unfolding walk pars
   listing-pars [] seen k p q e = refl
   listing-pars (x ∷ xs) seen (suc k) p q e = listing-pars xs seen k (p + 1) q e
   listing-pars (x ∷ xs) seen zero p q e = go (step seen x xs) refl e (listing-pars xs (counted seen x))
     where
-      go : (a : Answer) → step seen x xs ≡ a → byStep a (λ k r. Refused k (p + r)) (λ n. walk (judging step close) (counted seen x) n (p + 1) xs) ≡ Accepted q
-          → ((k p q : ℕ) → walk (judging step close) (counted seen x) k p xs ≡ Accepted q → walk (listing step) (counted seen x) k p xs ≡ pars size k p xs)
-          → byStep a (λ k r. []) (λ n. parOf p x n xs ∷ walk (listing step) (counted seen x) n (p + 1) xs) ≡ cond (leb (size x xs) (length xs)) (parOf p x (size x xs) xs ∷ pars size (size x xs) (p + 1) xs) []
+      go : (a : Answer) → step seen x xs ≡ a
+          → byStep a (λ k r. Refused k (p + r)) (λ n. walk (judging step close) (counted seen x) n (p + 1) xs) ≡ Accepted q
+          →
+          ((k p q : ℕ) → walk (judging step close) (counted seen x) k p xs ≡ Accepted q
+          → walk (listing step) (counted seen x) k p xs ≡ pars size k p xs)
+          → byStep a (λ k r. []) (λ n. parOf p x n xs ∷ walk (listing step) (counted seen x) n (p + 1) xs)
+          ≡ cond (leb (size x xs) (length xs)) (parOf p x (size x xs) xs ∷ pars size (size x xs) (p + 1) xs) []
       go (Accepted n) f e ih =
           let s = sized seen x xs n f in
           rw (← s .0, le-leb n (length xs) (s .1)) (ap (λ (r : List Par). parOf p x n xs ∷ r) (ih n (p + 1) q e))
       go (Refused k r) f e ih = absurd (let z : _≡_ {A = ℕ} 0 1 = cc in omega arith)
 
 -- what a step ensures of a parameter that it accepts holds of each that is listed
-pub each-listed : (step : Step) (P : Par → Type 0) → ((seen : Seen) (p x : ℕ) (xs : List ℕ) (n : ℕ) → step seen x xs ≡ Accepted n → P (parOf p x n xs)) → (xs : List ℕ) (seen : Seen) (k p : ℕ) → Each P (walk (listing step) seen k p xs)
+pub each-listed : (step : Step) (P : Par → Type 0)
+    → ((seen : Seen) (p x : ℕ) (xs : List ℕ) (n : ℕ) → step seen x xs ≡ Accepted n → P (parOf p x n xs))
+    → (xs : List ℕ) (seen : Seen) (k p : ℕ) → Each P (walk (listing step) seen k p xs)
 unfolding walk
 each-listed step P f [] seen k p = tt
 each-listed step P f (x ∷ xs) seen (suc k) p = each-listed step P f xs seen k (p + 1)
 each-listed step P f (x ∷ xs) seen zero p = go (step seen x xs) refl (λ k. each-listed step P f xs (counted seen x) k (p + 1))
   where
-    go : (a : Answer) → step seen x xs ≡ a → ((k : ℕ) → Each P (walk (listing step) (counted seen x) k (p + 1) xs)) → Each P (byStep a (λ k r. []) (λ n. parOf p x n xs ∷ walk (listing step) (counted seen x) n (p + 1) xs))
+    go : (a : Answer) → step seen x xs ≡ a → ((k : ℕ) → Each P (walk (listing step) (counted seen x) k (p + 1) xs))
+        → Each P (byStep a (λ k r. []) (λ n. parOf p x n xs ∷ walk (listing step) (counted seen x) n (p + 1) xs))
     go (Accepted n) e ih = (f seen p x xs n e, ih n)
     go (Refused k r) e ih = tt
 
 module _ (rule : Rule) where
-  transfer-sized : (seen : Seen) (h : ℕ) (xs : List ℕ) (n : ℕ) → transferStepBy rule seen h xs ≡ Accepted n → (n ≡ transferSize h xs) × (n ≤ length xs)
+  transfer-sized : (seen : Seen) (h : ℕ) (xs : List ℕ) (n : ℕ) → transferStepBy rule seen h xs ≡ Accepted n
+      → (n ≡ transferSize h xs) × (n ≤ length xs)
   transfer-sized seen h xs n e = let t = transfer-taken rule _ h xs n e in (t .size, t .within)
 
   pub transfers-plain : (t : List ℕ) (q : ℕ) → transfersVerdictBy rule t ≡ Accepted q → transfersBy rule t ≡ pars transferSize 0 0 t
@@ -162,14 +193,16 @@ module _ (rule : Rule) where
   transfers-plain t q e = listing-pars (transferStepBy rule) (λ seen p. Accepted p) transferSize transfer-sized t unseen 0 0 q e
 
   -- the end mark has no octets after it, C5 as many as its length octet says
-  common-sized : (seen : Seen) (h : ℕ) (xs : List ℕ) (n : ℕ) → commonStepBy rule seen h xs ≡ Accepted n → (n ≡ commonSize h xs) × (n ≤ length xs)
+  common-sized : (seen : Seen) (h : ℕ) (xs : List ℕ) (n : ℕ) → commonStepBy rule seen h xs ≡ Accepted n
+      → (n ≡ commonSize h xs) × (n ≤ length xs)
   unfolding endOf commonExtentOf afterOf
   common-sized seen h xs n e =
       let t = common-taken rule _ _ h xs n e in
       let g = sym (common-formed rule _ _ h xs (t .0) (t .2)) ∙ e in
       (by (eqb h end-mark) refl (eqb h transfer-data) (t .0) (t .1 .size) g, common-within rule _ _ h xs n e)
     where
-      by : (a : Bool) → eqb h end-mark ≡ a → (b : Bool) (k : ℕ) → k ≡ commonSize h xs → cond a (endOf (wholeIn seen) xs) (cond b (dataBy rule k xs) (Accepted k)) ≡ Accepted n → n ≡ commonSize h xs
+      by : (a : Bool) → eqb h end-mark ≡ a → (b : Bool) (k : ℕ) → k ≡ commonSize h xs
+          → cond a (endOf (wholeIn seen) xs) (cond b (dataBy rule k xs) (Accepted k)) ≡ Accepted n → n ≡ commonSize h xs
       by true f b k s g =
           let g₁ = passed (not (wholeIn seen)) _ 0 n _ g in
           let g₂ = passed (ltb 0 (length xs)) _ 1 n (Accepted 0) (g₁ .1) in
@@ -200,7 +233,9 @@ common-inner seen p h xs n e five =
     inner (t .0) (rw (b, a) at (sym (common-formed faultOf _ _ h xs (t .0) (t .2)) ∙ e))
   where
     inner : (k : ℕ) → dataOf k xs ≡ Accepted n → (q : ℕ) × (transfersVerdict (dataIn (parOf p h n xs)) ≡ Accepted q)
-    inner k g = let d = data-taken faultOf k xs n g in (d .0, ap (λ (j : ℕ). transfersVerdict (contentsIn (commonExtentOf transfer-data) (take j xs))) (d .2) ∙ d .1)
+    inner k g =
+        let d = data-taken faultOf k xs n g in
+        (d .0, ap (λ (j : ℕ). transfersVerdict (contentsIn (commonExtentOf transfer-data) (take j xs))) (d .2) ∙ d .1)
 
 pub commons-inner : (m : List ℕ) → Each InnerSound (commonsOf m)
 unfolding commonsBy

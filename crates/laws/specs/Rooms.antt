@@ -54,7 +54,8 @@ module _ {w room whole left : List ℕ} {at : ℕ} (y : Laid w room whole left a
     laid-room = rw (to-end at room, length-drop at room) (omega (arith, laid-fits))
 
     -- the room from `at` on is lent, and xs written at its front
-    pub laid-turn : (ys : List ℕ) (n : ℕ) → ys ≡ atFront xs (take (length room - at) (drop at room)) → n ≡ length xs → Laid w (putMid at (length room - at) room ys) whole rest (at + n)
+    pub laid-turn : (ys : List ℕ) (n : ℕ) → ys ≡ atFront xs (take (length room - at) (drop at room)) → n ≡ length xs
+        → Laid w (putMid at (length room - at) room ys) whole rest (at + n)
     laid-turn ys n f g =
         let low = lowOctets (y .done) in
         let k : at ≡ length low = y .out ∙ sym (length-low (y .done)) in

@@ -16,7 +16,22 @@ use Rattle.annex.specs.Answers.{over-limits}
 use Rattle.annex.specs.Heads.{transfer-data, most-octets}
 use Rattle.annex.specs.Allowed.{Each}
 use Rattle.annex.specs.Walk.{Seen, unseen, counted, Par, Step, byStep, walk, judging, listing}
-use Rattle.annex.specs.Reading.{transferStep, transfersVerdict, transfersOf, commonStep, commonClose, messageVerdict, verdictOf, commonsOf, dataIn, transfersVerdictBy, messageVerdictBy, verdictBy, commonsBy, transfersBy}
+use Rattle.annex.specs.Reading.{
+  transferStep,
+  transfersVerdict,
+  transfersOf,
+  commonStep,
+  commonClose,
+  messageVerdict,
+  verdictOf,
+  commonsOf,
+  dataIn,
+  transfersVerdictBy,
+  messageVerdictBy,
+  verdictBy,
+  commonsBy,
+  transfersBy,
+}
 use Rattle.annex.specs.Spans.{parRow, transferRows, innerRows, commonRows, commonRowsBy}
 use Rattle.annex.specs.declared.Answer.{Answer}
 use Rattle.annex.specs.declared.Answer.the-variants.{Accepted, Refused}
@@ -26,7 +41,19 @@ use Rattle.annex.specs.Contents.{faultOf}
 use Rattle.laws.specs.Members.{sumOf}
 use Rattle.laws.specs.Extents.{lead-within}
 use Rattle.laws.specs.Steps.{passed, transfer-taken, common-within}
-use Rattle.laws.specs.Plain.{Size, commonSize, transferSize, pars, pars-turn, Lies, pars-lie, commons-plain, transfers-plain, InnerSound, commons-inner}
+use Rattle.laws.specs.Plain.{
+  Size,
+  commonSize,
+  transferSize,
+  pars,
+  pars-turn,
+  Lies,
+  pars-lie,
+  commons-plain,
+  transfers-plain,
+  InnerSound,
+  commons-inner,
+}
 
 -- ---- sums
 
@@ -47,15 +74,20 @@ AcceptsTransfers t = (q : ℕ) × (transfersVerdict t ≡ Accepted q)
 
 module _ (step : Step) (close : Seen → ℕ → Answer)
     (inside : (seen : Seen) (h : ℕ) (xs : List ℕ) (n : ℕ) → step seen h xs ≡ Accepted n → n ≤ length xs) where
-  listing-sum : (xs : List ℕ) (seen : Seen) (k p q : ℕ) → k ≤ length xs → walk (judging step close) seen k p xs ≡ Accepted q → k + sumOf octetsIn (walk (listing step) seen k p xs) ≡ length xs
+  listing-sum : (xs : List ℕ) (seen : Seen) (k p q : ℕ) → k ≤ length xs → walk (judging step close) seen k p xs ≡ Accepted q
+      → k + sumOf octetsIn (walk (listing step) seen k p xs) ≡ length xs
   unfolding walk
   listing-sum [] seen k p q h e = omega arith
   listing-sum (x ∷ xs) seen (suc k) p q h e = omega (arith, listing-sum xs seen k (p + 1) q (omega arith) e)
   listing-sum (x ∷ xs) seen zero p q h e = go (step seen x xs) refl e (listing-sum xs (counted seen x))
     where
-      go : (a : Answer) → step seen x xs ≡ a → byStep a (λ k r. Refused k (p + r)) (λ n. walk (judging step close) (counted seen x) n (p + 1) xs) ≡ Accepted q
-          → ((k p q : ℕ) → k ≤ length xs → walk (judging step close) (counted seen x) k p xs ≡ Accepted q → k + sumOf octetsIn (walk (listing step) (counted seen x) k p xs) ≡ length xs)
-          → 0 + sumOf octetsIn (byStep a (λ k r. []) (λ n. parAt p x (take n xs) ∷ walk (listing step) (counted seen x) n (p + 1) xs)) ≡ suc (length xs)
+      go : (a : Answer) → step seen x xs ≡ a
+          → byStep a (λ k r. Refused k (p + r)) (λ n. walk (judging step close) (counted seen x) n (p + 1) xs) ≡ Accepted q
+          →
+          ((k p q : ℕ) → k ≤ length xs → walk (judging step close) (counted seen x) k p xs ≡ Accepted q
+          → k + sumOf octetsIn (walk (listing step) (counted seen x) k p xs) ≡ length xs)
+          → 0 + sumOf octetsIn (byStep a (λ k r. []) (λ n. parAt p x (take n xs) ∷ walk (listing step) (counted seen x) n (p + 1) xs))
+          ≡ suc (length xs)
       go (Accepted n) f e ih =
           let l = inside seen x xs n f in
           rw (length-take-le n xs l) (omega (arith, ih n (p + 1) q l e))
@@ -75,7 +107,11 @@ commons-sum m q e =
 pub transfers-sum : (t : List ℕ) (q : ℕ) → transfersVerdict t ≡ Accepted q → sumOf octetsIn (transfersOf t) ≡ length t
 unfolding transfersVerdictBy transfersBy
 transfers-sum t q e =
-    omega (arith, listing-sum transferStep (λ seen p. Accepted p) (λ seen h xs n f. transfer-taken faultOf _ h xs n f .within) t unseen 0 0 q (omega arith) e)
+    omega (
+      arith,
+      listing-sum transferStep (λ seen p. Accepted p) (λ seen h xs n f. transfer-taken faultOf _ h xs n f .within) t unseen 0 0 q
+          (omega arith) e,
+    )
 
 -- ---- a walk by the length rule
 
@@ -101,11 +137,14 @@ module _ (size : Size) where
   unfolding pars
   whole p x xs f = go (leb (size x xs) (length xs)) refl (f .sum)
     where
-      go : (b : Bool) → leb (size x xs) (length xs) ≡ b → sumOf octetsIn (cond b (parAt p x (take (size x xs) xs) ∷ pars size (size x xs) (p + 1) xs) []) ≡ suc (length xs) → size x xs ≤ length xs
+      go : (b : Bool) → leb (size x xs) (length xs) ≡ b
+          → sumOf octetsIn (cond b (parAt p x (take (size x xs) xs) ∷ pars size (size x xs) (p + 1) xs) []) ≡ suc (length xs)
+          → size x xs ≤ length xs
       go true e g = leb-true _ _ e
       go false e g = absurd (omega arith)
 
-  pub filled-turn : (i n : ℕ) (t : List ℕ) → i < length t → n ≡ size (getD t i 0) (drop (i + 1) t) → Filled size i (drop i t) → Turned size i n t
+  pub filled-turn : (i n : ℕ) (t : List ℕ) → i < length t → n ≡ size (getD t i 0) (drop (i + 1) t) → Filled size i (drop i t)
+      → Turned size i n t
   filled-turn i n t h told f =
       let c : drop i t ≡ getD t i 0 ∷ drop (i + 1) t = rw (add-one, drop-cons t i 0 h) in
       let w : n ≤ length (drop (i + 1) t) = omega (arith, whole i (getD t i 0) (drop (i + 1) t) (rw c at f)) in
@@ -114,7 +153,14 @@ module _ (size : Size) where
         within = w;
         next = e;
         rest = record {
-          sum = omega (arith, rw (e, length-take-le n (drop (i + 1) t) w) at (f .sum), length-drop i t, length-drop (i + 1) t, length-drop (i + 1 + n) t);
+          sum =
+              omega (
+                arith,
+                rw (e, length-take-le n (drop (i + 1) t) w) at (f .sum),
+                length-drop i t,
+                length-drop (i + 1) t,
+                length-drop (i + 1 + n) t,
+              );
         };
       }
 
@@ -123,11 +169,16 @@ abbrev pub rowFor : Extent → ℕ → ℕ → ℕ → Row
 rowFor e p h n = record { offset = p; header = h; len = n - leadOf e }
 
 -- the rows from a parameter on: its own row, for C5 those inside, and the rows from behind it on
-pub transfer-turn : (s i n : ℕ) (t : List ℕ) → Turned transferSize i n t → transferRows s (pars transferSize 0 i (drop i t)) ≡ rowFor (extentOf (getD t i 0)) (s + i) (getD t i 0) n ∷ transferRows s (pars transferSize 0 (i + 1 + n) (drop (i + 1 + n) t))
+pub transfer-turn : (s i n : ℕ) (t : List ℕ) → Turned transferSize i n t
+    → transferRows s (pars transferSize 0 i (drop i t))
+    ≡ rowFor (extentOf (getD t i 0)) (s + i) (getD t i 0) n ∷ transferRows s (pars transferSize 0 (i + 1 + n) (drop (i + 1 + n) t))
 unfolding transferRows
 transfer-turn s i n t u = rw (u .next, length-take-le n (drop (i + 1) t) (u .within))
 
-pub common-turn : (i n : ℕ) (m : List ℕ) → Turned commonSize i n m → commonRows (pars commonSize 0 i (drop i m)) ≡ rowFor (commonExtentOf (getD m i 0)) i (getD m i 0) n ∷ (innerRows (parAt i (getD m i 0) (take n (drop (i + 1) m))) ++ commonRows (pars commonSize 0 (i + 1 + n) (drop (i + 1 + n) m)))
+pub common-turn : (i n : ℕ) (m : List ℕ) → Turned commonSize i n m
+    → commonRows (pars commonSize 0 i (drop i m))
+    ≡ rowFor (commonExtentOf (getD m i 0)) i (getD m i 0) n
+    ∷ (innerRows (parAt i (getD m i 0) (take n (drop (i + 1) m))) ++ commonRows (pars commonSize 0 (i + 1 + n) (drop (i + 1 + n) m)))
 unfolding commonRowsBy
 common-turn i n m u = rw (u .next, length-take-le n (drop (i + 1) m) (u .within), zero-add i)
 
@@ -151,7 +202,8 @@ module _ (extent : ℕ → Extent) where
       let size : Size = λ h xs. afterOf (extent h) (getD xs 0 0) in
       each-then {P = Lies size t} {Q = LeadIn extent} (λ q l. rw (l .long) (lead-within _ _)) (pars size 0 0 t) (pars-lie size t t 0 0 refl)
 
-  rows-sum : (s : ℕ) (qs : List Par) → Each (LeadIn extent) qs → sumOf (spanBy extent) (map (λ q. parRow (extent (q .head)) s q) qs) ≡ sumOf octetsIn qs
+  rows-sum : (s : ℕ) (qs : List Par) → Each (LeadIn extent) qs
+      → sumOf (spanBy extent) (map (λ q. parRow (extent (q .head)) s q) qs) ≡ sumOf octetsIn qs
   rows-sum s [] h = refl
   rows-sum s (q ∷ qs) h = omega (arith, h .0, rows-sum s qs (h .1))
 
@@ -169,7 +221,8 @@ unfolding transferRows
 transfer-rows s [] = refl
 transfer-rows s (q ∷ qs) = rw (transfer-rows s qs)
 
-data-rows : (s : ℕ) (t : List ℕ) (k : ℕ) → transfersVerdict t ≡ Accepted k → sumOf (spanBy extentOf) (transferRows s (transfersOf t)) ≡ length t
+data-rows : (s : ℕ) (t : List ℕ) (k : ℕ) → transfersVerdict t ≡ Accepted k
+    → sumOf (spanBy extentOf) (transferRows s (transfersOf t)) ≡ length t
 data-rows s t k e =
     rw (transfer-rows s (transfersOf t))
     (rows-sum extentOf s (transfersOf t) (rw (transfers-plain faultOf t k e) (leads-in extentOf t)) ∙ transfers-sum t k e)

@@ -35,7 +35,21 @@ use Rattle.annex.specs.Units.{nameOf, afterOf, leadOf, extentOf, commonExtentOf
 use Rattle.annex.specs.Heads.{among, listedHeaders, end-mark, transfer-data, most-octets, nameUsed, pliRight, oftenOf}
 use Rattle.annex.specs.Contents.{Rule}
 use Rattle.annex.specs.Walk.{Seen, unseen, timesSeen, counted, Step, walk, judging, byStep}
-use Rattle.annex.specs.Reading.{octetAllowed, commonForm, endOf, transferBy, transfersVerdictBy, dataBy, commonBy, transferStepBy, commonStepBy, commonClose, wholeIn, messageVerdictBy, verdictBy}
+use Rattle.annex.specs.Reading.{
+  octetAllowed,
+  commonForm,
+  endOf,
+  transferBy,
+  transfersVerdictBy,
+  dataBy,
+  commonBy,
+  transferStepBy,
+  commonStepBy,
+  commonClose,
+  wholeIn,
+  messageVerdictBy,
+  verdictBy,
+}
 use Rattle.annex.specs.Writing.{headWriting}
 use Rattle.annex.specs.declared.Answer.{Answer}
 use Rattle.annex.specs.declared.Answer.the-variants.{Accepted, Refused}
@@ -66,7 +80,8 @@ sounded place (Bad k i) n a e = absurd (let z : _≡_ {A = ℕ} 0 1 = cc in omeg
 pub head-refuse : (h : ℕ) → (b : Bool) × (k : ℕ) × ((p : ℕ) (a : Answer) → headWriting p h a ≡ refuse b k p a)
 head-refuse h = go (nameUsed h) (pliRight h)
   where
-    go : (u r : Bool) → (b : Bool) × (k : ℕ) × ((p : ℕ) (a : Answer) → refuse (not u) unused-name p (refuse (not r) other-pli p a) ≡ refuse b k p a)
+    go : (u r : Bool)
+        → (b : Bool) × (k : ℕ) × ((p : ℕ) (a : Answer) → refuse (not u) unused-name p (refuse (not r) other-pli p a) ≡ refuse b k p a)
     go false r = (true, unused-name, λ p a. refl)
     go true r = (not r, other-pli, λ p a. refl)
 
@@ -120,7 +135,8 @@ pub head-place : (l p h : ℕ) (a : Answer) → p ≤ l → PlaceTo l a → Plac
 head-place l p h a i g = let o = head-refuse h in rw (o .2 p a) (refuse-place l (o .0) (o .1) p a i g)
 
 -- a fault is placed at most at l where its placing says so
-pub sound-place : (l : ℕ) (place : ℕ → ℕ → ℕ) (f : Fault) (a : Answer) → ((k i : ℕ) → f ≡ Bad k i → place k i ≤ l) → PlaceTo l a → PlaceTo l (soundThen place f a)
+pub sound-place : (l : ℕ) (place : ℕ → ℕ → ℕ) (f : Fault) (a : Answer) → ((k i : ℕ) → f ≡ Bad k i → place k i ≤ l) → PlaceTo l a
+    → PlaceTo l (soundThen place f a)
 sound-place l place Sound a h g = g
 sound-place l place (Bad k i) a h g = refused-place l k (place k i) (h k i refl)
 
@@ -134,14 +150,17 @@ place-up l m a h g = record { at = λ k p e. omega (arith, g .at k p e) }
 -- ---- places in a walk
 
 module _ (step : Step) (close : Seen → ℕ → Answer)
-    (l : ℕ) (placed : (seen : Seen) (h : ℕ) (xs : List ℕ) → PlaceTo (length xs + l) (step seen h xs)) (closed : (seen : Seen) (p : ℕ) → PlaceTo (p + l) (close seen p)) where
+    (l : ℕ) (placed : (seen : Seen) (h : ℕ) (xs : List ℕ) → PlaceTo (length xs + l) (step seen h xs))
+    (closed : (seen : Seen) (p : ℕ) → PlaceTo (p + l) (close seen p)) where
   walk-place : (xs : List ℕ) (seen : Seen) (k p : ℕ) → PlaceTo (p + length xs + l) (walk (judging step close) seen k p xs)
   unfolding walk
   walk-place [] seen k p = let e : p + 0 + l ≡ p + l = omega arith in rw e (closed seen p)
   walk-place (x ∷ xs) seen (suc k) p = place-up (p + 1 + length xs + l) _ _ (omega arith) (walk-place xs seen k (p + 1))
   walk-place (x ∷ xs) seen zero p = go (step seen x xs) refl (walk-place xs (counted seen x))
     where
-      go : (a : Answer) → step seen x xs ≡ a → ((k p : ℕ) → PlaceTo (p + length xs + l) (walk (judging step close) (counted seen x) k p xs)) → PlaceTo (p + suc (length xs) + l) (byStep a (λ k q. Refused k (p + q)) (λ n. walk (judging step close) (counted seen x) n (p + 1) xs))
+      go : (a : Answer) → step seen x xs ≡ a → ((k p : ℕ) → PlaceTo (p + length xs + l) (walk (judging step close) (counted seen x) k p xs))
+          → PlaceTo (p + suc (length xs) + l)
+          (byStep a (λ k q. Refused k (p + q)) (λ n. walk (judging step close) (counted seen x) n (p + 1) xs))
       go (Accepted n) e ih = place-up (p + 1 + length xs + l) _ _ (omega arith) (ih n (p + 1))
       go (Refused k q) e ih = refused-place _ k (p + q) (omega (arith, placed seen x xs .at k q e))
 
@@ -187,7 +206,8 @@ end-place whole xs =
     refuse-place 1 (not whole) missing 0 _ (omega arith) last
 
 close-place : (seen : Seen) (p : ℕ) → PlaceTo (p + 2) (commonClose seen p)
-close-place seen p = refuse-place (p + 2) (not (ltb 0 (timesSeen seen end-mark))) cut-short p (Accepted p) (omega arith) (accepted-place (p + 2) p)
+close-place seen p =
+    refuse-place (p + 2) (not (ltb 0 (timesSeen seen end-mark))) cut-short p (Accepted p) (omega arith) (accepted-place (p + 2) p)
 
 behind-data : (n : ℕ) (xs : List ℕ) → n ≤ length xs → length (contentsIn (commonExtentOf transfer-data) (take n xs)) ≤ length xs
 unfolding commonExtentOf leadOf
@@ -234,25 +254,31 @@ module _ (rule : Rule) where
       }
 
   -- what follows 2 to 5
-  pub common-formed : (times : ℕ) (whole : Bool) (h : ℕ) (xs : List ℕ) (n : ℕ) → commonForm times h xs ≡ Accepted n → commonBy rule times whole h xs ≡ cond (eqb h end-mark) (endOf whole xs) (cond (eqb h transfer-data) (dataBy rule n xs) (Accepted n))
+  pub common-formed : (times : ℕ) (whole : Bool) (h : ℕ) (xs : List ℕ) (n : ℕ) → commonForm times h xs ≡ Accepted n
+      → commonBy rule times whole h xs ≡ cond (eqb h end-mark) (endOf whole xs) (cond (eqb h transfer-data) (dataBy rule n xs) (Accepted n))
   unfolding commonBy
   common-formed times whole h xs n e = rw e
 
-  pub common-refused : (times : ℕ) (whole : Bool) (h : ℕ) (xs : List ℕ) (k p : ℕ) → commonForm times h xs ≡ Refused k p → commonBy rule times whole h xs ≡ Refused k p
+  pub common-refused : (times : ℕ) (whole : Bool) (h : ℕ) (xs : List ℕ) (k p : ℕ) → commonForm times h xs ≡ Refused k p
+      → commonBy rule times whole h xs ≡ Refused k p
   unfolding commonBy
   common-refused times whole h xs k p e = rw e
 
   -- ---- C5 and the whole step
 
-  pub data-told : (n : ℕ) (xs : List ℕ) → dataBy rule n xs ≡ andThen (shifted 2 (transfersVerdictBy rule (take (n - 1) (drop 1 xs)))) (λ _. Accepted n)
+  pub data-told : (n : ℕ) (xs : List ℕ)
+      → dataBy rule n xs ≡ andThen (shifted 2 (transfersVerdictBy rule (take (n - 1) (drop 1 xs)))) (λ _. Accepted n)
   unfolding dataBy
   data-told n xs = rw (data-part n xs)
 
-  pub data-taken : (n : ℕ) (xs : List ℕ) (k : ℕ) → dataBy rule n xs ≡ Accepted k → (q : ℕ) × (transfersVerdictBy rule (contentsIn (commonExtentOf transfer-data) (take n xs)) ≡ Accepted q) × (k ≡ n)
+  pub data-taken : (n : ℕ) (xs : List ℕ) (k : ℕ) → dataBy rule n xs ≡ Accepted k
+      → (q : ℕ) × (transfersVerdictBy rule (contentsIn (commonExtentOf transfer-data) (take n xs)) ≡ Accepted q) × (k ≡ n)
   unfolding dataBy
   data-taken n xs k e = go (transfersVerdictBy rule (contentsIn (commonExtentOf transfer-data) (take n xs))) refl e
     where
-      go : (a : Answer) → transfersVerdictBy rule (contentsIn (commonExtentOf transfer-data) (take n xs)) ≡ a → andThen (shifted 2 a) (λ _. Accepted n) ≡ Accepted k → (q : ℕ) × (transfersVerdictBy rule (contentsIn (commonExtentOf transfer-data) (take n xs)) ≡ Accepted q) × (k ≡ n)
+      go : (a : Answer) → transfersVerdictBy rule (contentsIn (commonExtentOf transfer-data) (take n xs)) ≡ a
+          → andThen (shifted 2 a) (λ _. Accepted n) ≡ Accepted k
+          → (q : ℕ) × (transfersVerdictBy rule (contentsIn (commonExtentOf transfer-data) (take n xs)) ≡ Accepted q) × (k ≡ n)
       go (Accepted q) f e = (q, f, cc)
       go (Refused j p) f e = absurd (let z : _≡_ {A = ℕ} 0 1 = cc in omega arith)
 
@@ -268,7 +294,8 @@ module _ (rule : Rule) where
           let same : 0 ≡ n = cc in
           omega arith
 
-      byKind : (a b : Bool) (k : ℕ) → k ≤ length xs → cond a (endOf whole xs) (cond b (dataBy rule k xs) (Accepted k)) ≡ Accepted n → n ≤ length xs
+      byKind : (a b : Bool) (k : ℕ) → k ≤ length xs → cond a (endOf whole xs) (cond b (dataBy rule k xs) (Accepted k)) ≡ Accepted n
+          → n ≤ length xs
       byKind true b k l f = byEnd f
       byKind false true k l f = omega (arith, data-taken k xs n f .2)
       byKind false false k l f = let same : k ≡ n = cc in omega arith
@@ -279,7 +306,8 @@ module _ (rule : Rule) where
       go (Refused k q) f = absurd (let g = common-refused times whole h xs k q f in let z : _≡_ {A = ℕ} 0 1 = cc in omega arith)
 
   -- an accepted common parameter has passed 2 to 5
-  pub common-taken : (times : ℕ) (whole : Bool) (h : ℕ) (xs : List ℕ) (n : ℕ) → commonBy rule times whole h xs ≡ Accepted n → (k : ℕ) × FormTaken times h xs k × (commonForm times h xs ≡ Accepted k)
+  pub common-taken : (times : ℕ) (whole : Bool) (h : ℕ) (xs : List ℕ) (n : ℕ) → commonBy rule times whole h xs ≡ Accepted n
+      → (k : ℕ) × FormTaken times h xs k × (commonForm times h xs ≡ Accepted k)
   common-taken times whole h xs n e = go (commonForm times h xs) refl
     where
       go : (a : Answer) → commonForm times h xs ≡ a → (k : ℕ) × FormTaken times h xs k × (commonForm times h xs ≡ Accepted k)
@@ -301,12 +329,15 @@ module _ (rule : Rule) (inside : RuleWithin rule) where
       let right = refuse-place l (not (pliRight h)) other-pli 0 _ (omega arith) once in
       refuse-place l (not (nameUsed h)) unused-name 0 _ (omega arith) right
     where
-      sound : (n : ℕ) → leadOf (extentOf h) ≤ n → n ≤ length xs → PlaceTo (length xs) (soundThen (readingAt (1 + leadOf (extentOf h))) (rule h (contentsIn (extentOf h) (take n xs))) (Accepted n))
+      sound : (n : ℕ) → leadOf (extentOf h) ≤ n → n ≤ length xs
+          → PlaceTo (length xs)
+          (soundThen (readingAt (1 + leadOf (extentOf h))) (rule h (contentsIn (extentOf h) (take n xs))) (Accepted n))
       sound n front whole =
           let c = contentsIn (extentOf h) (take n xs) in
           let lead = leadOf (extentOf h) in
           let few : lead + length c ≤ length xs = omega (arith, length-drop lead (take n xs), length-take n xs) in
-          sound-place (length xs) (readingAt (1 + lead)) (rule h c) (Accepted n) (λ k i f. omega (arith, reading-within lead (length c) (rule h c) (inside h c) k i f)) (accepted-place (length xs) n)
+          sound-place (length xs) (readingAt (1 + lead)) (rule h c) (Accepted n)
+          (λ k i f. omega (arith, reading-within lead (length c) (rule h c) (inside h c) k i f)) (accepted-place (length xs) n)
 
   pub transfers-place : (t : List ℕ) → PlaceTo (length t) (transfersVerdictBy rule t)
   unfolding transfersVerdictBy
@@ -327,7 +358,8 @@ module _ (rule : Rule) (inside : RuleWithin rule) where
   pub common-place : (times : ℕ) (whole : Bool) (h : ℕ) (xs : List ℕ) → PlaceTo (length xs + 2) (commonBy rule times whole h xs)
   common-place times whole h xs = go (commonForm times h xs) refl
     where
-      byKind : (a b : Bool) (n : ℕ) → n ≤ length xs → PlaceTo (length xs + 2) (cond a (endOf whole xs) (cond b (dataBy rule n xs) (Accepted n)))
+      byKind : (a b : Bool) (n : ℕ) → n ≤ length xs
+          → PlaceTo (length xs + 2) (cond a (endOf whole xs) (cond b (dataBy rule n xs) (Accepted n)))
       byKind true b n l = place-up 1 _ _ (omega arith) (end-place whole xs)
       byKind false true n l = place-up (2 + length xs) _ _ (omega arith) (data-place n xs l)
       byKind false false n l = accepted-place _ n
@@ -335,12 +367,15 @@ module _ (rule : Rule) (inside : RuleWithin rule) where
       go : (a : Answer) → commonForm times h xs ≡ a → PlaceTo (length xs + 2) (commonBy rule times whole h xs)
       go (Accepted n) e =
           rw (common-formed rule times whole h xs n e) (byKind (eqb h end-mark) (eqb h transfer-data) n (form-taken times h xs n e .within))
-      go (Refused k p) e = rw (common-refused rule times whole h xs k p e) (refused-place _ k p (omega (arith, form-place times h xs .at k p e)))
+      go (Refused k p) e =
+          rw (common-refused rule times whole h xs k p e) (refused-place _ k p (omega (arith, form-place times h xs .at k p e)))
 
   -- no place of a verdict is more than two over the octets that a message may have
   pub verdict-place : (m : List ℕ) → PlaceTo (most-octets + 2) (verdictBy rule m)
   unfolding verdictBy messageVerdictBy
   verdict-place m =
       refuse-else (most-octets + 2) (eqb (length m) 0 || ltb most-octets (length m)) over-limits 0 (messageVerdictBy rule m) (omega arith)
-      (λ e. place-up (0 + length m + 2) (most-octets + 2) _ (omega (arith, ltb-false most-octets (length m) (or-right (eqb (length m) 0) _ e)))
-      (walk-place (commonStepBy rule) commonClose 2 (λ seen h xs. common-place (timesSeen seen h) (wholeIn seen) h xs) close-place m unseen 0 0))
+      (λ e. place-up (0 + length m + 2) (most-octets + 2) _
+      (omega (arith, ltb-false most-octets (length m) (or-right (eqb (length m) 0) _ e)))
+      (walk-place (commonStepBy rule) commonClose 2
+      (λ seen h xs. common-place (timesSeen seen h) (wholeIn seen) h xs) close-place m unseen 0 0))

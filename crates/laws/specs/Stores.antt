@@ -16,7 +16,8 @@ module _ {A : Type 0} where
       rw e (sets-snoc (set l i a) (suc i) vs v)
 
   -- a turn of a loop that stores the elements of vs from i on
-  pub sets-turn : (l : List A) (i : ℕ) (vs : List A) (j : ℕ) (d : A) → j < length vs → set (sets l i (take j vs)) (i + j) (getD vs j d) ≡ sets l i (take (j + 1) vs)
+  pub sets-turn : (l : List A) (i : ℕ) (vs : List A) (j : ℕ) (d : A) → j < length vs
+      → set (sets l i (take j vs)) (i + j) (getD vs j d) ≡ sets l i (take (j + 1) vs)
   sets-turn l i vs j d h =
       let e : j + 1 ≡ suc j = omega arith in
       let k : length (take j vs) ≡ j = length-take-le j vs (omega arith) in

@@ -24,18 +24,26 @@ module _ {R : Type 0} (r : Walker R) where
   walk-end seen p i t h = rw (drop-of-length-le t)
 
   -- at a header
-  pub refused : (seen : Seen) (p x : ℕ) (xs : List ℕ) (k q : ℕ) → r .step seen x xs ≡ Refused k q → walk r seen 0 p (x ∷ xs) ≡ r .stop k (p + q)
+  pub refused : (seen : Seen) (p x : ℕ) (xs : List ℕ) (k q : ℕ) → r .step seen x xs ≡ Refused k q
+      → walk r seen 0 p (x ∷ xs) ≡ r .stop k (p + q)
   unfolding walk
   refused seen p x xs k q e = rw e
 
-  pub accepted : (seen : Seen) (p x : ℕ) (xs : List ℕ) (n : ℕ) → r .step seen x xs ≡ Accepted n → n ≤ length xs → walk r seen 0 p (x ∷ xs) ≡ r .more (record { place = p; head = x; own = take n xs }) (walk r (counted seen x) 0 (p + 1 + n) (drop n xs))
+  pub accepted : (seen : Seen) (p x : ℕ) (xs : List ℕ) (n : ℕ) → r .step seen x xs ≡ Accepted n → n ≤ length xs
+      → walk r seen 0 p (x ∷ xs)
+      ≡ r .more (record { place = p; head = x; own = take n xs }) (walk r (counted seen x) 0 (p + 1 + n) (drop n xs))
   unfolding walk
   accepted seen p x xs n e l = rw e (ap (r .more _) (skip (counted seen x) n (p + 1) xs l))
 
   -- at an index
-  pub walk-refused : (seen : Seen) (p i : ℕ) (t : List ℕ) (k q : ℕ) → i < length t → r .step seen (getD t i 0) (drop (i + 1) t) ≡ Refused k q → walk r seen 0 p (drop i t) ≡ r .stop k (p + q)
+  pub walk-refused : (seen : Seen) (p i : ℕ) (t : List ℕ) (k q : ℕ) → i < length t
+      → r .step seen (getD t i 0) (drop (i + 1) t) ≡ Refused k q → walk r seen 0 p (drop i t) ≡ r .stop k (p + q)
   walk-refused seen p i t k q h e = rw (drop-cons t i 0, ← add-one) (refused seen p (getD t i 0) (drop (i + 1) t) k q e)
 
-  pub walk-accepted : (seen : Seen) (p q i : ℕ) (t : List ℕ) (n : ℕ) → i < length t → r .step seen (getD t i 0) (drop (i + 1) t) ≡ Accepted n → n ≤ length (drop (i + 1) t) → p + 1 + n ≡ q → walk r seen 0 p (drop i t) ≡ r .more (record { place = p; head = getD t i 0; own = take n (drop (i + 1) t) }) (walk r (counted seen (getD t i 0)) 0 q (drop (i + 1 + n) t))
+  pub walk-accepted : (seen : Seen) (p q i : ℕ) (t : List ℕ) (n : ℕ) → i < length t
+      → r .step seen (getD t i 0) (drop (i + 1) t) ≡ Accepted n → n ≤ length (drop (i + 1) t) → p + 1 + n ≡ q
+      → walk r seen 0 p (drop i t)
+      ≡ r .more (record { place = p; head = getD t i 0; own = take n (drop (i + 1) t) })
+      (walk r (counted seen (getD t i 0)) 0 q (drop (i + 1 + n) t))
   walk-accepted seen p q i t n h e l w =
       rw (drop-cons t i 0, ← add-one i, ← w, ← drop-drop n (i + 1) t) (accepted seen p (getD t i 0) (drop (i + 1) t) n e l)

@@ -41,11 +41,13 @@ low-at [] i = refl
 low-at (x ∷ xs) zero = refl
 low-at (x ∷ xs) (suc i) = low-at xs i
 
-pub written-turn : (room xs : List ℕ) (j x : ℕ) → j < length xs → x ≡ getD xs j 0 % 256 → set (sets room 0 (take j (lowOctets xs))) j x ≡ sets room 0 (take (j + 1) (lowOctets xs))
+pub written-turn : (room xs : List ℕ) (j x : ℕ) → j < length xs → x ≡ getD xs j 0 % 256
+    → set (sets room 0 (take j (lowOctets xs))) j x ≡ sets room 0 (take (j + 1) (lowOctets xs))
 written-turn room xs j x h e =
     rw (e ∙ sym (low-at xs j)) (front-turn room (lowOctets xs) j 0 (omega (arith, length-low xs)))
 
-pub written-end : (room xs : List ℕ) (j : ℕ) → length xs ≤ j → length xs ≤ length room → sets room 0 (take j (lowOctets xs)) ≡ atFront xs room
+pub written-end : (room xs : List ℕ) (j : ℕ) → length xs ≤ j → length xs ≤ length room
+    → sets room 0 (take j (lowOctets xs)) ≡ atFront xs room
 written-end room xs j h k =
     front-end room (lowOctets xs) j (omega (arith, length-low xs)) (omega (arith, length-low xs))
     ∙ ap (λ (n : ℕ). lowOctets xs ++ drop n room) (length-low xs)
@@ -62,6 +64,7 @@ pub written-then : (room low first xs ys : List ℕ) → low ≡ lowOctets first
     putMid k (length w - k) w ys ≡ atFront (first ++ xs) room
 written-then room low first xs ys f l e =
     let n : length low ≡ length first = ap (λ (s : List ℕ). length s) f ∙ length-low first in
-    let m : length (low ++ lowOctets xs) ≡ length (first ++ xs) = rw (length-append low (lowOctets xs), length-append first xs) (omega (arith, length-low xs)) in
+    let m : length (low ++ lowOctets xs) ≡ length (first ++ xs) =
+    rw (length-append low (lowOctets xs), length-append first xs) (omega (arith, length-low xs)) in
     front-then room low (lowOctets xs) ys (omega (arith, length-low xs)) (rw (length-low xs) e)
     ∙ rw (m, f) (ap (λ (s : List ℕ). s ++ drop (length (first ++ xs)) room) (sym (map-append (λ x. x % 256) first xs)))

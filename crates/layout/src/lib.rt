@@ -250,7 +250,8 @@ fn put_digits(marks: Marks, t: Transfer, digits: &[u8], room: &mut [u8])
 // Writes a number: its two octets of fields, then the digits.
 fn put_number(t: Transfer, digits: &[u8], room: &mut [u8])
     requires { ⌜ length (numberContents (rawItem t (now digits)) (now digits)) ≤ length (now room) ⌝ }
-    ensures { λ r. ⌜ now (room .exit) ≡ atFront (numberContents (rawItem t (now (digits .entry))) (now (digits .entry))) (now (room .entry)) ⌝ }
+    ensures { λ r. ⌜ now (room .exit)
+        ≡ atFront (numberContents (rawItem t (now (digits .entry))) (now (digits .entry))) (now (room .entry)) ⌝ }
 {
     let first = 128 * (digits.len() % 2) + t.number_type as usize;
     let upper = 128 * (t.incomplete as usize) + 16 * (t.plan as usize);

@@ -11,7 +11,18 @@ use lib.Seq.{take-all, take-suc, drop-cons, drop-drop, take-add, getD-take, leng
 use Rattle.annex.specs.Heads.{transfer-data, most-commons, most-transfers}
 use Rattle.annex.specs.Items.{Item, Part}
 use Rattle.annex.specs.Allowed.{ownPart, itemsIn}
-use Rattle.annex.specs.Records.{noCommon, noTransfer, viewItems, lengthsOf, transferCount, transfersSum, viewParts, commonsIn, view, rawPart}
+use Rattle.annex.specs.Records.{
+  noCommon,
+  noTransfer,
+  viewItems,
+  lengthsOf,
+  transferCount,
+  transfersSum,
+  viewParts,
+  commonsIn,
+  view,
+  rawPart,
+}
 use Rattle.annex.specs.declared.Common.{Common}
 use Rattle.annex.specs.declared.Transfer.{Transfer}
 use Rattle.annex.specs.declared.Record.{Record}
@@ -91,10 +102,17 @@ items-in [] ts vs = refl
 items-in (c ∷ cs) ts vs =
     let n = transferCount c in
     let rest = items-in cs (drop n ts) (drop (lengthsOf (take n ts)) vs) in
-    rw (take-add n (transfersSum cs) ts, view-append (take n ts) (take (transfersSum cs) (drop n ts)) vs, rest, part-items c (viewItems (take n ts) vs))
-    (ap (λ (is : List Item). is ++ viewItems (take (transfersSum cs) (drop n ts)) (drop (lengthsOf (take n ts)) vs)) (go (eqb (c .header) transfer-data) refl))
+    rw (
+      take-add n (transfersSum cs) ts,
+      view-append (take n ts) (take (transfersSum cs) (drop n ts)) vs,
+      rest,
+      part-items c (viewItems (take n ts) vs),
+    )
+    (ap (λ (is : List Item). is ++ viewItems (take (transfersSum cs) (drop n ts)) (drop (lengthsOf (take n ts)) vs))
+    (go (eqb (c .header) transfer-data) refl))
   where
-    go : (b : Bool) → eqb (c .header) transfer-data ≡ b → cond b (viewItems (take (cond b (c .transfers) 0) ts) vs) [] ≡ viewItems (take (cond b (c .transfers) 0) ts) vs
+    go : (b : Bool) → eqb (c .header) transfer-data ≡ b
+        → cond b (viewItems (take (cond b (c .transfers) 0) ts) vs) [] ≡ viewItems (take (cond b (c .transfers) 0) ts) vs
     go true e = refl
     go false e = refl
 
@@ -119,13 +137,15 @@ module _ (q : Record) where
   pub items-end : (k end : ℕ) → end ≤ k → itemsAt q k (end - k) ≡ []
   items-end k end h = let e : end - k ≡ 0 = omega arith in rw e (items-none k)
 
-  items-next : (k n : ℕ) → k < length (q .transfer) → itemsAt q k (suc n) ≡ itemFrom (transferAt q k) (take (transferAt q k .len) (drop (usedAt q k) (q .values))) ∷ itemsAt q (k + 1) n
+  items-next : (k n : ℕ) → k < length (q .transfer)
+      → itemsAt q k (suc n) ≡ itemFrom (transferAt q k) (take (transferAt q k .len) (drop (usedAt q k) (q .values))) ∷ itemsAt q (k + 1) n
   unfolding viewItems
   items-next k n h =
       let e : k + 1 ≡ suc k = omega arith in
       rw (used-next k h, e, drop-cons (q .transfer) k noTransfer h, drop-drop (transferAt q k .len) (usedAt q k) (q .values))
 
-  -- one of the first n, for a loop that has used so many values before it: its own values, as a part of a slice has them, and those behind it
+  -- one of the first n, for a loop that has used so many values before it: its own values, as a part of a slice has them, and those behind
+  -- it
   pub record Turn (k used : ℕ) : Type 0 where
     pub place : k < most-transfers
     pub end : used + transferAt q k .len ≤ length (q .values)
@@ -141,7 +161,8 @@ module _ (q : Record) where
       let l = rw e at (lengths-add m (n - m) (q .transfer)) in
       record { places = omega (arith, w .places); values = omega (arith, l, w .values) }
 
-  pub turn : (k n used : ℕ) → length (q .transfer) ≡ most-transfers → length (q .values) ≡ 512 → Within q n → k < n → used ≡ usedAt q k → Turn k used
+  pub turn : (k n used : ℕ) → length (q .transfer) ≡ most-transfers → length (q .values) ≡ 512 → Within q n → k < n → used ≡ usedAt q k
+      → Turn k used
   turn k n used l v w h e =
       let t = transferAt q k in
       let next : used + t .len ≡ usedAt q (k + 1) = omega (arith, used-next k (omega (arith, w .places))) in
@@ -191,11 +212,18 @@ module _ (q : Record) where
     unfolding transfersSum
     transfers-next = rw commons-next
 
-    pub parts-next : (j : ℕ) → partsAt q k j ≡ partFrom (commonAt q k) (itemsAt q j (transferCount (commonAt q k))) ∷ partsAt q (k + 1) (j + transferCount (commonAt q k))
+    pub parts-next : (j : ℕ)
+        → partsAt q k j
+        ≡ partFrom (commonAt q k) (itemsAt q j (transferCount (commonAt q k))) ∷ partsAt q (k + 1) (j + transferCount (commonAt q k))
     unfolding viewParts
     parts-next j =
         let n = transferCount (commonAt q k) in
-        rw (commons-next, lengths-add j n (q .transfer), ← drop-drop n j (q .transfer), ← drop-drop (lengthsOf (take n (drop j (q .transfer)))) (usedAt q j) (q .values))
+        rw (
+          commons-next,
+          lengths-add j n (q .transfer),
+          ← drop-drop n j (q .transfer),
+          ← drop-drop (lengthsOf (take n (drop j (q .transfer)))) (usedAt q j) (q .values),
+        )
 
     -- for a loop that has passed j transfer parameters before it: a common parameter that is no C5, and a C5
     pub record PlainTurn (j : ℕ) : Type 0 where
@@ -211,10 +239,16 @@ module _ (q : Record) where
     pub record DataTurn (j : ℕ) : Type 0 where
       pub sum : j + commonAt q k .transfers + transfersAt q (k + 1) ≡ transfersSum (commonsIn q)
       pub within : Within q (j + commonAt q k .transfers)
-      pub parts : partsAt q k j ≡ partFrom (commonAt q k) (itemsAt q j (commonAt q k .transfers)) ∷ partsAt q (k + 1) (j + commonAt q k .transfers)
+      pub parts : partsAt q k j
+          ≡ partFrom (commonAt q k) (itemsAt q j (commonAt q k .transfers)) ∷ partsAt q (k + 1) (j + commonAt q k .transfers)
 
     pub data-turn : (j : ℕ) → Whole q → j + transfersAt q k ≡ transfersSum (commonsIn q) → commonAt q k .header ≡ transfer-data → DataTurn j
     data-turn j w s e =
         let all : transferCount (commonAt q k) ≡ commonAt q k .transfers = rw (eq-eqb (commonAt q k .header) transfer-data e) in
         let sum : j + commonAt q k .transfers + transfersAt q (k + 1) ≡ transfersSum (commonsIn q) = omega (arith, transfers-next) in
-        record { sum = sum; within = within-less (j + commonAt q k .transfers) (transfersSum (commonsIn q)) (omega arith) (w .within); parts = rw all at (parts-next j) }
+        record {
+          sum = sum;
+          within = within-less (j + commonAt q k .transfers) (transfersSum (commonsIn q)) (omega arith)
+              (w .within);
+          parts = rw all at (parts-next j);
+        }

@@ -54,12 +54,15 @@ length-items [] vs = refl
 length-items (t ∷ ts) vs = ap suc (length-items ts _)
 
 -- so of a whole struct only the contents can be over
-pub over-contents : (q : Record) → Whole q → overLimits (view q) ≡ ltb most-transfer-octets (contentsSum (itemsAt q 0 (transfersSum (commonsIn q))))
+pub over-contents : (q : Record) → Whole q
+    → overLimits (view q) ≡ ltb most-transfer-octets (contentsSum (itemsAt q 0 (transfersSum (commonsIn q))))
 unfolding overLimits view lengthsOf
 over-contents q w =
     let n = transfersSum (commonsIn q) in
-    let few : length (view q) ≤ 6 = omega (arith, w .commons, length-parts (commonsIn q) (q .transfer) (q .values), length-take (q .commons) (q .common)) in
-    let items : length (itemsAt q 0 n) ≤ most-transfers = omega (arith, w .within .places, length-items (take n (q .transfer)) (q .values), length-take n (q .transfer)) in
+    let few : length (view q) ≤ 6 =
+    omega (arith, w .commons, length-parts (commonsIn q) (q .transfer) (q .values), length-take (q .commons) (q .common)) in
+    let items : length (itemsAt q 0 n) ≤ most-transfers =
+    omega (arith, w .within .places, length-items (take n (q .transfer)) (q .values), length-take n (q .transfer)) in
     rw (items-all q, le-ltb most-commons (length (view q)) few, le-ltb most-transfers (length (itemsAt q 0 n)) items)
 
 -- contents are little longer than the values that they stand for
@@ -78,7 +81,8 @@ pub over-refused : (q : Record) → isOver q ≡ true → structWriting q ≡ Re
 unfolding structWriting recordWriting
 over-refused q e = go (isWhole q) (overLimits (view q)) e
   where
-    go : (b o : Bool) → not b || o ≡ true → refuse (not b) over-limits 0 (refuse o over-limits 0 (partsWriting unseen 0 (view q))) ≡ Refused over-limits 0
+    go : (b o : Bool) → not b || o ≡ true
+        → refuse (not b) over-limits 0 (refuse o over-limits 0 (partsWriting unseen 0 (view q))) ≡ Refused over-limits 0
     go true true e = refl
     go true false e = absurd (let z : _≡_ {A = ℕ} 0 1 = cc in omega arith)
     go false o e = refl

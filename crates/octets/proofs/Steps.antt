@@ -18,14 +18,17 @@ put-seam p q s at e =
     rw (take-at p q at e, r)
 
 -- octets written from index to on, with what stands before them cut at from
-put-cut : (d : List ℕ) (from to : ℕ) (t : List ℕ) (end : ℕ) → from ≤ to → to + length t ≡ end → put d to t ≡ take from d ++ (take (to - from) (drop from d) ++ (t ++ drop end d))
+put-cut : (d : List ℕ) (from to : ℕ) (t : List ℕ) (end : ℕ) → from ≤ to → to + length t ≡ end
+    → put d to t ≡ take from d ++ (take (to - from) (drop from d) ++ (t ++ drop end d))
 unfolding put
 put-cut d from to t end h g =
     let e : from + (to - from) ≡ to = omega arith in
     let f : take to d ≡ take from d ++ take (to - from) (drop from d) = ap (λ (k : ℕ). take k d) (sym e) ∙ take-add from (to - from) d in
     rw (g, f, append-assoc)
 
-pub three-steps : (d : List ℕ) (n from old : ℕ) (new : List ℕ) (tail to k end : ℕ) → Fitting d n from old new → tail ≡ from + old → to ≡ from + length new → k ≡ n - tail → end ≡ to + k → put (put (put d to (part d tail k)) from new) end (replicate (n - end) 0) ≡ spliced d n from old new
+pub three-steps : (d : List ℕ) (n from old : ℕ) (new : List ℕ) (tail to k end : ℕ) → Fitting d n from old new → tail ≡ from + old
+    → to ≡ from + length new → k ≡ n - tail → end ≡ to + k
+    → put (put (put d to (part d tail k)) from new) end (replicate (n - end) 0) ≡ spliced d n from old new
 unfolding spliced part
 three-steps d n from old new tail to k end fit e-tail e-to e-k e-end =
     let a : List ℕ = take from d in

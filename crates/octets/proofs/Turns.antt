@@ -25,14 +25,16 @@ put-paste : (d : List ℕ) (at : ℕ) (s : List ℕ) (i : ℕ) → i ≤ length 
 unfolding put
 put-paste d at s i h = rw (length-take-le i s h) (sym (append-assoc (take at d) (take i s) (drop (at + i) d)))
 
-put-more : (d : List ℕ) (at : ℕ) (s : List ℕ) (i : ℕ) → i < length s → at + length s ≤ length d → set (put d at (take i s)) (at + i) (getD s i 0) ≡ put d at (take (i + 1) s)
+put-more : (d : List ℕ) (at : ℕ) (s : List ℕ) (i : ℕ) → i < length s → at + length s ≤ length d
+    → set (put d at (take i s)) (at + i) (getD s i 0) ≡ put d at (take (i + 1) s)
 put-more d at s i hs hd =
     rw (add-one i, put-paste d at s i (omega arith), put-paste d at s (suc i) (omega arith)) (paste-suc d at s i 0 (omega arith) hs)
 
 pub forward-start : (d : List ℕ) (at : ℕ) (s : List ℕ) (k : ℕ) → Forward d at s k 0 d
 forward-start d at s k = record { few = omega arith; written = put-none d at s; same = refl }
 
-pub forward-turn : (d₀ : List ℕ) (at : ℕ) (s : List ℕ) (k i : ℕ) (d : List ℕ) (v : ℕ) → length s ≡ k → at + k ≤ length d₀ → i < k → Forward d₀ at s k i d → v ≡ getD s i 0 → Forward d₀ at s k (i + 1) (set d (at + i) v)
+pub forward-turn : (d₀ : List ℕ) (at : ℕ) (s : List ℕ) (k i : ℕ) (d : List ℕ) (v : ℕ) → length s ≡ k → at + k ≤ length d₀ → i < k
+    → Forward d₀ at s k i d → v ≡ getD s i 0 → Forward d₀ at s k (i + 1) (set d (at + i) v)
 forward-turn d₀ at s k i d v e h l f g =
     record {
       few = omega arith;
@@ -40,7 +42,8 @@ forward-turn d₀ at s k i d v e h l f g =
       same = length-set d (at + i) v ∙ f .same;
     }
 
-pub forward-end : (d₀ : List ℕ) (at : ℕ) (s : List ℕ) (k i : ℕ) (d : List ℕ) → length s ≡ k → k ≤ i → Forward d₀ at s k i d → d ≡ put d₀ at s
+pub forward-end : (d₀ : List ℕ) (at : ℕ) (s : List ℕ) (k i : ℕ) (d : List ℕ) → length s ≡ k → k ≤ i → Forward d₀ at s k i d
+    → d ≡ put d₀ at s
 forward-end d₀ at s k i d e l f = f .written ∙ ap (put d₀ at) (take-all i s (omega arith))
 
 -- ---- backward
@@ -68,7 +71,8 @@ put-less d at v s h =
     ∙ ap (λ (l : List ℕ). set l at v) (append-snoc (take at d) (getD d at 0) r)
     ∙ set-at (take at d) (getD d at 0) r v at (length-take-le at d (omega arith))
 
-put-back : (d : List ℕ) (at : ℕ) (s : List ℕ) (i : ℕ) → 0 < i → i ≤ length s → at + length s ≤ length d → set (put d (at + i) (drop i s)) (at + (i - 1)) (getD s (i - 1) 0) ≡ put d (at + (i - 1)) (drop (i - 1) s)
+put-back : (d : List ℕ) (at : ℕ) (s : List ℕ) (i : ℕ) → 0 < i → i ≤ length s → at + length s ≤ length d
+    → set (put d (at + i) (drop i s)) (at + (i - 1)) (getD s (i - 1) 0) ≡ put d (at + (i - 1)) (drop (i - 1) s)
 put-back d at s i h l m =
     let j : ℕ = i - 1 in
     let e : i ≡ suc j = omega arith in
@@ -80,7 +84,8 @@ put-back d at s i h l m =
 pub backward-start : (d : List ℕ) (at : ℕ) (s : List ℕ) (k : ℕ) → length s ≡ k → Backward d at s k k d
 backward-start d at s k e = record { few = omega arith; written = put-end d at s k e; same = refl }
 
-pub backward-turn : (d₀ : List ℕ) (at : ℕ) (s : List ℕ) (k i : ℕ) (d : List ℕ) (v : ℕ) → length s ≡ k → at + k ≤ length d₀ → 0 < i → Backward d₀ at s k i d → v ≡ getD s (i - 1) 0 → Backward d₀ at s k (i - 1) (set d (at + (i - 1)) v)
+pub backward-turn : (d₀ : List ℕ) (at : ℕ) (s : List ℕ) (k i : ℕ) (d : List ℕ) (v : ℕ) → length s ≡ k → at + k ≤ length d₀ → 0 < i
+    → Backward d₀ at s k i d → v ≡ getD s (i - 1) 0 → Backward d₀ at s k (i - 1) (set d (at + (i - 1)) v)
 backward-turn d₀ at s k i d v e h l f g =
     record {
       few = omega arith;

@@ -41,11 +41,14 @@ module _ (d : List ℕ) (at : ℕ) (s ys : List ℕ) (b : Bool) (fits : at + len
       copied ∙ e
 
 -- behind what was written at the front
-pub copied-behind : (room first s w ys : List ℕ) (b : Bool) → length first + length s ≤ length room → every isOctet s ≡ true → w ≡ atFront first room → Stores (leb (length first + length s) (length w)) (put w (length first) s) w b ys → ys ≡ atFront (first ++ s) room
+pub copied-behind : (room first s w ys : List ℕ) (b : Bool) → length first + length s ≤ length room → every isOctet s ≡ true
+    → w ≡ atFront first room → Stores (leb (length first + length s) (length w)) (put w (length first) s) w b ys
+    → ys ≡ atFront (first ++ s) room
 copied-behind room first s w ys b h o e c =
     let l : length w ≡ length room = ap (λ (t : List ℕ). length t) e ∙ written-length room first (omega arith) in
     copied w (length first) s ys b (omega arith) c ∙ rw e (put-behind room first s o)
 
 -- at the front
-pub copied-front : (room s ys : List ℕ) (b : Bool) → length s ≤ length room → every isOctet s ≡ true → Stores (leb (0 + length s) (length room)) (put room 0 s) room b ys → ys ≡ atFront s room
+pub copied-front : (room s ys : List ℕ) (b : Bool) → length s ≤ length room → every isOctet s ≡ true
+    → Stores (leb (0 + length s) (length room)) (put room 0 s) room b ys → ys ≡ atFront s room
 copied-front room s ys b h o c = copied-behind room [] s room ys b (omega arith) o refl c

@@ -58,7 +58,8 @@ module _ (d : List ℕ) (n from old : ℕ) (new : List ℕ) (fit : Fitting d n f
   length-message = simp length-append (omega (arith, length-front, length-tail))
 
   -- an octet stored before them
-  pub set-spliced : (i v : ℕ) → i < from → set (spliced d n from old new) i v ≡ holding d n (set (take from d) i v ++ (new ++ drop (from + old) (take n d)))
+  pub set-spliced : (i v : ℕ) → i < from
+      → set (spliced d n from old new) i v ≡ holding d n (set (take from d) i v ++ (new ++ drop (from + old) (take n d)))
   unfolding spliced
   set-spliced i v h =
       let t = new ++ drop (from + old) (take n d) in

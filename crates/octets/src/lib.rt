@@ -116,7 +116,8 @@ pub fn copy_in(d: &mut [u8], at: usize, s: &[u8]) -> bool
     }
 }
 
-// Replaces octets of the message in the first n octets of d: the tail is moved, the new octets are written, and what the message left is cleared.
+// Replaces octets of the message in the first n octets of d: the tail is moved, the new octets are written, and what the message left is
+// cleared.
 fn splice_fitting(d: &mut [u8], n: usize, from: usize, old: usize, new: &[u8])
     requires { ⌜ Fitting (now d) n from old (now new) ⌝ }
     ensures { λ _. ⌜ now (d .exit) ≡ spliced (now (d .entry)) n from old (now (new .entry)) ⌝ }
@@ -130,7 +131,8 @@ fn splice_fitting(d: &mut [u8], n: usize, from: usize, old: usize, new: &[u8])
     clear_fitting(d, end, minus(n, end));
 }
 
-// Replaces the old octets from index from on of the message in the first n octets of d by new. Octets from the new end to the old are set to 0.
+// Replaces the old octets from index from on of the message in the first n octets of d by new. Octets from the new end to the old are set
+// to 0.
 pub fn splice(d: &mut [u8], n: usize, from: usize, old: usize, new: &[u8]) -> bool
     ensures { λ r. ⌜ Stores (spliceFits (now (d .entry)) n from old (now (new .entry)))
         (spliced (now (d .entry)) n from old (now (new .entry))) (now (d .entry)) r (now (d .exit)) ⌝ }

@@ -36,12 +36,14 @@ abbrev pub openedValues : ℕ → List ℕ → ℕ → List ℕ → List ℕ
 openedValues h s used vs = valuesWith (itemOf h s) used vs
 
 -- the two cases of a parameter of n values, by a flag that says whether they fit
-pub without-room : (i : Item) (used n : ℕ) (vs : List ℕ) (b : Bool) → length (i .values) ≡ n → b ≡ leb (used + n) 512 → not b ≡ true → (noTransfer ≡ headFor i used) × (vs ≡ valuesWith i used vs)
+pub without-room : (i : Item) (used n : ℕ) (vs : List ℕ) (b : Bool) → length (i .values) ≡ n → b ≡ leb (used + n) 512 → not b ≡ true
+    → (noTransfer ≡ headFor i used) × (vs ≡ valuesWith i used vs)
 without-room i used n vs b e f t =
     let g = sym f ∙ not-true b t in
     (rw (e, g), rw (e, g))
 
-pub with-room : (i : Item) (used n : ℕ) (vs : List ℕ) (b : Bool) → length (i .values) ≡ n → b ≡ leb (used + n) 512 → not b ≡ false → (headOf i ≡ headFor i used) × (sets vs used (i .values) ≡ valuesWith i used vs)
+pub with-room : (i : Item) (used n : ℕ) (vs : List ℕ) (b : Bool) → length (i .values) ≡ n → b ≡ leb (used + n) 512 → not b ≡ false
+    → (headOf i ≡ headFor i used) × (sets vs used (i .values) ≡ valuesWith i used vs)
 with-room i used n vs b e f t =
     let g = sym f ∙ not-false b t in
     (rw (e, g), rw (e, g))

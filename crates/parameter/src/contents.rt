@@ -16,7 +16,18 @@ ghost use Rattle.annex.specs.Promises.{Gives};
 ghost use Rattle.annex.specs.Answers.{soundThen, headerAt};
 ghost use Rattle.annex.specs.declared.Answer.the-variants.{Accepted};
 ghost use Rattle.annex.specs.Heads.{clear};
-ghost use Rattle.annex.specs.Contents.{formedThen, formed as formedOf, numberFault, callingFault, genericFault, dialledFault, twoFault, checkFault, faultBy, faultOf};
+ghost use Rattle.annex.specs.Contents.{
+  formedThen,
+  formed as formedOf,
+  numberFault,
+  callingFault,
+  genericFault,
+  dialledFault,
+  twoFault,
+  checkFault,
+  faultBy,
+  faultOf,
+};
 
 // Sound, or bad form.
 fn formed(good: bool) -> Fault

@@ -30,14 +30,16 @@ pub record Filling (m : List ℕ) (q : Record) (transfers used i : ℕ) : Type 0
   pub values : used + length (valuesOf (itemsIn (partsLeft m i))) ≤ 512
   pub sound : Each InnerSound (parsAt m i)
 
-pub filling-start : (m : List ℕ) (n : ℕ) → every isOctet m ≡ true → verdictOf m ≡ Accepted n → (q : Record) → q ≡ emptyRecord → Filling m q 0 0 0
+pub filling-start : (m : List ℕ) (n : ℕ) → every isOctet m ≡ true → verdictOf m ≡ Accepted n → (q : Record) → q ≡ emptyRecord
+    → Filling m q 0 0 0
 unfolding recordBy
 filling-start m n o v q e =
     let w = read-within m o n v in
     let p : commonsOf m ≡ parsAt m 0 = commons-plain faultOf m n v in
     let r : recordOf m ≡ partsLeft m 0 = ap (λ (qs : List Par). map openCommon (withoutEnd qs)) p in
     rw e (record {
-      becomes = sym (filled-whole (recordOf m) (w .commons) (w .transfers) (w .values)) ∙ ap (λ (ps : List Part). withParts emptyRecord ps 0 0) r;
+      becomes =
+          sym (filled-whole (recordOf m) (w .commons) (w .transfers) (w .values)) ∙ ap (λ (ps : List Part). withParts emptyRecord ps 0 0) r;
       commons = omega (arith, rw r at (w .commons));
       places = omega (arith, rw r at (w .transfers));
       values = omega (arith, rw r at (w .values));

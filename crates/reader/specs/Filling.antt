@@ -42,16 +42,27 @@ pub items-more : {t : List ℕ} {i s x : ℕ} → Whole extentOf t i s x
 items-more w = rw (w .next, w .contents)
 
 -- the struct with one parameter put in
-pub filled-turn : (q : Record) (x : Item) (is : List Item) (k used : ℕ) → filledWith q (x ∷ is) k used ≡ filledWith (record { commons = q .commons; common = q .common; transfer = set (q .transfer) k (headOf x); values = sets (q .values) used (x .values) }) is (k + 1) (used + length (x .values))
+pub filled-turn : (q : Record) (x : Item) (is : List Item) (k used : ℕ)
+    → filledWith q (x ∷ is) k used
+    ≡ filledWith
+    (record {
+      commons = q .commons;
+      common = q .common;
+      transfer = set (q .transfer) k (headOf x);
+      values = sets (q .values) used (x .values);
+    }) is
+    (k + 1) (used + length (x .values))
 unfolding valuesOf
 filled-turn q x is k used =
     let held = items-turn q x is k used in
     let ek : k + suc (length is) ≡ k + 1 + length is = omega arith in
-    let eu : used + length (x .values ++ valuesOf is) ≡ used + length (x .values) + length (valuesOf is) = omega (arith, length-append (x .values) (valuesOf is)) in
+    let eu : used + length (x .values ++ valuesOf is) ≡ used + length (x .values) + length (valuesOf is) =
+    omega (arith, length-append (x .values) (valuesOf is)) in
     λ j. record { held = held j; transfers = ek j; used = eu j }
 
 -- nothing more to put in
-pub filled-end : (q : Record) (is : List Item) (k used : ℕ) → is ≡ [] → filledWith q is k used ≡ record { held = q; transfers = k; used = used }
+pub filled-end : (q : Record) (is : List Item) (k used : ℕ) → is ≡ []
+    → filledWith q is k used ≡ record { held = q; transfers = k; used = used }
 unfolding valuesOf
 filled-end q is k used e =
     let ek : k + 0 ≡ k = omega arith in
@@ -84,7 +95,9 @@ module _ {m : List ℕ} {i s x : ℕ} (w : Whole commonExtentOf m i s x) where
 pub data-items : (q : Par) → q .head ≡ transfer-data → InnerSound q → openCommon q .items ≡ itemsFrom (dataIn q)
 unfolding InnerSound
 data-items q e s =
-    items-opened q ∙ rw (eq-eqb (q .head) transfer-data e) (ap (λ (l : List Par). map openTransfer l) (transfers-plain faultOf (dataIn q) (s e .0) (s e .1)))
+    items-opened q
+    ∙ rw (eq-eqb (q .head) transfer-data e)
+    (ap (λ (l : List Par). map openTransfer l) (transfers-plain faultOf (dataIn q) (s e .0) (s e .1)))
 
 pub other-items : (q : Par) → (q .head ≡ transfer-data → ⊥) → openCommon q .items ≡ []
 other-items q u = items-opened q ∙ rw (ne-eqb (q .head) transfer-data u)

@@ -9,7 +9,18 @@ use borrow.Author.Tests.{ltb-true, ltb-false, eq-eqb, ne-eqb, eqb-true, eqb-fals
 use lib.Dec.{eqb, ltb}
 use lib.ListN.{length, length-append}
 use Rattle.annex.specs.Answers.{unlisted, repeated, not-allowed, missing, bad-form, transfer-over, refuse, andThen}
-use Rattle.annex.specs.Heads.{among, commonHeaders, user-class, signal-kind, signalKinds, sequence, transfer-data, isCall, call-number-below, most-transfer-octets}
+use Rattle.annex.specs.Heads.{
+  among,
+  commonHeaders,
+  user-class,
+  signal-kind,
+  signalKinds,
+  sequence,
+  transfer-data,
+  isCall,
+  call-number-below,
+  most-transfer-octets,
+}
 use Rattle.annex.specs.Items.{Item, Part}
 use Rattle.annex.specs.Layout.{layoutItems, layoutPart}
 use Rattle.annex.specs.Allowed.{every, isOctet, valueRight, valueFits}
@@ -34,7 +45,8 @@ placedAt p (Accepted n) = Accepted n
 placedAt p (Refused k q) = Refused k p
 
 -- a parameter with the header h, judged at place 0, first among those from the place p on
-module _ (seen : Seen) (p h : ℕ) (i : Item) (is : List Item) (a : Answer) (same : i .header ≡ h) (e : itemWriting (timesSeen seen h) 0 i ≡ a) where
+module _ (seen : Seen) (p h : ℕ) (i : Item) (is : List Item) (a : Answer) (same : i .header ≡ h)
+    (e : itemWriting (timesSeen seen h) 0 i ≡ a) where
   told : itemsWriting seen p (i ∷ is) ≡ andThen (farther p a) (λ q. itemsWriting (counted seen h) q is)
   unfolding itemsWriting
   told =
@@ -127,17 +139,24 @@ headThen times p c a =
 abbrev pub partHeadWriting : ℕ → ℕ → Common → Answer
 partHeadWriting times p c = headThen times p c (Accepted (p + headLength (c .header)))
 
-part-checked : (times p : ℕ) (c : Common) (is : List Item) → partWriting times p (partFrom c is) ≡ headThen times p c (cond (eqb (c .header) transfer-data) (dataWriting p is) (Accepted (p + headLength (c .header))))
+part-checked : (times p : ℕ) (c : Common) (is : List Item)
+    → partWriting times p (partFrom c is)
+    ≡ headThen times p c (cond (eqb (c .header) transfer-data) (dataWriting p is) (Accepted (p + headLength (c .header))))
 unfolding partWriting
 part-checked times p c is =
     rw (part-right c is, part-fits c is, part-header c is) (ap (headThen times p c) (go (eqb (c .header) transfer-data) refl))
   where
-    go : (b : Bool) → eqb (c .header) transfer-data ≡ b → cond b (dataWriting p (partFrom c is .items)) (Accepted (p + length (layoutPart (partFrom c is)))) ≡ cond b (dataWriting p is) (Accepted (p + headLength (c .header)))
+    go : (b : Bool) → eqb (c .header) transfer-data ≡ b
+        → cond b (dataWriting p (partFrom c is .items)) (Accepted (p + length (layoutPart (partFrom c is))))
+        ≡ cond b (dataWriting p is) (Accepted (p + headLength (c .header)))
     go true e = rw e
-    go false e = ap (λ n. Accepted (p + n)) (ap (λ (l : List ℕ). length l) (plain-laid c is (eqb-false (c .header) transfer-data e)) ∙ length-head c)
+    go false e =
+        ap (λ n. Accepted (p + n)) (ap (λ (l : List ℕ). length l) (plain-laid c is (eqb-false (c .header) transfer-data e)) ∙ length-head c)
 
 -- a common parameter: first without its transfer parameters, then those of C5
-part-stepped : (times p : ℕ) (c : Common) (is : List Item) → partWriting times p (partFrom c is) ≡ andThen (partHeadWriting times p c) (λ n. cond (eqb (c .header) transfer-data) (dataWriting p is) (Accepted n))
+part-stepped : (times p : ℕ) (c : Common) (is : List Item)
+    → partWriting times p (partFrom c is)
+    ≡ andThen (partHeadWriting times p c) (λ n. cond (eqb (c .header) transfer-data) (dataWriting p is) (Accepted n))
 part-stepped times p c is =
     let f : ℕ → Answer = λ n. cond (eqb (c .header) transfer-data) (dataWriting p is) (Accepted n) in
     let e : andThen (partHeadWriting times p c) f ≡ headThen times p c (f (p + headLength (c .header))) = simp refuse-then in
@@ -158,7 +177,9 @@ part-head-passed times p c n e =
 pub data-passed : (p : ℕ) (is : List Item) (n : ℕ) → dataWriting p is ≡ Accepted n → n ≤ p + 257
 unfolding dataWriting
 data-passed p is n e =
-    let t = then-passed (itemsWriting unseen (p + 2) is) (λ q. refuse (ltb most-transfer-octets (q - (p + 2))) transfer-over p (Accepted q)) n e in
+    let t =
+    then-passed (itemsWriting unseen (p + 2) is)
+    (λ q. refuse (ltb most-transfer-octets (q - (p + 2))) transfer-over p (Accepted q)) n e in
     let o = passed (ltb most-transfer-octets (t .0 - (p + 2))) transfer-over p n (Accepted (t .0)) (t .2) in
     let end : Accepted (t .0) ≡ Accepted n = o .1 in
     let same : t .0 ≡ n = cc in
@@ -166,26 +187,45 @@ data-passed p is n e =
 
 -- a common parameter with these transfer parameters, first among those from the place p on
 module _ (seen : Seen) (p : ℕ) (c : Common) (is : List Item) (ps : List Part) where
-  parts-told : partsWriting seen p (partFrom c is ∷ ps) ≡ andThen (andThen (partHeadWriting (timesSeen seen (c .header)) p c) (λ n. cond (eqb (c .header) transfer-data) (dataWriting p is) (Accepted n))) (λ q. partsWriting (counted seen (c .header)) q ps)
+  parts-told : partsWriting seen p (partFrom c is ∷ ps)
+      ≡ andThen
+      (andThen (partHeadWriting (timesSeen seen (c .header)) p c)
+      (λ n. cond (eqb (c .header) transfer-data) (dataWriting p is) (Accepted n)))
+      (λ q. partsWriting (counted seen (c .header)) q ps)
   unfolding partsWriting
   parts-told =
-      ap (λ (h : ℕ). andThen (partWriting (timesSeen seen h) p (partFrom c is)) (λ q. partsWriting (counted seen h) q ps)) (part-header c is)
-      ∙ ap (λ (x : Answer). andThen x (λ q. partsWriting (counted seen (c .header)) q ps)) (part-stepped (timesSeen seen (c .header)) p c is)
+      ap (λ (h : ℕ). andThen (partWriting (timesSeen seen h) p (partFrom c is)) (λ q. partsWriting (counted seen h) q ps))
+      (part-header c is)
+      ∙ ap (λ (x : Answer). andThen x (λ q. partsWriting (counted seen (c .header)) q ps))
+      (part-stepped (timesSeen seen (c .header)) p c is)
 
-  pub part-head-refused : (k z : ℕ) → partHeadWriting (timesSeen seen (c .header)) p c ≡ Refused k z → partsWriting seen p (partFrom c is ∷ ps) ≡ Refused k z
-  part-head-refused k z e = parts-told ∙ ap (λ (x : Answer). andThen (andThen x (λ n. cond (eqb (c .header) transfer-data) (dataWriting p is) (Accepted n))) (λ q. partsWriting (counted seen (c .header)) q ps)) e
+  pub part-head-refused : (k z : ℕ) → partHeadWriting (timesSeen seen (c .header)) p c ≡ Refused k z
+      → partsWriting seen p (partFrom c is ∷ ps) ≡ Refused k z
+  part-head-refused k z e =
+      parts-told
+      ∙ ap
+      (λ (x : Answer). andThen (andThen x (λ n. cond (eqb (c .header) transfer-data) (dataWriting p is) (Accepted n)))
+      (λ q. partsWriting (counted seen (c .header)) q ps)) e
 
   module _ (n : ℕ) (e : partHeadWriting (timesSeen seen (c .header)) p c ≡ Accepted n) where
-    after-head : partsWriting seen p (partFrom c is ∷ ps) ≡ andThen (cond (eqb (c .header) transfer-data) (dataWriting p is) (Accepted n)) (λ q. partsWriting (counted seen (c .header)) q ps)
-    after-head = parts-told ∙ ap (λ (x : Answer). andThen (andThen x (λ m. cond (eqb (c .header) transfer-data) (dataWriting p is) (Accepted m))) (λ q. partsWriting (counted seen (c .header)) q ps)) e
+    after-head : partsWriting seen p (partFrom c is ∷ ps)
+        ≡ andThen (cond (eqb (c .header) transfer-data) (dataWriting p is) (Accepted n)) (λ q. partsWriting (counted seen (c .header)) q ps)
+    after-head =
+        parts-told
+        ∙ ap
+        (λ (x : Answer). andThen (andThen x (λ m. cond (eqb (c .header) transfer-data) (dataWriting p is) (Accepted m)))
+        (λ q. partsWriting (counted seen (c .header)) q ps)) e
 
-    pub plain-accepted : (c .header ≡ transfer-data → ⊥) → partsWriting seen p (partFrom c is ∷ ps) ≡ partsWriting (counted seen (c .header)) n ps
+    pub plain-accepted : (c .header ≡ transfer-data → ⊥)
+        → partsWriting seen p (partFrom c is ∷ ps) ≡ partsWriting (counted seen (c .header)) n ps
     plain-accepted u = rw (after-head, ne-eqb (c .header) transfer-data u)
 
-    pub data-refused : (k z : ℕ) → c .header ≡ transfer-data → dataWriting p is ≡ Refused k z → partsWriting seen p (partFrom c is ∷ ps) ≡ Refused k z
+    pub data-refused : (k z : ℕ) → c .header ≡ transfer-data → dataWriting p is ≡ Refused k z
+        → partsWriting seen p (partFrom c is ∷ ps) ≡ Refused k z
     data-refused k z h d = rw (after-head, eq-eqb (c .header) transfer-data h, d)
 
-    pub data-accepted : (m : ℕ) → c .header ≡ transfer-data → dataWriting p is ≡ Accepted m → partsWriting seen p (partFrom c is ∷ ps) ≡ partsWriting (counted seen (c .header)) m ps
+    pub data-accepted : (m : ℕ) → c .header ≡ transfer-data → dataWriting p is ≡ Accepted m
+        → partsWriting seen p (partFrom c is ∷ ps) ≡ partsWriting (counted seen (c .header)) m ps
     data-accepted m h d = rw (after-head, eq-eqb (c .header) transfer-data h, d)
 
 -- the end mark: 6 where 01 stood so many times, or 06

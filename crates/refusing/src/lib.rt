@@ -1,5 +1,5 @@
-// What refuses a record: 1 first, then 2, 3, 5 and 8 to 14 in the reader's order, and 6 at the end, each at the place where its octets would
-// stand.
+// What refuses a record: 1 first, then 2, 3, 5 and 8 to 14 in the reader's order, and 6 at the end, each at the place where its octets
+// would stand.
 use annex::Answer;
 use annex::Common;
 use annex::Record;
@@ -60,7 +60,8 @@ fn items_refusal(q: Record, first: usize, n: usize, start: usize) -> Answer
     Answer::Accepted(at)
 }
 
-// C5, its header at the place `at`, its n transfer parameters from index `first` of the array on: their refusals, then 14, or the place behind it.
+// C5, its header at the place `at`, its n transfer parameters from index `first` of the array on: their refusals, then 14, or the place
+// behind it.
 fn data_refusal(q: Record, first: usize, n: usize, at: usize) -> Answer
     requires { ⌜ Within q (first + n) × (at ≤ 4096) ⌝ }
     ensures { λ r. ⌜ r ≡ dataWriting at (itemsAt q first n) ⌝ }

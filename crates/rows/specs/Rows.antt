@@ -47,7 +47,8 @@ filled-more m table i w =
     let r : i < length table = omega (arith, w .roomy) in
     ap (λ (x : Row). set (take i (listed m) ++ drop i table) i x) (row-behind m i t)
     ∙ ap (λ (l : List Row). set (take i (listed m) ++ l) i (getD (listed m) i noRow)) (drop-cons table i noRow r)
-    ∙ set-at (take i (listed m)) (getD table i noRow) (drop (suc i) table) (getD (listed m) i noRow) i (length-take-le i (listed m) (omega arith))
+    ∙ set-at (take i (listed m)) (getD table i noRow) (drop (suc i) table) (getD (listed m) i noRow) i
+    (length-take-le i (listed m) (omega arith))
     ∙ sym (append-snoc (take i (listed m)) (getD (listed m) i noRow) (drop (suc i) table))
     ∙ ap (λ (l : List Row). l ++ drop (suc i) table) (sym (take-suc (listed m) i noRow t))
 
@@ -57,7 +58,8 @@ unfolding filled spansBy tableOf
 filled-all m table = go (verdictOf m) (ltb (length table) (length (rowsOf m))) refl
   where
     go : (a : Answer) (b : Bool) → verdictOf m ≡ a
-        → take (givenOf (spansAfter a b m)) (listed m) ++ drop (givenOf (spansAfter a b m)) table ≡ roomAfter (spansAfter a b m) (rowsOf m) table
+        → take (givenOf (spansAfter a b m)) (listed m) ++ drop (givenOf (spansAfter a b m)) table
+        ≡ roomAfter (spansAfter a b m) (rowsOf m) table
     go (Accepted q) true e = refl
     go (Accepted q) false e = rw (e, take-all (length (rowsOf m)) (rowsOf m) (omega arith))
     go (Refused k p) b e = refl

@@ -77,7 +77,8 @@ pub listing : (m : List ℕ) (room n : ℕ) → spansOf m room ≡ Accepted n �
 unfolding spansBy
 listing m room n e = go (verdictOf m) (ltb room (length (rowsOf m))) refl (ltb-false room (length (rowsOf m))) e
   where
-    go : (a : Answer) (b : Bool) → verdictOf m ≡ a → (b ≡ false → length (rowsOf m) ≤ room) → spansAfter a b m ≡ Accepted n → Listing m room n
+    go : (a : Answer) (b : Bool) → verdictOf m ≡ a → (b ≡ false → length (rowsOf m) ≤ room) → spansAfter a b m ≡ Accepted n
+        → Listing m room n
     go (Accepted q) true f h g = absurd (let z : _≡_ {A = ℕ} 0 1 = cc in omega arith)
     go (Accepted q) false f h g = let c : n ≡ length (rowsOf m) = cc in record { accepts = (q, f); count = c; roomy = h refl }
     go (Refused k p) b f h g = absurd (let z : _≡_ {A = ℕ} 0 1 = cc in omega arith)

@@ -77,7 +77,8 @@ pub record Afterwards (e : Edit) (d : List ℕ) (n k : ℕ) : Type 0 where
   pub rest : (i : ℕ) → k ≤ i → n ≤ i → getD (bufferOf e d n) i 0 ≡ getD d i 0
   pub octets : every isOctet (bufferOf e d n) ≡ true
 
-pub buffer-edited : (e : Edit) (d : List ℕ) (n k : ℕ) → every isOctet d ≡ true → OfOctets e → editingOf e d n ≡ Accepted k → Afterwards e d n k
+pub buffer-edited : (e : Edit) (d : List ℕ) (n k : ℕ) → every isOctet d ≡ true → OfOctets e → editingOf e d n ≡ Accepted k
+    → Afterwards e d n k
 unfolding bufferOf
 buffer-edited e d n k o w a =
     let m = layout (editedIn e d n) in

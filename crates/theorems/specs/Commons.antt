@@ -9,7 +9,20 @@ use borrow.Author.Tests.{ltb-true, lt-ltb, leb-true, eqb-true}
 use lib.Dec.{eqb}
 use lib.ListN.{length, getD, drop}
 use Rattle.annex.specs.Units.{nameOf, afterOf, leadOf, commonExtentOf, contentsIn}
-use Rattle.annex.specs.Heads.{among, user-class, partners-call, own-call, sequence, signal-kind, transfer-data, isCall, commonHeaders, signalKinds, call-number-below, most-transfer-octets}
+use Rattle.annex.specs.Heads.{
+  among,
+  user-class,
+  partners-call,
+  own-call,
+  sequence,
+  signal-kind,
+  transfer-data,
+  isCall,
+  commonHeaders,
+  signalKinds,
+  call-number-below,
+  most-transfer-octets,
+}
 use Rattle.annex.specs.Items.{Item, Part, valuePart, dataPart}
 use Rattle.annex.specs.Layout.{layoutItems, layoutPart, callOctets, dataOctets}
 use Rattle.annex.specs.Allowed.{every, isOctet, HeldItem, HeldPart, valueRight, valueFits}
@@ -125,7 +138,8 @@ pub record PartRead (h : ℕ) (own : List ℕ) (p : Part) : Type 0 where
   pub laid : layoutPart p ≡ h ∷ own
   pub allowed : AllowedPart p
 
-octet-read : (times h : ℕ) (own : List ℕ) → h < 256 → every isOctet own ≡ true → OneOctet h → CommonOwn times h own → length own ≡ 1 → PartRead h own (valuePart h (getD own 0 0))
+octet-read : (times h : ℕ) (own : List ℕ) → h < 256 → every isOctet own ≡ true → OneOctet h → CommonOwn times h own → length own ≡ 1
+    → PartRead h own (valuePart h (getD own 0 0))
 unfolding layoutPart valueRight valueFits octetAllowed
 octet-read times h [] s o k c l = absurd (omega arith)
 octet-read times h (x ∷ y ∷ own) s o k c l = absurd (omega arith)
@@ -157,7 +171,8 @@ upper-octets x n h = omega arith
 last-octet : (w z : ℕ) → w < 65536 → z < 256 → (w + 65536 * z) / 65536 % 256 ≡ z
 last-octet w z h g = let e : (w + 65536 * z) / 65536 ≡ z = omega arith in rw e (omega arith)
 
-call-read : (times h : ℕ) (own : List ℕ) → h < 256 → every isOctet own ≡ true → CallNumber h → CommonOwn times h own → length own ≡ 3 → PartRead h own (valuePart h (callNumber own))
+call-read : (times h : ℕ) (own : List ℕ) → h < 256 → every isOctet own ≡ true → CallNumber h → CommonOwn times h own → length own ≡ 3
+    → PartRead h own (valuePart h (callNumber own))
 unfolding layoutPart valueRight valueFits octetAllowed
 call-read times h [] s o k c l = absurd (omega arith)
 call-read times h (x ∷ []) s o k c l = absurd (omega arith)
@@ -186,7 +201,8 @@ call-read times h (x ∷ y ∷ z ∷ []) s o k c l =
           };
     }
 
-data-read : (times : ℕ) (own : List ℕ) → every isOctet own ≡ true → CommonOwn times transfer-data own → PartRead transfer-data own (dataPart (map openTransfer (transfersOf (contentsIn (commonExtentOf transfer-data) own))))
+data-read : (times : ℕ) (own : List ℕ) → every isOctet own ≡ true → CommonOwn times transfer-data own
+    → PartRead transfer-data own (dataPart (map openTransfer (transfersOf (contentsIn (commonExtentOf transfer-data) own))))
 unfolding layoutPart commonExtentOf afterOf leadOf
 data-read times own o c =
     let s = contentsIn LengthOctet own in
@@ -200,7 +216,8 @@ data-read times own o c =
       allowed = data-allowed is (r .items);
     }
 
-pub part-read : (q : Par) (times : ℕ) → q .head < 256 → every isOctet (q .own) ≡ true → CommonOwn times (q .head) (q .own) → PartRead (q .head) (q .own) (openCommon q)
+pub part-read : (q : Par) (times : ℕ) → q .head < 256 → every isOctet (q .own) ≡ true → CommonOwn times (q .head) (q .own)
+    → PartRead (q .head) (q .own) (openCommon q)
 unfolding openCommonBy afterOf
 part-read q times s o c = go (kind (q .head) (c .listed))
   where

@@ -45,10 +45,12 @@ counted-once seen h u f = go (eqb u (nameOf h)) refl
     go false e = getD-set-other seen (nameOf h) u (timesSeen seen h + 1) 0 (eqb-false u (nameOf h) e) ∙ omega arith
 
 -- a name moves from those to come to those seen
-pub moved : (seen : Seen) (h u : ℕ) (xs : List ℕ) → Full seen → getD (counted seen h) u 0 + timesIn u xs ≡ getD seen u 0 + timesIn u (nameOf h ∷ xs)
+pub moved : (seen : Seen) (h u : ℕ) (xs : List ℕ) → Full seen
+    → getD (counted seen h) u 0 + timesIn u xs ≡ getD seen u 0 + timesIn u (nameOf h ∷ xs)
 moved seen h u xs f = go (eqb u (nameOf h)) (counted-once seen h u f)
   where
-    go : (b : Bool) → getD (counted seen h) u 0 ≡ getD seen u 0 + cond b 1 0 → getD (counted seen h) u 0 + timesIn u xs ≡ getD seen u 0 + cond b (suc (timesIn u xs)) (timesIn u xs)
+    go : (b : Bool) → getD (counted seen h) u 0 ≡ getD seen u 0 + cond b 1 0
+        → getD (counted seen h) u 0 + timesIn u xs ≡ getD seen u 0 + cond b (suc (timesIn u xs)) (timesIn u xs)
     go true e = omega arith
     go false e = omega arith
 
@@ -75,13 +77,18 @@ module _ (often : ℕ → ℕ) (seen : Seen) (h : ℕ) (f : Full seen) where
   pub sparing-more : Sparing often seen [] → timesSeen seen h < often (nameOf h) → Sparing often (counted seen h) []
   sparing-more s l u = go (eqb u (nameOf h)) refl (counted-once seen h u f)
     where
-      go : (b : Bool) → eqb u (nameOf h) ≡ b → getD (counted seen h) u 0 ≡ getD seen u 0 + cond b 1 0 → getD (counted seen h) u 0 + 0 ≤ often u
+      go : (b : Bool) → eqb u (nameOf h) ≡ b → getD (counted seen h) u 0 ≡ getD seen u 0 + cond b 1 0
+          → getD (counted seen h) u 0 + 0 ≤ often u
       go true e q = rw (eqb-true u (nameOf h) e) (omega (arith, rw (eqb-true u (nameOf h) e) at q))
       go false e q = omega (arith, s u)
 
 -- a step that accepts a name only while it was seen less often than it may stand
-pub sparing-trail : (often : ℕ → ℕ) (step : Step) → ((seen : Seen) (h : ℕ) (xs : List ℕ) (n : ℕ) → step seen h xs ≡ Accepted n → timesSeen seen h < often (nameOf h)) → (qs : List Par) (seen : Seen) (p : ℕ) → Full seen → Sparing often seen [] → Trail step seen p qs → Sparing often seen (namesIn qs)
+pub sparing-trail : (often : ℕ → ℕ) (step : Step)
+    → ((seen : Seen) (h : ℕ) (xs : List ℕ) (n : ℕ) → step seen h xs ≡ Accepted n → timesSeen seen h < often (nameOf h))
+    → (qs : List Par) (seen : Seen) (p : ℕ) → Full seen → Sparing often seen [] → Trail step seen p qs → Sparing often seen (namesIn qs)
 sparing-trail often step fewer [] seen p f s t = s
 sparing-trail often step fewer (q ∷ qs) seen p f s t =
     let h = q .head in
-    sparing-cons often seen h f (namesIn qs) (sparing-trail often step fewer qs (counted seen h) _ (full-counted seen h f) (sparing-more often seen h f s (fewer seen h _ _ (t .1))) (t .2))
+    sparing-cons often seen h f (namesIn qs)
+    (sparing-trail often step fewer qs (counted seen h) _ (full-counted seen h f) (sparing-more often seen h f s (fewer seen h _ _ (t .1)))
+    (t .2))

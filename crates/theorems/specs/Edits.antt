@@ -48,7 +48,8 @@ pub new-read : (new : List ℕ) → NewRight new → every isOctet new ≡ true 
 new-read [] r o = absurd (omega (arith, r .some))
 new-read (h ∷ xs) r o =
     let q : Par = record { place = 0; head = h; own = xs } in
-    let own : TransferOwn 0 h xs = record { used = r .used; pli = r .pli; fewer = some-often (nameOf h); long = r .long; sound = r .sound } in
+    let own : TransferOwn 0 h xs =
+    record { used = r .used; pli = r .pli; fewer = some-often (nameOf h); long = r .long; sound = r .sound } in
     let i = item-read q 0 (ltb-true h 256 (and-left (isOctet h) _ o)) (and-right (isOctet h) _ o) own in
     record { header = i .header; laid = i .laid; allowed = i .allowed }
 
@@ -136,7 +137,8 @@ new-each (Removing x which) is r o = tt
 
 -- how often the name u then stands
 module _ (u : ℕ) where
-  names-three : (f o b : List Item) → timesIn u (namesOf (f ++ (o ++ b))) ≡ timesIn u (namesOf f) + (timesIn u (namesOf o) + timesIn u (namesOf b))
+  names-three : (f o b : List Item)
+      → timesIn u (namesOf (f ++ (o ++ b))) ≡ timesIn u (namesOf f) + (timesIn u (namesOf o) + timesIn u (namesOf b))
   names-three f o b = rw (names-append f (o ++ b), names-append o b, times-append, times-append)
 
   -- one of the same name in the place of one
@@ -144,28 +146,43 @@ module _ (u : ℕ) where
   same-times i j e = rw e
 
   -- one more
-  one-more : (x : ℕ) (is : List Item) → timesIn x (namesOf is) < oftenOf x → timesIn u (namesOf is) ≤ oftenOf u → timesIn u (namesOf is) + timesIn u (x ∷ []) ≤ oftenOf u
+  one-more : (x : ℕ) (is : List Item) → timesIn x (namesOf is) < oftenOf x → timesIn u (namesOf is) ≤ oftenOf u
+      → timesIn u (namesOf is) + timesIn u (x ∷ []) ≤ oftenOf u
   one-more x is l a = go (eqb u x) refl
     where
       go : (b : Bool) → eqb u x ≡ b → timesIn u (namesOf is) + cond b 1 0 ≤ oftenOf u
       go true e = let q = eqb-true u x e in rw q (omega arith)
       go false e = omega arith
 
-  items-often : (e : Edit) (is : List Item) → EditRight e is → OfOctets e → timesIn u (namesOf is) ≤ oftenOf u → Changed e is → timesIn u (namesOf (editedItems e is)) ≤ oftenOf u
+  items-often : (e : Edit) (is : List Item) → EditRight e is → OfOctets e → timesIn u (namesOf is) ≤ oftenOf u → Changed e is
+      → timesIn u (namesOf (editedItems e is)) ≤ oftenOf u
   unfolding editedItems
   items-often (Replacing new which) is r o a c =
       let t = c .taken in
       let n : nameOf (newItem new .header) ≡ nameOf (t .one .header) = ap nameOf (new-read new (r .0) o .header) ∙ sym (t .named) in
-      let old : timesIn u (namesOf (c .old)) ≡ timesIn u (namesOf (t .one ∷ [])) = ap (λ (l : List Item). timesIn u (namesOf l)) (t .alone) in
+      let old : timesIn u (namesOf (c .old)) ≡ timesIn u (namesOf (t .one ∷ [])) =
+      ap (λ (l : List Item). timesIn u (namesOf l)) (t .alone) in
       rw (c .becomes)
-      (omega (arith, names-three (c .front) (newItem new ∷ []) (c .back), names-three (c .front) (c .old) (c .back), ap (λ (l : List Item). timesIn u (namesOf l)) (c .was), same-times (newItem new) (t .one) n))
+      (omega (
+        arith,
+        names-three (c .front) (newItem new ∷ []) (c .back),
+        names-three (c .front) (c .old) (c .back),
+        ap (λ (l : List Item). timesIn u (namesOf l)) (c .was),
+        same-times (newItem new) (t .one) n,
+      ))
   items-often (Appending new) is r o a c =
       rw (names-append is (newItem new ∷ []), times-append, new-read new (r .0) o .header) (one-more (nameOf (newHeader new)) is (r .1) a)
   items-often (Removing x which) is r o a c =
       rw (c .becomes)
-      (omega (arith, names-three (c .front) [] (c .back), names-three (c .front) (c .old) (c .back), ap (λ (l : List Item). timesIn u (namesOf l)) (c .was)))
+      (omega (
+        arith,
+        names-three (c .front) [] (c .back),
+        names-three (c .front) (c .old) (c .back),
+        ap (λ (l : List Item). timesIn u (namesOf l)) (c .was),
+      ))
 
-pub items-allowed : (e : Edit) (is : List Item) → AllowedItems is → EditRight e is → OfOctets e → length (layoutItems (editedItems e is)) ≤ most-transfer-octets → AllowedItems (editedItems e is)
+pub items-allowed : (e : Edit) (is : List Item) → AllowedItems is → EditRight e is → OfOctets e
+    → length (layoutItems (editedItems e is)) ≤ most-transfer-octets → AllowedItems (editedItems e is)
 items-allowed e is a r o l =
     let c = changed e is r o in
     let all = rw (c .was) at (a .each) in
@@ -173,7 +190,8 @@ items-allowed e is a r o l =
     record {
       each =
           rw (c .becomes)
-          (each-append AllowedItem (c .front) (newItems e ++ c .back) (each-left AllowedItem (c .front) (c .old ++ c .back) all) (each-append AllowedItem (newItems e) (c .back) (new-each e is r o) behind));
+          (each-append AllowedItem (c .front) (newItems e ++ c .back) (each-left AllowedItem (c .front) (c .old ++ c .back) all)
+          (each-append AllowedItem (newItems e) (c .back) (new-each e is r o) behind));
       often = λ u. items-often u e is r o (a .often u) c;
       few-octets = l;
     }
@@ -187,7 +205,8 @@ plain-edited e [] p = refl
 plain-edited e (q ∷ r) p = rw (p .0) (ap (λ (l : List Part). q ∷ l) (plain-edited e r (p .1)))
 
 -- in a C5 its parameters are
-parted-edited : (e : Edit) (ahead : List Part) (is : List Item) (behind : List Part) → Each Plain ahead → Each Plain behind → edited e (ahead ++ (dataPart is ∷ behind)) ≡ ahead ++ (dataPart (editedItems e is) ∷ behind)
+parted-edited : (e : Edit) (ahead : List Part) (is : List Item) (behind : List Part) → Each Plain ahead → Each Plain behind
+    → edited e (ahead ++ (dataPart is ∷ behind)) ≡ ahead ++ (dataPart (editedItems e is) ∷ behind)
 unfolding edited
 parted-edited e [] is behind a b = ap (λ (l : List Part). dataPart (editedItems e is) ∷ l) (plain-edited e behind b)
 parted-edited e (p ∷ ahead) is behind a b =
@@ -199,7 +218,9 @@ unfolding edited
 headers-kept f e [] = refl
 headers-kept f e (p ∷ r) = go (eqb (p .header) transfer-data) (headers-kept f e r)
   where
-    go : (b : Bool) → map (λ p. f (p .header)) (edited e r) ≡ map (λ p. f (p .header)) r → f (cond b (partWith (editedItems e (p .items)) p) p .header) ∷ map (λ p. f (p .header)) (edited e r) ≡ f (p .header) ∷ map (λ p. f (p .header)) r
+    go : (b : Bool) → map (λ p. f (p .header)) (edited e r) ≡ map (λ p. f (p .header)) r
+        → f (cond b (partWith (editedItems e (p .items)) p) p .header) ∷ map (λ p. f (p .header)) (edited e r)
+        ≡ f (p .header) ∷ map (λ p. f (p .header)) r
     go true ih = ap (λ (l : List ℕ). f (p .header) ∷ l) ih
     go false ih = ap (λ (l : List ℕ). f (p .header) ∷ l) ih
 
@@ -222,20 +243,23 @@ module _ (e : Edit) (r : List Part) (a : Allowed r) (d : Parted r) where
         plain-behind = d .plain-behind;
       }
 
-  pub record-allowed : EditRight e (itemsIn r) → OfOctets e → length (layoutItems (itemsIn (edited e r))) ≤ most-transfer-octets → Allowed (edited e r)
+  pub record-allowed : EditRight e (itemsIn r) → OfOctets e → length (layoutItems (itemsIn (edited e r))) ≤ most-transfer-octets
+      → Allowed (edited e r)
   record-allowed w o l =
       let is = editedItems e (itemsIn r) in
       let items = items-allowed e (itemsIn r) (allowed-items r a) w o (rw items-edited at l) in
       let all = rw (d .whole) at (allowed-parts r a) in
       let ahead = each-left AllowedPart (d .ahead) (dataPart (itemsIn r) ∷ d .behind) all in
       let behind = each-right AllowedPart (d .ahead) (dataPart (itemsIn r) ∷ d .behind) all .1 in
-      let each : Each AllowedPart (edited e r) = rw record-edited (each-append AllowedPart (d .ahead) (dataPart is ∷ d .behind) ahead (data-allowed is items, behind)) in
+      let each : Each AllowedPart (edited e r) =
+      rw record-edited (each-append AllowedPart (d .ahead) (dataPart is ∷ d .behind) ahead (data-allowed is items, behind)) in
       let once : Once (edited e r) = λ u. rw (headers-kept nameOf e r) (allowed-once r a u) in
       allowed (edited e r) each once (rw (headers-kept (λ h. h) e r) (a .has-class)) (rw (headers-kept (λ h. h) e r) (a .has-kind))
 
 -- ---- the message in a buffer
 
-pub message-allowed : (d : List ℕ) (n k : ℕ) → every isOctet d ≡ true → verdictOf (take n d) ≡ Accepted k → Allowed (recordOf (take n d)) × (layout (recordOf (take n d)) ≡ take n d)
+pub message-allowed : (d : List ℕ) (n k : ℕ) → every isOctet d ≡ true → verdictOf (take n d) ≡ Accepted k
+    → Allowed (recordOf (take n d)) × (layout (recordOf (take n d)) ≡ take n d)
 message-allowed d n k o v = let w = read-then-laid (take n d) (every-take isOctet n d o) k v in (w .1, w .2)
 
 pub edit-allowed : (e : Edit) (d : List ℕ) (n : ℕ) → every isOctet d ≡ true → OfOctets e → NoReason e d n → Allowed (editedIn e d n)
@@ -244,5 +268,6 @@ edit-allowed e d n o w f =
     let a = message-allowed d n n o (f .message) .0 in
     record-allowed e r a (one-data r a (f .has-data)) (f .right) w (f .few-octets)
 
-pub edited-allowed : (e : Edit) (d : List ℕ) (n k : ℕ) → every isOctet d ≡ true → OfOctets e → editingOf e d n ≡ Accepted k → Allowed (editedIn e d n) × (k ≡ length (layout (editedIn e d n)))
+pub edited-allowed : (e : Edit) (d : List ℕ) (n k : ℕ) → every isOctet d ≡ true → OfOctets e → editingOf e d n ≡ Accepted k
+    → Allowed (editedIn e d n) × (k ≡ length (layout (editedIn e d n)))
 edited-allowed e d n k o w a = let t = edit-taken e d n k a in (edit-allowed e d n o w (t .0), t .1)

@@ -1,5 +1,5 @@
--- Demand 3: finding a replaced or appended parameter afterwards gives the new contents. In the edited record it stands behind as many of its
--- name as the edit says, and what is found there is what it was laid out to.
+-- Demand 3: finding a replaced or appended parameter afterwards gives the new contents. In the edited record it stands behind as many of
+-- its name as the edit says, and what is found there is what it was laid out to.
 use Prim.Native.Nat.{ℕ, _+_}
 use native.Mathlib.Omega.{arith}
 use mathlib.Core.Path.{_≡_, refl, sym, ap, _∙_}
@@ -31,7 +31,8 @@ use Rattle.theorems.specs.Undone.{timesOf, none-before}
 -- ---- in any allowed record
 
 -- a stretch that starts j octets into xs and ends with it
-stretch : (before xs rest : List ℕ) (j : ℕ) → foundPart (before ++ (xs ++ rest)) (At (length before + j) (length before + length xs)) ≡ drop j xs
+stretch : (before xs rest : List ℕ) (j : ℕ)
+    → foundPart (before ++ (xs ++ rest)) (At (length before + j) (length before + length xs)) ≡ drop j xs
 stretch before xs rest j =
     from-to (length before + j) (length before + length xs) (before ++ (xs ++ rest))
     ∙ rw (take-append-add before (xs ++ rest) (length xs), take-append-seam xs rest) (drop-append-add before xs j)
@@ -50,7 +51,8 @@ contents-found r a d x which front one back w n b =
     let long : length p ≡ s = simp length-append (omega arith) in
     let start : s + 1 + lead ≡ length p + (1 + lead) = omega arith in
     let whole : layout r ≡ p ++ (xs ++ rest) = rw (append-assoc, ← layout-one one) (layout-with r d front (one ∷ []) back w) in
-    let found : findPart (layout r) (transferFound x which (layout r)) ≡ foundPart (layout r) (At (s + 1 + lead) (s + length xs)) = rw (laid-then-read r a .0, transfer-found r a d x which front one back w n b) in
+    let found : findPart (layout r) (transferFound x which (layout r)) ≡ foundPart (layout r) (At (s + 1 + lead) (s + length xs)) =
+    rw (laid-then-read r a .0, transfer-found r a d x which front one back w n b) in
     found ∙ rw (whole, start, ← long) (stretch p xs rest (1 + lead)) ∙ sym (drop-drop lead 1 xs)
 
 -- ---- after an edit
@@ -59,7 +61,8 @@ module _ (new d : List ℕ) (n k : ℕ) (o : every isOctet d ≡ true) (p : ever
   -- where these stand in front of the new parameter in the edited record
   new-found : (e : Edit) → OfOctets e → editingOf e d n ≡ Accepted k → NewRight new → (which : ℕ) (front back : List Item)
       → editedItems e (itemsIn (recordOf (take n d))) ≡ front ++ (newItem new ∷ back) → timesOf new front ≡ which
-      → findPart (take k (bufferOf e d n)) (transferFound (nameOf (newHeader new)) which (take k (bufferOf e d n))) ≡ contentsIn (extentOf (newHeader new)) (newAfter new)
+      → findPart (take k (bufferOf e d n)) (transferFound (nameOf (newHeader new)) which (take k (bufferOf e d n)))
+      ≡ contentsIn (extentOf (newHeader new)) (newAfter new)
   new-found e q a w which front back c b =
       let x = nameOf (newHeader new) in
       let r = recordOf (take n d) in
@@ -67,11 +70,15 @@ module _ (new d : List ℕ) (n k : ℕ) (o : every isOctet d ≡ true) (p : ever
       let m = message-allowed d n n o (t .message) .0 in
       let parted = one-data r m (t .has-data) in
       let i = new-read new w p in
-      let f = contents-found (edited e r) (edited-allowed e d n k o q a .0) (data-edited e r m parted) x which front (newItem new) back (items-edited e r m parted ∙ c) (ap nameOf (i .header)) b in
+      let f =
+      contents-found (edited e r) (edited-allowed e d n k o q a .0) (data-edited e r m parted) x which front (newItem new) back
+      (items-edited e r m parted ∙ c) (ap nameOf (i .header)) b in
       rw (buffer-edited e d n k o q a .message) (rw (i .laid, i .header) at f)
 
   pub replaced-found : (which : ℕ) → editingOf (Replacing new which) d n ≡ Accepted k
-      → findPart (take k (bufferOf (Replacing new which) d n)) (transferFound (nameOf (newHeader new)) which (take k (bufferOf (Replacing new which) d n))) ≡ contentsIn (extentOf (newHeader new)) (newAfter new)
+      → findPart (take k (bufferOf (Replacing new which) d n))
+      (transferFound (nameOf (newHeader new)) which (take k (bufferOf (Replacing new which) d n)))
+      ≡ contentsIn (extentOf (newHeader new)) (newAfter new)
   replaced-found which a =
       let e = Replacing new which in
       let right = edit-taken e d n k a .0 .right in
@@ -80,7 +87,9 @@ module _ (new d : List ℕ) (n k : ℕ) (o : every isOctet d ≡ true) (p : ever
 
   -- it is the last of its name, behind as many as stood there before
   pub appended-found : editingOf (Appending new) d n ≡ Accepted k
-      → findPart (take k (bufferOf (Appending new) d n)) (transferFound (nameOf (newHeader new)) (timesOf new (itemsIn (recordOf (take n d)))) (take k (bufferOf (Appending new) d n))) ≡ contentsIn (extentOf (newHeader new)) (newAfter new)
+      → findPart (take k (bufferOf (Appending new) d n))
+      (transferFound (nameOf (newHeader new)) (timesOf new (itemsIn (recordOf (take n d)))) (take k (bufferOf (Appending new) d n)))
+      ≡ contentsIn (extentOf (newHeader new)) (newAfter new)
   unfolding editedItems
   appended-found a =
       let is = itemsIn (recordOf (take n d)) in

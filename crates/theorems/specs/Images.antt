@@ -14,7 +14,22 @@ use Rattle.annex.specs.Items.{Item, Part, markedItem, part, valuePart, dataPart
 use Rattle.annex.specs.Allowed.{Each, every, isOctet, itemsIn, valueRight, valueFits, Allowed}
 use Rattle.annex.specs.Reading.{octetAllowed, verdictOf, recordOf}
 use Rattle.annex.specs.Records.{valuesOf, pack, view, readingOf}
-use Rattle.annex.specs.Image.{imageItem, imageItems, imagePart, imageParts, imageOf, itemFront, itemSize, itemsFront, commonFront, partFront, partsFront, noImage, isWithin, imagedOf}
+use Rattle.annex.specs.Image.{
+  imageItem,
+  imageItems,
+  imagePart,
+  imageParts,
+  imageOf,
+  itemFront,
+  itemSize,
+  itemsFront,
+  commonFront,
+  partFront,
+  partsFront,
+  noImage,
+  isWithin,
+  imagedOf,
+}
 use Rattle.annex.specs.Image.Front.{Taken}
 use Rattle.annex.specs.declared.Answer.the-variants.{Accepted}
 use Rattle.theorems.specs.Lists.{each-left, each-right, each-so}
@@ -52,7 +67,15 @@ items-back (i ∷ is) t h =
     let u = imageItems is ++ t in
     let b = item-back i u (h .0) in
     let l : length m ≤ length (m ++ u) = rw (length-append m u) (omega arith) in
-    rw (append-assoc m (imageItems is) t, b .size, le-leb (length m) (length (m ++ u)) l, b .back, drop-append-seam m u, items-back is t (h .1), length-append m (imageItems is))
+    rw (
+      append-assoc m (imageItems is) t,
+      b .size,
+      le-leb (length m) (length (m ++ u)) l,
+      b .back,
+      drop-append-seam m u,
+      items-back is t (h .1),
+      length-append m (imageItems is),
+    )
 
 -- ---- a common parameter
 
@@ -76,7 +99,8 @@ four-back v l =
 -- read from the front of octets
 record PartBack (p : Part) (t : List ℕ) : Type 0 where
   long : leb 6 (length (imagePart p ++ t)) ≡ true
-  items : itemsFront (commonFront (imagePart p ++ t) .transfers) (drop 6 (imagePart p ++ t)) ≡ Taken (p .items) (length (imageItems (p .items)))
+  items : itemsFront (commonFront (imagePart p ++ t) .transfers) (drop 6 (imagePart p ++ t))
+      ≡ Taken (p .items) (length (imageItems (p .items)))
   back : partFront (imagePart p ++ t) (p .items) ≡ p
   size : 6 + length (imageItems (p .items)) ≡ length (imagePart p)
 
@@ -94,14 +118,24 @@ part-back p t h f =
     told true e = refl
     told false e = rw (h .plain e)
 
-parts-back : (r : List Part) (t : List ℕ) → Each Imageable r → Each Few (itemsIn r) → partsFront (length r) (imageParts r ++ t) ≡ Taken r (length (imageParts r))
+parts-back : (r : List Part) (t : List ℕ) → Each Imageable r → Each Few (itemsIn r)
+    → partsFront (length r) (imageParts r ++ t) ≡ Taken r (length (imageParts r))
 unfolding partsFront imageParts
 parts-back [] t h f = refl
 parts-back (p ∷ r) t h f =
     let m = imagePart p in
     let u = imageParts r ++ t in
     let b = part-back p u (h .0) (each-left Few (p .items) (itemsIn r) f) in
-    rw (append-assoc m (imageParts r) t, b .long, b .items, b .back, b .size, drop-append-seam m u, parts-back r t (h .1) (each-right Few (p .items) (itemsIn r) f), length-append m (imageParts r))
+    rw (
+      append-assoc m (imageParts r) t,
+      b .long,
+      b .items,
+      b .back,
+      b .size,
+      drop-append-seam m u,
+      parts-back r t (h .1) (each-right Few (p .items) (itemsIn r) f),
+      length-append m (imageParts r),
+    )
 
 -- ---- a record
 
@@ -114,12 +148,21 @@ few-values (i ∷ is) h =
     (omega arith, few-values is (omega arith))
 
 -- the image of a record within the limits gives the record
-pub image-back : (r : List Part) → Within r → Each Imageable r → imagedOf (imageOf r) ≡ record { answer = Accepted (length r); held = pack r }
+pub image-back : (r : List Part) → Within r → Each Imageable r
+    → imagedOf (imageOf r) ≡ record { answer = Accepted (length r); held = pack r }
 unfolding imageOf imagedOf isWithin
 image-back r w h =
     let n = length (imageParts r) in
-    let e : partsFront (length r) (imageParts r) ≡ Taken r n = ap (λ (s : List ℕ). partsFront (length r) s) (sym (append-nil (imageParts r))) ∙ parts-back r [] h (few-values (itemsIn r) (w .values)) in
-    rw (e, eq-eqb n n refl, le-leb (length r) most-commons (w .commons), le-leb (length (itemsIn r)) most-transfers (w .transfers), le-leb (length (valuesOf (itemsIn r))) 512 (w .values))
+    let e : partsFront (length r) (imageParts r) ≡ Taken r n =
+    ap (λ (s : List ℕ). partsFront (length r) s) (sym (append-nil (imageParts r)))
+    ∙ parts-back r [] h (few-values (itemsIn r) (w .values)) in
+    rw (
+      e,
+      eq-eqb n n refl,
+      le-leb (length r) most-commons (w .commons),
+      le-leb (length (itemsIn r)) most-transfers (w .transfers),
+      le-leb (length (valuesOf (itemsIn r))) 512 (w .values),
+    )
 
 -- ---- an allowed record
 

@@ -13,7 +13,21 @@ use Rattle.annex.specs.Items.{Part}
 use Rattle.annex.specs.Layout.{layoutPart, layout}
 use Rattle.annex.specs.Allowed.{every, Each, timesIn, isOctet, partNamesOf, Allowed}
 use Rattle.annex.specs.Walk.{Seen, unseen, timesSeen, counted, Par, judging, listing}
-use Rattle.annex.specs.Reading.{wholeIn, commonStep, commonClose, messageVerdict, verdictOf, commonsOf, openCommon, withoutEnd, recordOf, messageVerdictBy, verdictBy, commonsBy, recordBy}
+use Rattle.annex.specs.Reading.{
+  wholeIn,
+  commonStep,
+  commonClose,
+  messageVerdict,
+  verdictOf,
+  commonsOf,
+  openCommon,
+  withoutEnd,
+  recordOf,
+  messageVerdictBy,
+  verdictBy,
+  commonsBy,
+  recordBy,
+}
 use Rattle.annex.specs.declared.Answer.the-variants.{Accepted}
 use Rattle.laws.specs.Bools.{and-both}
 use Rattle.laws.specs.Members.{sumOf}
@@ -41,7 +55,8 @@ each-octets : (r : List Part) → Each AllowedPart r → Each Built r → every 
 unfolding layout
 each-octets [] a b = refl
 each-octets (p ∷ r) a b =
-    let one : every isOctet (layoutPart p) ≡ true = rw (b .0 .laid) (and-both (isOctet (p .header)) _ (lt-ltb (p .header) 256 (a .0 .held .octet)) (b .0 .octets)) in
+    let one : every isOctet (layoutPart p) ≡ true =
+    rw (b .0 .laid) (and-both (isOctet (p .header)) _ (lt-ltb (p .header) 256 (a .0 .held .octet)) (b .0 .octets)) in
     every-append isOctet (layoutPart p) (layout r) one (each-octets r (a .1) (b .1))
 
 -- each common parameter at its longest, once, and the end mark: 272
@@ -90,14 +105,20 @@ end-stands seen s =
     let none : timesSeen seen end-mark ≡ 0 = omega (arith, s .no-end) in
     rw (standing-whole seen s, none) end-accepts
 
-each-trail : (r : List Part) (seen : Seen) (at : ℕ) → Each Built r → Full seen → Standing seen (partNamesOf r) → Trail commonStep seen at (partPars at r)
+each-trail : (r : List Part) (seen : Seen) (at : ℕ) → Each Built r → Full seen → Standing seen (partNamesOf r)
+    → Trail commonStep seen at (partPars at r)
 unfolding partPars laidOut
 each-trail [] seen at b f s = (refl, end-stands seen s, tt)
 each-trail (p ∷ r) seen at b f s =
     let h = p .header in
     let new : timesSeen seen h ≡ 0 = omega (arith, sparing-first (λ x. 1) seen h f (partNamesOf r) (s .once)) in
-    let own : CommonOwn (timesSeen seen h) h (drop 1 (layoutPart p)) = rw new (b .0 .accepted) in
-    (refl, common-accepts (timesSeen seen h) (wholeIn seen) h (drop 1 (layoutPart p)) (laidOut (partPars (at + 1 + length (partPar at p .own)) r)) own, each-trail r (counted seen h) (at + 1 + length (partPar at p .own)) (b .1) (full-counted seen h f) (standing-rest seen h (partNamesOf r) f s))
+    let own : CommonOwn (timesSeen seen h) h (drop 1 (layoutPart p)) = rw new (b .0 .accepted) in (
+      refl,
+      common-accepts (timesSeen seen h) (wholeIn seen) h (drop 1 (layoutPart p))
+          (laidOut (partPars (at + 1 + length (partPar at p .own)) r)) own,
+      each-trail r (counted seen h) (at + 1 + length (partPar at p .own)) (b .1) (full-counted seen h f)
+          (standing-rest seen h (partNamesOf r) f s),
+    )
 
 end-named : (r : List Part) (at : ℕ) → 0 < timesIn (nameOf end-mark) (namesIn (partPars at r))
 unfolding partPars
@@ -137,14 +158,16 @@ message-built r t =
     let qs = partPars 0 r in
     let end : 0 + length (layout r) ≡ length (layout r) = omega arith in
     rw (← end, ← pars-laid r 0)
-    (built (judging commonStep commonClose) qs unseen 0 t ∙ made-answer commonStep commonClose qs unseen 0 ∙ closing r (0 + length (laidOut qs)))
+    (built (judging commonStep commonClose) qs unseen 0 t ∙ made-answer commonStep commonClose qs unseen 0
+    ∙ closing r (0 + length (laidOut qs)))
 
 layout-some : (r : List Part) → 1 ≤ length (layout r)
 unfolding layout
 layout-some [] = omega arith
 layout-some (p ∷ r) = simp length-append (omega (arith, layout-some r))
 
-verdict-built : (r : List Part) → Trail commonStep unseen 0 (partPars 0 r) → length (layout r) ≤ most-octets → verdictOf (layout r) ≡ Accepted (length (layout r))
+verdict-built : (r : List Part) → Trail commonStep unseen 0 (partPars 0 r) → length (layout r) ≤ most-octets
+    → verdictOf (layout r) ≡ Accepted (length (layout r))
 unfolding verdictBy
 verdict-built r t l =
     let some = layout-some r in
@@ -170,7 +193,9 @@ trail-built r a = each-trail r unseen 0 (all-built r a) full-unseen (standing r 
 pub laid-then-listed : (r : List Part) → Allowed r → commonsOf (layout r) ≡ partPars 0 r
 laid-then-listed r a = commons-built r (trail-built r a)
 
-pub laid-then-read : (r : List Part) → Allowed r → (verdictOf (layout r) ≡ Accepted (length (layout r))) × (recordOf (layout r) ≡ r) × (every isOctet (layout r) ≡ true) × (length (layout r) ≤ most-octets)
+pub laid-then-read : (r : List Part) → Allowed r
+    → (verdictOf (layout r) ≡ Accepted (length (layout r))) × (recordOf (layout r) ≡ r) × (every isOctet (layout r) ≡ true)
+    × (length (layout r) ≤ most-octets)
 laid-then-read r a =
     let p = allowed-parts r a in
     let b = all-built r a in

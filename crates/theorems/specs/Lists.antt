@@ -73,7 +73,8 @@ pub each-so : {A : Type 0} (P Q : A → Type 0) → ((x : A) → P x → Q x) �
 each-so P Q h [] p = tt
 each-so P Q h (x ∷ xs) p = (h x (p .0), each-so P Q h xs (p .1))
 
-pub each-map : {A B : Type 0} (P : A → Type 0) (Q : B → Type 0) (g : A → B) → ((x : A) → P x → Q (g x)) → (xs : List A) → Each P xs → Each Q (map g xs)
+pub each-map : {A B : Type 0} (P : A → Type 0) (Q : B → Type 0) (g : A → B) → ((x : A) → P x → Q (g x)) → (xs : List A) → Each P xs
+    → Each Q (map g xs)
 each-map P Q g h [] p = tt
 each-map P Q g h (x ∷ xs) p = (h x (p .0), each-map P Q g h xs (p .1))
 
@@ -92,7 +93,8 @@ pub times-append : (u : ℕ) (xs ys : List ℕ) → timesIn u (xs ++ ys) ≡ tim
 times-append u [] ys = omega arith
 times-append u (x ∷ xs) ys = go (eqb u x) (times-append u xs ys)
   where
-    go : (b : Bool) → timesIn u (xs ++ ys) ≡ timesIn u xs + timesIn u ys → cond b (suc (timesIn u (xs ++ ys))) (timesIn u (xs ++ ys)) ≡ cond b (suc (timesIn u xs)) (timesIn u xs) + timesIn u ys
+    go : (b : Bool) → timesIn u (xs ++ ys) ≡ timesIn u xs + timesIn u ys
+        → cond b (suc (timesIn u (xs ++ ys))) (timesIn u (xs ++ ys)) ≡ cond b (suc (timesIn u xs)) (timesIn u xs) + timesIn u ys
     go true e = omega arith
     go false e = omega arith
 

@@ -14,7 +14,21 @@ use Rattle.annex.specs.Heads.{among, end-mark, user-class, signal-kind, commonH
 use Rattle.annex.specs.Layout.{layout}
 use Rattle.annex.specs.Allowed.{every, Each, isOctet, headersOf, partNamesOf, Allowed}
 use Rattle.annex.specs.Walk.{Seen, unseen, timesSeen, counted, Par, walk, listing}
-use Rattle.annex.specs.Reading.{wholeIn, commonStep, commonClose, messageVerdict, verdictOf, commonsOf, openCommon, withoutEnd, recordOf, messageVerdictBy, verdictBy, commonsBy, recordBy}
+use Rattle.annex.specs.Reading.{
+  wholeIn,
+  commonStep,
+  commonClose,
+  messageVerdict,
+  verdictOf,
+  commonsOf,
+  openCommon,
+  withoutEnd,
+  recordOf,
+  messageVerdictBy,
+  verdictBy,
+  commonsBy,
+  recordBy,
+}
 use Rattle.annex.specs.declared.Answer.the-variants.{Accepted}
 use Rattle.annex.specs.Contents.{faultOf}
 use Rattle.laws.specs.Bools.{and-left, and-right, or-right}
@@ -63,18 +77,30 @@ other-name : (h : ℕ) → among h commonHeaders ≡ true → eqb (nameOf end-ma
 other-name h e =
     not-true (eqb (nameOf end-mark) (nameOf h)) (among-every (λ k. not (eqb (nameOf end-mark) (nameOf k))) commonHeaders refl h e)
 
-still-unseen : (seen : Seen) (h : ℕ) → Full seen → among h commonHeaders ≡ true → timesSeen seen end-mark ≡ 0 → timesSeen (counted seen h) end-mark ≡ 0
+still-unseen : (seen : Seen) (h : ℕ) → Full seen → among h commonHeaders ≡ true → timesSeen seen end-mark ≡ 0
+    → timesSeen (counted seen h) end-mark ≡ 0
 still-unseen seen h f l z = omega (arith, rw (other-name h l) at (counted-once seen h (nameOf end-mark) f))
 
-pub ended : (qs : List Par) (seen : Seen) (p k n : ℕ) → Full seen → timesSeen seen end-mark ≡ 0 → Trail commonStep seen p qs → commonClose (seenBy seen qs) k ≡ Accepted n → Ended seen qs (withoutEnd qs)
+pub ended : (qs : List Par) (seen : Seen) (p k n : ℕ) → Full seen → timesSeen seen end-mark ≡ 0 → Trail commonStep seen p qs
+    → commonClose (seenBy seen qs) k ≡ Accepted n → Ended seen qs (withoutEnd qs)
 unfolding seenBy laidOut
 ended [] seen p k n f z t c =
-    absurd (omega (arith, ltb-true 0 (timesSeen seen end-mark) (not-false _ (passed (not (ltb 0 (timesSeen seen end-mark))) cut-short k n (Accepted k) c .0))))
-ended (q ∷ qs) seen p k n f z t c = go (eqb (q .head) end-mark) refl (ended qs (counted seen (q .head)) (p + 1 + length (q .own)) k n (full-counted seen (q .head) f))
+    absurd
+    (omega (
+      arith,
+      ltb-true 0 (timesSeen seen end-mark) (not-false _ (passed (not (ltb 0 (timesSeen seen end-mark))) cut-short k n (Accepted k) c .0)),
+    ))
+ended (q ∷ qs) seen p k n f z t c =
+    go (eqb (q .head) end-mark) refl (ended qs (counted seen (q .head)) (p + 1 + length (q .own)) k n (full-counted seen (q .head) f))
   where
-    go : (b : Bool) → eqb (q .head) end-mark ≡ b → (timesSeen (counted seen (q .head)) end-mark ≡ 0 → Trail commonStep (counted seen (q .head)) (p + 1 + length (q .own)) qs → commonClose (seenBy (counted seen (q .head)) qs) k ≡ Accepted n → Ended (counted seen (q .head)) qs (withoutEnd qs)) → Ended seen (q ∷ qs) (cond b (withoutEnd qs) (q ∷ withoutEnd qs))
+    go : (b : Bool) → eqb (q .head) end-mark ≡ b
+        →
+        (timesSeen (counted seen (q .head)) end-mark ≡ 0 → Trail commonStep (counted seen (q .head)) (p + 1 + length (q .own)) qs
+        → commonClose (seenBy (counted seen (q .head)) qs) k ≡ Accepted n → Ended (counted seen (q .head)) qs (withoutEnd qs))
+        → Ended seen (q ∷ qs) (cond b (withoutEnd qs) (q ∷ withoutEnd qs))
     go true e ih =
-        let o : Ending (wholeIn seen) (length (q .own)) (q .own ++ laidOut qs) = rw e at (common-accepted (timesSeen seen (q .head)) (wholeIn seen) (q .head) (length (q .own)) (q .own ++ laidOut qs) (t .1)) in
+        let o : Ending (wholeIn seen) (length (q .own)) (q .own ++ laidOut qs) =
+        rw e at (common-accepted (timesSeen seen (q .head)) (wholeIn seen) (q .head) (length (q .own)) (q .own ++ laidOut qs) (t .1)) in
         let none = none-laid qs (omega (arith, o .nothing, length-append (q .own) (laidOut qs))) in
         rw none (record { laid = rw (eqb-true (q .head) end-mark e, nothing (q .own) (o .none)); parts = o .whole-seen })
     go false e ih =
@@ -97,10 +123,13 @@ pub message-read : (m : List ℕ) (n : ℕ) → verdictOf m ≡ Accepted n → M
 unfolding verdictBy messageVerdictBy commonsBy
 message-read m n e =
     let v = passed (eqb (length m) 0 || ltb most-octets (length m)) over-limits 0 n (messageVerdict m) e in
-    let w = walked commonStep commonClose (λ seen h. common-within faultOf (timesSeen seen h) (wholeIn seen) h) m unseen 0 0 n (omega arith) (v .1) in
+    let w =
+    walked commonStep commonClose (λ seen h. common-within faultOf (timesSeen seen h) (wholeIn seen) h) m unseen 0 0 n (omega arith)
+    (v .1) in
     let qs = walk (listing commonStep) unseen 0 0 m in
     let d = ended qs unseen 0 (0 + length m) n full-unseen refl (w .trail) (w .closes) in
-    let c : Accepted (0 + length m) ≡ Accepted n = passed (not (ltb 0 (timesSeen (seenBy unseen qs) end-mark))) cut-short (0 + length m) n (Accepted (0 + length m)) (w .closes) .1 in
+    let c : Accepted (0 + length m) ≡ Accepted n =
+    passed (not (ltb 0 (timesSeen (seenBy unseen qs) end-mark))) cut-short (0 + length m) n (Accepted (0 + length m)) (w .closes) .1 in
     let same : 0 + length m ≡ n = cc in
     record {
       length-given = omega arith;
@@ -121,7 +150,8 @@ sparing-parts : (ps : List Par) (seen : Seen) → Full seen → Sparing (λ x. 1
 sparing-parts [] seen f s w = s
 sparing-parts (q ∷ ps) seen f s w =
     let h = q .head in
-    sparing-cons (λ x. 1) seen h f (namesIn ps) (sparing-parts ps (counted seen h) (full-counted seen h f) (sparing-more (λ x. 1) seen h f s (omega (arith, w .0 .new))) (w .1))
+    sparing-cons (λ x. 1) seen h f (namesIn ps)
+    (sparing-parts ps (counted seen h) (full-counted seen h f) (sparing-more (λ x. 1) seen h f s (omega (arith, w .0 .new))) (w .1))
 
 -- what each opens to
 abbrev pub ReadBy : Par → Type 0
@@ -137,7 +167,9 @@ parts-named [] r = refl
 parts-named (q ∷ ps) r = rw (r .0 .header, parts-named ps (r .1))
 
 parts-allowed : (ps : List Par) → Parts unseen ps → Each ReadBy ps → Allowed (map openCommon ps)
-parts-allowed ps w r = allowed (map openCommon ps) a once (has user-class refl (and-left (stood user-class) (stood signal-kind) whole)) (has signal-kind refl (and-right (stood user-class) (stood signal-kind) whole))
+parts-allowed ps w r =
+    allowed (map openCommon ps) a once (has user-class refl (and-left (stood user-class) (stood signal-kind) whole))
+    (has signal-kind refl (and-right (stood user-class) (stood signal-kind) whole))
   where
     stood : ℕ → Bool
     stood k = ltb 0 (timesSeen (seenBy unseen ps) k)
@@ -156,17 +188,22 @@ parts-allowed ps w r = allowed (map openCommon ps) a once (has user-class refl (
 
     has : (k : ℕ) → among k commonHeaders ≡ true → stood k ≡ true → among k (headersOf (map openCommon ps)) ≡ true
     has k l e =
-        header-stands k l (map openCommon ps) a (rw (parts-named ps r) (omega (arith, ltb-true 0 (timesSeen (seenBy unseen ps) k) e, seen-times ps unseen (nameOf k) full-unseen, none-seen (nameOf k))))
+        header-stands k l (map openCommon ps) a
+        (rw (parts-named ps r)
+        (omega (arith, ltb-true 0 (timesSeen (seenBy unseen ps) k) e, seen-times ps unseen (nameOf k) full-unseen, none-seen (nameOf k))))
 
 each-part : (ps : List Par) (seen : Seen) → Parts seen ps → every isOctet (laidOut ps) ≡ true → Each ReadBy ps
 unfolding laidOut
 each-part [] seen w o = tt
 each-part (q ∷ ps) seen w o =
     let h = q .head in
-    let after = and-right (isOctet h) _ o in
-    (part-read q (timesSeen seen h) (ltb-true h 256 (and-left (isOctet h) _ o)) (every-left isOctet (q .own) _ after) (w .0), each-part ps (counted seen h) (w .1) (every-right isOctet (q .own) _ after))
+    let after = and-right (isOctet h) _ o in (
+      part-read q (timesSeen seen h) (ltb-true h 256 (and-left (isOctet h) _ o)) (every-left isOctet (q .own) _ after) (w .0),
+      each-part ps (counted seen h) (w .1) (every-right isOctet (q .own) _ after),
+    )
 
-pub read-then-laid : (m : List ℕ) → every isOctet m ≡ true → (n : ℕ) → verdictOf m ≡ Accepted n → (n ≡ length m) × Allowed (recordOf m) × (layout (recordOf m) ≡ m)
+pub read-then-laid : (m : List ℕ) → every isOctet m ≡ true → (n : ℕ) → verdictOf m ≡ Accepted n
+    → (n ≡ length m) × Allowed (recordOf m) × (layout (recordOf m) ≡ m)
 unfolding recordBy
 read-then-laid m o n e =
     let w = message-read m n e in

@@ -85,7 +85,8 @@ items-append : (r s : List Part) → itemsIn (r ++ s) ≡ itemsIn r ++ itemsIn s
 items-append [] s = refl
 items-append (p ∷ r) s = rw (items-append r s, append-assoc)
 
-pub items-instead : (r : List Part) → Each HeldPart r → (d : Parted r) (is : List Item) → itemsIn (d .ahead ++ (dataPart is ∷ d .behind)) ≡ is
+pub items-instead : (r : List Part) → Each HeldPart r → (d : Parted r) (is : List Item)
+    → itemsIn (d .ahead ++ (dataPart is ∷ d .behind)) ≡ is
 items-instead r h d is =
     let held = rw (d .whole) at h in
     let rest = dataPart (itemsIn r) ∷ d .behind in
@@ -101,7 +102,9 @@ layoutParts [] = []
 layoutParts (p ∷ r) = layoutPart p ++ layoutParts r
 
 -- a record with one C5, laid out: C5's header, its length octet and its parameters between the others
-pub layout-parted : (ahead : List Part) (is : List Item) (behind : List Part) → layout (ahead ++ (dataPart is ∷ behind)) ≡ layoutParts ahead ++ (transfer-data ∷ length (layoutItems is) ∷ (layoutItems is ++ layout behind))
+pub layout-parted : (ahead : List Part) (is : List Item) (behind : List Part)
+    → layout (ahead ++ (dataPart is ∷ behind))
+    ≡ layoutParts ahead ++ (transfer-data ∷ length (layoutItems is) ∷ (layoutItems is ++ layout behind))
 unfolding layout layoutParts layoutPart
 layout-parted [] is behind = refl
 layout-parted (p ∷ ahead) is behind = rw (layout-parted ahead is behind, append-assoc)

@@ -41,11 +41,13 @@ unfolding layoutPart
 part-length p = omega arith
 
 -- a part, and those ahead, are passed over
-behind-part : (at : ℕ) (p : Part) (ahead : List Part) → at + 1 + length (partPar at p .own) + length (layoutParts ahead) ≡ at + length (layoutParts (p ∷ ahead))
+behind-part : (at : ℕ) (p : Part) (ahead : List Part)
+    → at + 1 + length (partPar at p .own) + length (layoutParts ahead) ≡ at + length (layoutParts (p ∷ ahead))
 unfolding layoutParts
 behind-part at p ahead = simp length-append (omega (arith, part-length p))
 
-common-behind : (ahead : List Part) (r : List Part) (at : ℕ) → Each Plain ahead → commonIn transfer-data (partPars at (ahead ++ r)) ≡ commonIn transfer-data (partPars (at + length (layoutParts ahead)) r)
+common-behind : (ahead : List Part) (r : List Part) (at : ℕ) → Each Plain ahead
+    → commonIn transfer-data (partPars at (ahead ++ r)) ≡ commonIn transfer-data (partPars (at + length (layoutParts ahead)) r)
 unfolding partPars commonIn
 common-behind [] r at p = unfold layoutParts in rw add-zero
 common-behind (q ∷ ahead) r at p =
@@ -59,7 +61,8 @@ among-behind x which (q ∷ ahead) r at p =
     rw (p .0, ← behind-part at q ahead) (among-behind x which ahead r (at + 1 + length (partPar at q .own)) (p .1))
 
 -- at C5
-common-here : (is : List Item) (behind : List Part) (at : ℕ) → commonIn transfer-data (partPars at (dataPart is ∷ behind)) ≡ At (at + 2) (at + 2 + length (layoutItems is))
+common-here : (is : List Item) (behind : List Part) (at : ℕ)
+    → commonIn transfer-data (partPars at (dataPart is ∷ behind)) ≡ At (at + 2) (at + 2 + length (layoutItems is))
 unfolding partPars commonIn layoutPart leadOf commonExtentOf
 common-here is behind at = same-at _ _ _ _ (omega arith) (omega arith)
 
@@ -85,23 +88,28 @@ item-length i = omega arith
 
 -- behind as many of its name as stand in front
 transfer-here : (x s : ℕ) (one : Item) (front back : List Item) (p : ℕ) → nameOf (one .header) ≡ x
-    → transferIn x (timesIn x (namesOf front)) s (itemPars p (front ++ (one ∷ back))) ≡ At (s + p + length (layoutItems front) + 1 + leadOf (extentOf (one .header))) (s + p + length (layoutItems front) + length (layoutItem one))
+    → transferIn x (timesIn x (namesOf front)) s (itemPars p (front ++ (one ∷ back)))
+    ≡ At (s + p + length (layoutItems front) + 1 + leadOf (extentOf (one .header)))
+    (s + p + length (layoutItems front) + length (layoutItem one))
 unfolding itemPars transferIn layoutItems
 transfer-here x s one [] back p n = rw (eq-eqb x _ (sym n)) (same-at _ _ _ _ (omega arith) (omega (arith, item-length one)))
 transfer-here x s one (i ∷ front) back p n =
     let p′ = p + 1 + length (itemPar p i .own) in
-    let l : length (layoutItem i ++ layoutItems front) ≡ 1 + length (itemPar p i .own) + length (layoutItems front) = simp length-append (omega (arith, item-length i)) in
+    let l : length (layoutItem i ++ layoutItems front) ≡ 1 + length (itemPar p i .own) + length (layoutItems front) =
+    simp length-append (omega (arith, item-length i)) in
     passed-over (eqb x (nameOf (i .header))) (timesIn x (namesOf front)) _ (λ w. transferIn x w s (itemPars p′ (front ++ (one ∷ back))))
     ∙ transfer-here x s one front back p′ n
     ∙ same-at _ _ _ _ (omega arith) (omega arith)
 
 -- the same, of the list
-items-behind : (front rest : List Item) (p : ℕ) → itemPars p (front ++ rest) ≡ itemPars p front ++ itemPars (p + length (layoutItems front)) rest
+items-behind : (front rest : List Item) (p : ℕ)
+    → itemPars p (front ++ rest) ≡ itemPars p front ++ itemPars (p + length (layoutItems front)) rest
 unfolding itemPars layoutItems
 items-behind [] rest p = rw add-zero
 items-behind (i ∷ front) rest p =
     let p′ = p + 1 + length (itemPar p i .own) in
-    let l : p′ + length (layoutItems front) ≡ p + length (layoutItem i ++ layoutItems front) = simp length-append (omega (arith, item-length i)) in
+    let l : p′ + length (layoutItems front) ≡ p + length (layoutItem i ++ layoutItems front) =
+    simp length-append (omega (arith, item-length i)) in
     ap (λ (qs : List Par). itemPar p i ∷ qs) (items-behind front rest p′ ∙ ap (λ (k : ℕ). itemPars p′ front ++ itemPars k rest) l)
 
 pub pars-named : (is : List Item) (p : ℕ) → namesIn (itemPars p is) ≡ namesOf is
@@ -130,21 +138,30 @@ transfer-nowhere x which s (i ∷ is) p l =
 -- ---- in an allowed record, laid out
 
 module _ (r : List Part) (a : Allowed r) (d : Parted r) where
-  pub data-found : commonFound transfer-data (layout r) ≡ At (length (layoutParts (d .ahead)) + 2) (length (layoutParts (d .ahead)) + 2 + length (layoutItems (itemsIn r)))
+  pub data-found : commonFound transfer-data (layout r)
+      ≡ At (length (layoutParts (d .ahead)) + 2) (length (layoutParts (d .ahead)) + 2 + length (layoutItems (itemsIn r)))
   unfolding commonFound
   data-found =
-      rw (laid-then-listed r a) (ap (λ (s : List Part). commonIn transfer-data (partPars 0 s)) (d .whole) ∙ common-behind (d .ahead) (dataPart (itemsIn r) ∷ d .behind) 0 (d .plain-ahead) ∙ rw zero-add (common-here (itemsIn r) (d .behind) (length (layoutParts (d .ahead)))))
+      rw (laid-then-listed r a)
+      (ap (λ (s : List Part). commonIn transfer-data (partPars 0 s)) (d .whole)
+      ∙ common-behind (d .ahead) (dataPart (itemsIn r) ∷ d .behind) 0 (d .plain-ahead)
+      ∙ rw zero-add (common-here (itemsIn r) (d .behind) (length (layoutParts (d .ahead)))))
 
   transfers-found : (x which : ℕ)
       → transferFound x which (layout r) ≡ transferIn x which (length (layoutParts (d .ahead)) + 2) (itemPars 0 (itemsIn r))
   unfolding transferFound
   transfers-found x which =
-      rw (laid-then-listed r a, ← transfers-built (itemsIn r) (allowed-items r a) .listed) (ap (λ (s : List Part). transferAmong x which (partPars 0 s)) (d .whole) ∙ among-behind x which (d .ahead) (dataPart (itemsIn r) ∷ d .behind) 0 (d .plain-ahead) ∙ rw zero-add (among-here x which (itemsIn r) (d .behind) (length (layoutParts (d .ahead)))))
+      rw (laid-then-listed r a, ← transfers-built (itemsIn r) (allowed-items r a) .listed)
+      (ap (λ (s : List Part). transferAmong x which (partPars 0 s)) (d .whole)
+      ∙ among-behind x which (d .ahead) (dataPart (itemsIn r) ∷ d .behind) 0 (d .plain-ahead)
+      ∙ rw zero-add (among-here x which (itemsIn r) (d .behind) (length (layoutParts (d .ahead)))))
 
   -- one of a name, in front of which these stand
   pub transfer-found : (x which : ℕ) (front : List Item) (one : Item) (back : List Item) → itemsIn r ≡ front ++ (one ∷ back)
       → nameOf (one .header) ≡ x → timesIn x (namesOf front) ≡ which
-      → transferFound x which (layout r) ≡ At (length (layoutParts (d .ahead)) + 2 + length (layoutItems front) + 1 + leadOf (extentOf (one .header))) (length (layoutParts (d .ahead)) + 2 + length (layoutItems front) + length (layoutItem one))
+      → transferFound x which (layout r)
+      ≡ At (length (layoutParts (d .ahead)) + 2 + length (layoutItems front) + 1 + leadOf (extentOf (one .header)))
+      (length (layoutParts (d .ahead)) + 2 + length (layoutItems front) + length (layoutItem one))
   transfer-found x which front one back w n b =
       let s = length (layoutParts (d .ahead)) + 2 in
       transfers-found x which
@@ -153,7 +170,10 @@ module _ (r : List Part) (a : Allowed r) (d : Parted r) where
       ∙ rw add-zero at (transfer-here x s one front back 0 n)
 
   -- and what is listed of the transfer data
-  pub transfer-listed : (front : List Item) (one : Item) (back : List Item) → itemsIn r ≡ front ++ (one ∷ back) → transfersOf (layoutItems (itemsIn r)) ≡ itemPars 0 front ++ (itemPar (length (layoutItems front)) one ∷ itemPars (length (layoutItems front) + 1 + length (itemPar 0 one .own)) back)
+  pub transfer-listed : (front : List Item) (one : Item) (back : List Item) → itemsIn r ≡ front ++ (one ∷ back)
+      → transfersOf (layoutItems (itemsIn r))
+      ≡ itemPars 0 front
+      ++ (itemPar (length (layoutItems front)) one ∷ itemPars (length (layoutItems front) + 1 + length (itemPar 0 one .own)) back)
   unfolding itemPars
   transfer-listed front one back w =
       transfers-built (itemsIn r) (allowed-items r a) .listed ∙ ap (itemPars 0) w ∙ rw zero-add at (items-behind front (one ∷ back) 0)
@@ -204,7 +224,8 @@ name-is x which r a = go (among transfer-data (headersOf r)) refl
         rw (no-transfer-found r a plain x which, plain-none r (a .held) plain, le-ltb which 0 (omega arith))
 
 -- of an accepted message
-pub data-there : (m : List ℕ) → every isOctet m ≡ true → (n : ℕ) → verdictOf m ≡ Accepted n → isFound (commonFound transfer-data m) ≡ among transfer-data (headersOf (recordOf m))
+pub data-there : (m : List ℕ) → every isOctet m ≡ true → (n : ℕ) → verdictOf m ≡ Accepted n
+    → isFound (commonFound transfer-data m) ≡ among transfer-data (headersOf (recordOf m))
 data-there m o n e = let w = read-then-laid m o n e in rw (w .2) at (data-is (recordOf m) (w .1))
 
 pub name-there : (x which : ℕ) (m : List ℕ) → every isOctet m ≡ true → (n : ℕ) → verdictOf m ≡ Accepted n

@@ -134,7 +134,12 @@ edit-taken e d n k a =
 new-accepts : (new : List ℕ) (k : ℕ) → NewRight new → newHead new (refuse false k 0 (newContents new)) ≡ Accepted 0
 new-accepts new k r =
     let some = r .some in
-    rw (ne-eqb (length new) 0 (λ e. omega arith), head-right 0 (newHeader new) _ (r .used) (r .pli), eq-eqb (length (newAfter new)) _ (r .long), r .sound)
+    rw (
+      ne-eqb (length new) 0 (λ e. omega arith),
+      head-right 0 (newHeader new) _ (r .used) (r .pli),
+      eq-eqb (length (newAfter new)) _ (r .long),
+      r .sound,
+    )
 
 edit-right : (e : Edit) (is : List Item) → EditRight e is → editRefusal e is ≡ Accepted 0
 unfolding editRefusal
@@ -146,13 +151,21 @@ edit-right (Appending new) is r =
 edit-right (Removing x which) is r = rw (lt-leb (timesIn x (namesOf is)) which r)
 
 -- what is left with all but room right: 14, 15, or the new length
-pub edit-answer : (e : Edit) (d : List ℕ) (n j : ℕ) → n ≤ length d → verdictOf (take n d) ≡ Accepted j → among transfer-data (headersOf (recordOf (take n d))) ≡ true → EditRight e (itemsIn (recordOf (take n d))) → editingOf e d n ≡ refuse (ltb most-transfer-octets (length (layoutItems (itemsIn (editedIn e d n))))) transfer-over 0 (refuse (ltb (length d) (length (layout (editedIn e d n)))) no-room 0 (Accepted (length (layout (editedIn e d n)))))
+pub edit-answer : (e : Edit) (d : List ℕ) (n j : ℕ) → n ≤ length d → verdictOf (take n d) ≡ Accepted j
+    → among transfer-data (headersOf (recordOf (take n d))) ≡ true → EditRight e (itemsIn (recordOf (take n d)))
+    → editingOf e d n
+    ≡ refuse (ltb most-transfer-octets (length (layoutItems (itemsIn (editedIn e d n))))) transfer-over 0
+    (refuse (ltb (length d) (length (layout (editedIn e d n)))) no-room 0 (Accepted (length (layout (editedIn e d n)))))
 unfolding editingOf recordEditing
 edit-answer e d n j l v t w = rw (le-ltb (length d) n l, v, t, edit-right e (itemsIn (recordOf (take n d))) w)
 
 pub edit-accepts : (e : Edit) (d : List ℕ) (n : ℕ) → NoReason e d n → editingOf e d n ≡ Accepted (length (layout (editedIn e d n)))
 edit-accepts e d n w =
-    rw (edit-answer e d n n (w .within) (w .message) (w .has-data) (w .right), le-ltb most-transfer-octets _ (w .few-octets), le-ltb (length d) _ (w .room))
+    rw (
+      edit-answer e d n n (w .within) (w .message) (w .has-data) (w .right),
+      le-ltb most-transfer-octets _ (w .few-octets),
+      le-ltb (length d) _ (w .room),
+    )
 
 -- so an edit is accepted exactly if there is no reason
 pub edits-exactly : (e : Edit) (d : List ℕ) (n : ℕ) → (editingOf e d n ≡ Accepted (length (layout (editedIn e d n)))) ↔ NoReason e d n

@@ -8,14 +8,48 @@ use borrow.Author.Tests.{eqb-true, eq-eqb}
 use lib.Dec.{eqb}
 use lib.ListN.{length, getD, drop, length-append, length-map, length-drop}
 use Rattle.annex.specs.Units.{nameOf, extentOf}
-use Rattle.annex.specs.Heads.{among, heads, freeNames, end-mark, user-class, partners-call, own-call, sequence, signal-kind, transfer-data, commonHeaders, most-commons, most-transfers, most-transfer-octets, nameUsed, pliRight, oftenOf}
+use Rattle.annex.specs.Heads.{
+  among,
+  heads,
+  freeNames,
+  end-mark,
+  user-class,
+  partners-call,
+  own-call,
+  sequence,
+  signal-kind,
+  transfer-data,
+  commonHeaders,
+  most-commons,
+  most-transfers,
+  most-transfer-octets,
+  nameUsed,
+  pliRight,
+  oftenOf,
+}
 use Rattle.annex.specs.Items.{Item, Part, contentsOf, contentsBy, heldAs, valuePart}
 use Rattle.annex.specs.declared.Holding.{Holding}
 use Rattle.annex.specs.Contents.{isSound}
 use Rattle.annex.specs.declared.Holding.the-variants.{AsContents, AsDigits, AsNumber, AsGeneric}
 use Rattle.annex.specs.Digits.{codeOf, joined, packed}
 use Rattle.annex.specs.Layout.{layoutItem, layoutItems}
-use Rattle.annex.specs.Allowed.{every, Each, timesIn, HeldItem, HeldPart, lengthRight, faultIn, valueRight, valueFits, itemsIn, contentsSum, headersOf, namesOf, partNamesOf, Allowed}
+use Rattle.annex.specs.Allowed.{
+  every,
+  Each,
+  timesIn,
+  HeldItem,
+  HeldPart,
+  lengthRight,
+  faultIn,
+  valueRight,
+  valueFits,
+  itemsIn,
+  contentsSum,
+  headersOf,
+  namesOf,
+  partNamesOf,
+  Allowed,
+}
 use Rattle.annex.specs.Records.{valuesOf}
 use Rattle.annex.specs.declared.Alphabet.{Alphabet}
 use Rattle.annex.specs.declared.Alphabet.the-variants.{Dialled, Numbered}
@@ -60,7 +94,8 @@ Plain p = eqb (p .header) transfer-data ≡ false
 -- with none of its name there is no C5
 pub unnamed-plain : (r : List Part) → timesIn (nameOf transfer-data) (partNamesOf r) ≡ 0 → Each Plain r
 unnamed-plain [] t = tt
-unnamed-plain (p ∷ r) t = (go (eqb (p .header) transfer-data) refl, unnamed-plain r (omega (arith, times-rest x (nameOf (p .header)) names)))
+unnamed-plain (p ∷ r) t =
+    (go (eqb (p .header) transfer-data) refl, unnamed-plain r (omega (arith, times-rest x (nameOf (p .header)) names)))
   where
     x : ℕ
     x = nameOf transfer-data
@@ -107,11 +142,17 @@ common-name h e = among-every (λ k. among (nameOf k) commonNames) commonHeaders
 
 pub common-names : (r : List Part) → Each AllowedPart r → every (λ x. among x commonNames) (partNamesOf r) ≡ true
 common-names [] a = refl
-common-names (p ∷ r) a = and-both (among (nameOf (p .header)) commonNames) _ (common-name (p .header) (a .0 .listed)) (common-names r (a .1))
+common-names (p ∷ r) a =
+    and-both (among (nameOf (p .header)) commonNames) _ (common-name (p .header) (a .0 .listed)) (common-names r (a .1))
 
 few-parts : (r : List Part) → Each AllowedPart r → Once r → length r ≤ most-commons
 few-parts r a o =
-    omega (arith, count (partNamesOf r), length-map r (λ p. nameOf (p .header)), pigeons (λ x. 1) (λ x. 1) commonNames (partNamesOf r) (common-names r a) o)
+    omega (
+      arith,
+      count (partNamesOf r),
+      length-map r (λ p. nameOf (p .header)),
+      pigeons (λ x. 1) (λ x. 1) commonNames (partNamesOf r) (common-names r a) o,
+    )
 
 -- as many transfer parameters as all names in use may stand
 
@@ -125,7 +166,13 @@ used-names (i ∷ is) a = and-both (among (nameOf (i .header)) usedNames) _ (use
 
 few-items : (is : List Item) → AllowedItems is → length is ≤ most-transfers
 few-items is a =
-    omega (arith, count (namesOf is), length-map is (λ i. nameOf (i .header)), pigeons (λ x. 1) oftenOf usedNames (namesOf is) (used-names is (a .each)) (a .often), often-sum)
+    omega (
+      arith,
+      count (namesOf is),
+      length-map is (λ i. nameOf (i .header)),
+      pigeons (λ x. 1) oftenOf usedNames (namesOf is) (used-names is (a .each)) (a .often),
+      often-sum,
+    )
 
 -- contents and octets
 contents-within : (is : List Item) → contentsSum is ≤ length (layoutItems is)
@@ -184,7 +231,8 @@ module _ (k : ℕ) (l : among k commonHeaders ≡ true) where
       later true e = refl
       later false e = e
 
-      go : (b : Bool) → eqb (nameOf k) (nameOf (p .header)) ≡ b → 0 < cond b (suc (timesIn (nameOf k) names)) (timesIn (nameOf k) names) → (0 < timesIn (nameOf k) names → among k (headersOf r) ≡ true) → eqb k (p .header) || among k (headersOf r) ≡ true
+      go : (b : Bool) → eqb (nameOf k) (nameOf (p .header)) ≡ b → 0 < cond b (suc (timesIn (nameOf k) names)) (timesIn (nameOf k) names)
+          → (0 < timesIn (nameOf k) names → among k (headersOf r) ≡ true) → eqb k (p .header) || among k (headersOf r) ≡ true
       go true e t f = rw (eq-eqb k (p .header) (same-header k (p .header) l (a .0 .listed) (eqb-true _ _ e)))
       go false e t f = later (eqb k (p .header)) (f t)
 
@@ -195,13 +243,15 @@ module _ (k : ℕ) (l : among k commonHeaders ≡ true) where
       names : List ℕ
       names = partNamesOf r
 
-      go : (b : Bool) → eqb k (p .header) ≡ b → b || among k (headersOf r) ≡ true → (among k (headersOf r) ≡ true → 0 < timesIn (nameOf k) names) → 0 < timesIn (nameOf k) (nameOf (p .header) ∷ names)
+      go : (b : Bool) → eqb k (p .header) ≡ b → b || among k (headersOf r) ≡ true
+          → (among k (headersOf r) ≡ true → 0 < timesIn (nameOf k) names) → 0 < timesIn (nameOf k) (nameOf (p .header) ∷ names)
       go true q e f = rw (← eqb-true k (p .header) q, times-here (nameOf k) names) (omega arith)
       go false q e f = omega (arith, f e, times-rest (nameOf k) (nameOf (p .header)) names)
 
 -- ---- an allowed record, part by part
 
-pub allowed : (r : List Part) → Each AllowedPart r → Once r → among user-class (headersOf r) ≡ true → among signal-kind (headersOf r) ≡ true → Allowed r
+pub allowed : (r : List Part) → Each AllowedPart r → Once r → among user-class (headersOf r) ≡ true → among signal-kind (headersOf r) ≡ true
+    → Allowed r
 allowed r a o c k =
     let is = itemsIn r in
     let i = parts-items r a o in
@@ -225,7 +275,8 @@ allowed r a o c k =
     }
 
 -- the transfer parameters of a record, one by one
-items-each : (is : List Item) → Each HeldItem is → every (λ i. nameUsed (i .header)) is ≡ true → every (λ i. pliRight (i .header)) is ≡ true → every lengthRight is ≡ true → every (λ i. isSound (faultIn i)) is ≡ true → Each AllowedItem is
+items-each : (is : List Item) → Each HeldItem is → every (λ i. nameUsed (i .header)) is ≡ true → every (λ i. pliRight (i .header)) is ≡ true
+    → every lengthRight is ≡ true → every (λ i. isSound (faultIn i)) is ≡ true → Each AllowedItem is
 items-each [] h u p l f = tt
 items-each (i ∷ is) h u p l f = (
   record {
@@ -235,7 +286,8 @@ items-each (i ∷ is) h u p l f = (
     length-right = and-left _ (every lengthRight is) l;
     faultless = is-sound (faultIn i) (and-left _ (every (λ i. isSound (faultIn i)) is) f);
   },
-  items-each is (h .1) (and-right (nameUsed (i .header)) _ u) (and-right (pliRight (i .header)) _ p) (and-right (lengthRight i) _ l) (and-right (isSound (faultIn i)) _ f),
+  items-each is (h .1) (and-right (nameUsed (i .header)) _ u) (and-right (pliRight (i .header)) _ p) (and-right (lengthRight i) _ l)
+      (and-right (isSound (faultIn i)) _ f),
 )
 
 items-held : (r : List Part) → Each HeldPart r → Each HeldItem (itemsIn r)
@@ -282,7 +334,8 @@ module _ (is js : List Item) (a : AllowedItems (is ++ js)) where
         few-octets = omega (arith, both-octets);
       }
 
-parts-each : (r : List Part) → Each HeldPart r → every (λ p. among (p .header) commonHeaders) r ≡ true → every valueRight r ≡ true → every valueFits r ≡ true → AllowedItems (itemsIn r) → Each AllowedPart r
+parts-each : (r : List Part) → Each HeldPart r → every (λ p. among (p .header) commonHeaders) r ≡ true → every valueRight r ≡ true
+    → every valueFits r ≡ true → AllowedItems (itemsIn r) → Each AllowedPart r
 parts-each [] h l v f a = tt
 parts-each (p ∷ r) h l v f a = (
   record {
@@ -292,7 +345,8 @@ parts-each (p ∷ r) h l v f a = (
     fits = and-left _ (every valueFits r) f;
     items = items-left (p .items) (itemsIn r) a;
   },
-  parts-each r (h .1) (and-right (among (p .header) commonHeaders) _ l) (and-right (valueRight p) _ v) (and-right (valueFits p) _ f) (items-right (p .items) (itemsIn r) a),
+  parts-each r (h .1) (and-right (among (p .header) commonHeaders) _ l) (and-right (valueRight p) _ v) (and-right (valueFits p) _ f)
+      (items-right (p .items) (itemsIn r) a),
 )
 
 pub allowed-parts : (r : List Part) → Allowed r → Each AllowedPart r

@@ -14,7 +14,8 @@ use Rattle.theorems.specs.Messages.{read-then-laid}
 use Rattle.theorems.specs.Layouts.{laid-then-read}
 
 -- of octets
-pub accepted-exactly : (m : List ℕ) → every isOctet m ≡ true → (verdictOf m ≡ Accepted (length m)) ↔ ((r : List Part) × Allowed r × (layout r ≡ m))
+pub accepted-exactly : (m : List ℕ) → every isOctet m ≡ true
+    → (verdictOf m ≡ Accepted (length m)) ↔ ((r : List Part) × Allowed r × (layout r ≡ m))
 accepted-exactly m o = (
   λ e. let w = read-then-laid m o (length m) e in (recordOf m, w .1, w .2),
   λ w. rw (← w .2) (laid-then-read (w .0) (w .1) .0),

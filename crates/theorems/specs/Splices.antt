@@ -29,7 +29,8 @@ use Rattle.theorems.specs.Places.{pars-named, data-found, transfer-found
 use Rattle.theorems.specs.Reasons.{EditRight, editedIn, edit-taken}
 use Rattle.theorems.specs.Edits.{OfOctets, new-read, Picked, newItems, Changed, changed, items-edited, data-edited}
 
--- a message with these octets before C5, in front of a part of the transfer data, in that part, behind it in the transfer data, and after C5
+-- a message with these octets before C5, in front of a part of the transfer data, in that part, behind it in the transfer data, and after
+-- C5
 abbrev pub withPart : List ℕ → List ℕ → List ℕ → List ℕ → List ℕ → List ℕ
 withPart before front part back after =
     before ++ (transfer-data ∷ length (front ++ (part ++ back)) ∷ (front ++ (part ++ (back ++ after))))
@@ -78,7 +79,8 @@ unfolding layoutItems
 layout-one i = append-nil (layoutItem i)
 
 -- a record with these transfer parameters in its C5, laid out
-pub layout-with : (r : List Part) (d : Parted r) (f o b : List Item) → itemsIn r ≡ f ++ (o ++ b) → layout r ≡ withPart (layoutParts (d .ahead)) (layoutItems f) (layoutItems o) (layoutItems b) (layout (d .behind))
+pub layout-with : (r : List Part) (d : Parted r) (f o b : List Item) → itemsIn r ≡ f ++ (o ++ b)
+    → layout r ≡ withPart (layoutParts (d .ahead)) (layoutItems f) (layoutItems o) (layoutItems b) (layout (d .behind))
 layout-with r d f o b e =
     let t = layoutItems f ++ (layoutItems o ++ layoutItems b) in
     let l : layoutItems (itemsIn r) ≡ t = ap layoutItems e ∙ layout-three f o b in
@@ -87,7 +89,8 @@ layout-with r d f o b e =
 
 module _ (r : List Part) (a : Allowed r) (d : Parted r) where
   picked-stands : (x which : ℕ) (front old back : List Item) → itemsIn r ≡ front ++ (old ++ back) → Picked x which front old
-      → Stands x which (layout r) (layoutItems (itemsIn r)) (length (layoutParts (d .ahead)) + 2) (length (layoutItems front)) (layoutItems old)
+      → Stands x which (layout r) (layoutItems (itemsIn r)) (length (layoutParts (d .ahead)) + 2) (length (layoutItems front))
+      (layoutItems old)
   picked-stands x which front old back w f =
       let laid : layoutItems old ≡ layoutItem (f .one) = ap layoutItems (f .alone) ∙ layout-one (f .one) in
       let whole : itemsIn r ≡ front ++ (f .one ∷ back) = rw (f .alone) at w in
@@ -102,9 +105,15 @@ module _ (r : List Part) (a : Allowed r) (d : Parted r) where
         found = rw laid (transfer-found r a d x which front (f .one) back whole (f .named) (f .before));
       }
 
-  told-of : (e : Edit) → EditRight e (itemsIn r) → OfOctets e → (c : Changed e (itemsIn r)) → Told e (layout r) (layoutItems (itemsIn r)) (length (layoutParts (d .ahead)) + 2) (length (layoutItems (c .front))) (layoutItems (c .old)) (layoutItems (newItems e)) (layoutItems (c .back))
+  told-of : (e : Edit) → EditRight e (itemsIn r) → OfOctets e → (c : Changed e (itemsIn r))
+      → Told e (layout r) (layoutItems (itemsIn r)) (length (layoutParts (d .ahead)) + 2) (length (layoutItems (c .front)))
+      (layoutItems (c .old)) (layoutItems (newItems e)) (layoutItems (c .back))
   unfolding layoutItems
-  told-of (Replacing x which) w o c = (layout-one _ ∙ new-read x (w .0) o .laid, picked-stands (nameOf (newHeader x)) which (c .front) (c .old) (c .back) (c .was) (c .taken))
+  told-of (Replacing x which) w o c = (
+    layout-one _
+        ∙ new-read x (w .0) o .laid,
+    picked-stands (nameOf (newHeader x)) which (c .front) (c .old) (c .back) (c .was) (c .taken),
+  )
   told-of (Appending x) w o c = (layout-one _ ∙ new-read x (w .0) o .laid, ap layoutItems (c .taken .0), ap layoutItems (c .taken .1))
   told-of (Removing x which) w o c = (refl, picked-stands x which (c .front) (c .old) (c .back) (c .was) (c .taken))
 
@@ -112,7 +121,8 @@ module _ (r : List Part) (a : Allowed r) (d : Parted r) where
   unfolding data-edited
   record-splices e w o =
       let c = changed e (itemsIn r) w o in
-      let l : layoutItems (itemsIn r) ≡ layoutItems (c .front) ++ (layoutItems (c .old) ++ layoutItems (c .back)) = ap layoutItems (c .was) ∙ layout-three (c .front) (c .old) (c .back) in
+      let l : layoutItems (itemsIn r) ≡ layoutItems (c .front) ++ (layoutItems (c .old) ++ layoutItems (c .back)) =
+      ap layoutItems (c .was) ∙ layout-three (c .front) (c .old) (c .back) in
       let then : itemsIn (edited e r) ≡ c .front ++ (newItems e ++ c .back) = items-edited e r a d ∙ c .becomes in
       record {
         before = layoutParts (d .ahead);
@@ -132,13 +142,16 @@ module _ (r : List Part) (a : Allowed r) (d : Parted r) where
 -- ---- of a message
 
 -- also where the edit is refused for want of room alone, with 14 or 15
-pub message-splices : (e : Edit) (m : List ℕ) (n : ℕ) → every isOctet m ≡ true → verdictOf m ≡ Accepted n → among transfer-data (headersOf (recordOf m)) ≡ true → EditRight e (itemsIn (recordOf m)) → OfOctets e → Spliced e m (edited e (recordOf m))
+pub message-splices : (e : Edit) (m : List ℕ) (n : ℕ) → every isOctet m ≡ true → verdictOf m ≡ Accepted n
+    → among transfer-data (headersOf (recordOf m)) ≡ true → EditRight e (itemsIn (recordOf m)) → OfOctets e
+    → Spliced e m (edited e (recordOf m))
 message-splices e m n o v t w p =
     let l = read-then-laid m o n v in
     let r = recordOf m in
     rw (l .2) at (record-splices r (l .1) (one-data r (l .1) t) e w p)
 
-pub edit-splices : (e : Edit) (d : List ℕ) (n k : ℕ) → every isOctet d ≡ true → OfOctets e → editingOf e d n ≡ Accepted k → Spliced e (take n d) (editedIn e d n)
+pub edit-splices : (e : Edit) (d : List ℕ) (n k : ℕ) → every isOctet d ≡ true → OfOctets e → editingOf e d n ≡ Accepted k
+    → Spliced e (take n d) (editedIn e d n)
 edit-splices e d n k o w a =
     let t = edit-taken e d n k a .0 in
     message-splices e (take n d) n (every-take isOctet n d o) (t .message) (t .has-data) (t .right) w
@@ -146,7 +159,8 @@ edit-splices e d n k o w a =
 -- ---- what the splice comes to
 
 module _ (before front back after : List ℕ) where
-  length-with : (part : List ℕ) → length (withPart before front part back after) ≡ length before + 2 + length front + length part + length back + length after
+  length-with : (part : List ℕ)
+      → length (withPart before front part back after) ≡ length before + 2 + length front + length part + length back + length after
   length-with part = simp length-append (omega arith)
 
   -- what stands before the part, with C5's length octet l
@@ -160,27 +174,43 @@ module _ (before front back after : List ℕ) where
   head-set l v =
       let five = before ++ (transfer-data ∷ []) in
       let at : length five ≡ length before + 1 = simp length-append (omega arith) in
-      rw (← append-snoc before transfer-data (l ∷ front), ← append-snoc before transfer-data (v ∷ front)) (set-at five l front v (length before + 1) at)
+      rw (← append-snoc before transfer-data (l ∷ front), ← append-snoc before transfer-data (v ∷ front))
+      (set-at five l front v (length before + 1) at)
 
-  octets-set : (old new : List ℕ) (v : ℕ) → set (take (length before + 2 + length front) (withPart before front old back after)) (length before + 1) v ++ (new ++ drop (length before + 2 + length front + length old) (withPart before front old back after)) ≡ before ++ (transfer-data ∷ v ∷ (front ++ (new ++ (back ++ after))))
+  octets-set : (old new : List ℕ) (v : ℕ)
+      → set (take (length before + 2 + length front) (withPart before front old back after)) (length before + 1) v
+      ++ (new ++ drop (length before + 2 + length front + length old) (withPart before front old back after))
+      ≡ before ++ (transfer-data ∷ v ∷ (front ++ (new ++ (back ++ after))))
   octets-set old new v =
       let l = length (front ++ (old ++ back)) in
       let whole : withPart before front old back after ≡ headOf l ++ (old ++ (back ++ after)) = rw append-assoc in
       let end : length (headOf l ++ old) ≡ length before + 2 + length front + length old = simp length-append (omega arith) in
-      let first : take (length before + 2 + length front) (withPart before front old back after) ≡ headOf l = rw whole (take-at (headOf l) (old ++ (back ++ after)) _ (head-length l)) in
-      let last : drop (length before + 2 + length front + length old) (withPart before front old back after) ≡ back ++ after = rw (whole, ← append-assoc (headOf l) old (back ++ after)) (drop-at (headOf l ++ old) (back ++ after) _ end) in
+      let first : take (length before + 2 + length front) (withPart before front old back after) ≡ headOf l =
+      rw whole (take-at (headOf l) (old ++ (back ++ after)) _ (head-length l)) in
+      let last : drop (length before + 2 + length front + length old) (withPart before front old back after) ≡ back ++ after =
+      rw (whole, ← append-assoc (headOf l) old (back ++ after)) (drop-at (headOf l ++ old) (back ++ after) _ end) in
       rw (first, last, head-set l v, append-assoc)
 
 module _ (e : Edit) (m : List ℕ) (r : List Part) (s : Spliced e m r) where
   -- the lengths of the message and of the transfer data
   pub length-becomes : length (layout r) + length (s .old) ≡ length m + length (s .new)
   length-becomes =
-      omega (arith, ap length (s .was), ap length (s .becomes), length-with (s .before) (s .front) (s .back) (s .after) (s .old), length-with (s .before) (s .front) (s .back) (s .after) (s .new))
+      omega (
+        arith,
+        ap length (s .was),
+        ap length (s .becomes),
+        length-with (s .before) (s .front) (s .back) (s .after) (s .old),
+        length-with (s .before) (s .front) (s .back) (s .after) (s .new),
+      )
 
   pub length-transfer : length (layoutItems (itemsIn r)) + length (s .old) ≡ length (s .front ++ (s .old ++ s .back)) + length (s .new)
   length-transfer = rw (s .transfer) (simp length-append (omega arith))
 
   -- C5's length octet set, and the new octets in the place of the old
-  pub octets-become : set (take (length (s .before) + 2 + length (s .front)) m) (length (s .before) + 1) (length (layoutItems (itemsIn r))) ++ (s .new ++ drop (length (s .before) + 2 + length (s .front) + length (s .old)) m) ≡ layout r
+  pub octets-become : set (take (length (s .before) + 2 + length (s .front)) m) (length (s .before) + 1) (length (layoutItems (itemsIn r)))
+      ++ (s .new ++ drop (length (s .before) + 2 + length (s .front) + length (s .old)) m)
+      ≡ layout r
   octets-become =
-      rw (s .was, s .transfer) (octets-set (s .before) (s .front) (s .back) (s .after) (s .old) (s .new) (length (s .front ++ (s .new ++ s .back))) ∙ sym (s .becomes))
+      rw (s .was, s .transfer)
+      (octets-set (s .before) (s .front) (s .back) (s .after) (s .old) (s .new) (length (s .front ++ (s .new ++ s .back)))
+      ∙ sym (s .becomes))

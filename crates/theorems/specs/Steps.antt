@@ -12,7 +12,18 @@ use Rattle.annex.specs.Answers.{missing, left-over, andThen, shifted}
 use Rattle.annex.specs.Units.{nameOf, afterOf, extentOf, commonExtentOf, contentsIn}
 use Rattle.annex.specs.Heads.{among, commonHeaders, end-mark, transfer-data, nameUsed, pliRight, oftenOf}
 use Rattle.annex.specs.Contents.{faultOf}
-use Rattle.annex.specs.Reading.{transferOf, transfersVerdict, octetAllowed, commonForm, endOf, dataOf, commonOf, transferBy, dataBy, commonBy}
+use Rattle.annex.specs.Reading.{
+  transferOf,
+  transfersVerdict,
+  octetAllowed,
+  commonForm,
+  endOf,
+  dataOf,
+  commonOf,
+  transferBy,
+  dataBy,
+  commonBy,
+}
 use Rattle.annex.specs.declared.Answer.{Answer}
 use Rattle.annex.specs.declared.Answer.the-variants.{Accepted, Refused}
 use Rattle.annex.specs.declared.Fault.the-variants.{Sound}
@@ -42,10 +53,19 @@ transfer-own times h own rest e =
       sound = rw take-append-seam at (t .sound);
     }
 
-pub transfer-accepts : (times h : ℕ) (own rest : List ℕ) → TransferOwn times h own → transferOf times h (own ++ rest) ≡ Accepted (length own)
+pub transfer-accepts : (times h : ℕ) (own rest : List ℕ) → TransferOwn times h own
+    → transferOf times h (own ++ rest) ≡ Accepted (length own)
 unfolding transferBy
 transfer-accepts times h own rest t =
-    rw (t .used, t .pli, lt-leb (oftenOf (nameOf h)) times (t .fewer), long-before (extentOf h) own rest (t .long), le-ltb (length (own ++ rest)) (length own) (simp length-append (omega arith)), take-append-seam, t .sound)
+    rw (
+      t .used,
+      t .pli,
+      lt-leb (oftenOf (nameOf h)) times (t .fewer),
+      long-before (extentOf h) own rest (t .long),
+      le-ltb (length (own ++ rest)) (length own) (simp length-append (omega arith)),
+      take-append-seam,
+      t .sound,
+    )
 
 -- ---- a common parameter
 
@@ -81,10 +101,12 @@ abbrev pub Outcome : Bool → ℕ → Bool → ℕ → ℕ → List ℕ → Type
 Outcome true times whole h n xs = Ending whole n xs
 Outcome false times whole h n xs = Commoned times h n xs
 
-pub common-accepted : (times : ℕ) (whole : Bool) (h n : ℕ) (xs : List ℕ) → commonOf times whole h xs ≡ Accepted n → Outcome (eqb h end-mark) times whole h n xs
+pub common-accepted : (times : ℕ) (whole : Bool) (h n : ℕ) (xs : List ℕ) → commonOf times whole h xs ≡ Accepted n
+    → Outcome (eqb h end-mark) times whole h n xs
 common-accepted times whole h n xs e = go (commonForm times h xs) refl
   where
-    many : (k : ℕ) (d : Bool) → eqb h transfer-data ≡ d → FormTaken times h xs k → cond d (dataOf k xs) (Accepted k) ≡ Accepted n → Commoned times h n xs
+    many : (k : ℕ) (d : Bool) → eqb h transfer-data ≡ d → FormTaken times h xs k → cond d (dataOf k xs) (Accepted k) ≡ Accepted n
+        → Commoned times h n xs
     many k true p f a =
         let d = data-taken faultOf k xs n a in
         rw (d .2) (record { formed = f; inner = λ _. (d .0, d .1) })
@@ -92,7 +114,8 @@ common-accepted times whole h n xs e = go (commonForm times h xs) refl
         let same : k ≡ n = cc in
         rw (← same) (record { formed = f; inner = λ q. absurd (let z : _≡_ {A = ℕ} 0 1 = cc in omega arith) })
 
-    by : (k : ℕ) (b : Bool) → FormTaken times h xs k → cond b (endOf whole xs) (cond (eqb h transfer-data) (dataOf k xs) (Accepted k)) ≡ Accepted n → Outcome b times whole h n xs
+    by : (k : ℕ) (b : Bool) → FormTaken times h xs k
+        → cond b (endOf whole xs) (cond (eqb h transfer-data) (dataOf k xs) (Accepted k)) ≡ Accepted n → Outcome b times whole h n xs
     by k true f a = end-accepted whole n xs a
     by k false f a = many k (eqb h transfer-data) refl f a
 
@@ -120,7 +143,8 @@ first-own : (h : ℕ) (own rest : List ℕ) → among h commonHeaders ≡ true �
 first-own h [] rest m l = absurd (omega (arith, common-octet h m))
 first-own h (x ∷ own) rest m l = refl
 
-pub common-own : (times : ℕ) (whole : Bool) (h : ℕ) (own rest : List ℕ) → eqb h end-mark ≡ false → commonOf times whole h (own ++ rest) ≡ Accepted (length own) → CommonOwn times h own
+pub common-own : (times : ℕ) (whole : Bool) (h : ℕ) (own rest : List ℕ) → eqb h end-mark ≡ false
+    → commonOf times whole h (own ++ rest) ≡ Accepted (length own) → CommonOwn times h own
 common-own times whole h own rest b e =
     let o : Outcome false times whole h (length own) (own ++ rest) = rw b at (common-accepted times whole h (length own) (own ++ rest) e) in
     let f = o .formed in
@@ -137,7 +161,8 @@ common-own times whole h own rest b e =
 data-accepts : (a : Answer) (k j : ℕ) → a ≡ Accepted j → andThen (shifted 2 a) (λ _. Accepted k) ≡ Accepted k
 data-accepts a k j e = rw e
 
-pub common-accepts : (times : ℕ) (whole : Bool) (h : ℕ) (own rest : List ℕ) → CommonOwn times h own → commonOf times whole h (own ++ rest) ≡ Accepted (length own)
+pub common-accepts : (times : ℕ) (whole : Bool) (h : ℕ) (own rest : List ℕ) → CommonOwn times h own
+    → commonOf times whole h (own ++ rest) ≡ Accepted (length own)
 unfolding commonBy dataBy
 common-accepts times whole h own rest c =
     rw (form-accepts times h (length own) (own ++ rest) formed, not-end h (c .listed)) (go (eqb h transfer-data) refl)

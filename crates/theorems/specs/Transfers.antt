@@ -23,7 +23,17 @@ use Rattle.laws.specs.Leaves.{opened, closed}
 use Rattle.theorems.specs.Lists.{every-append, every-left, every-right, every-drop, each-so, each-map}
 use Rattle.theorems.specs.Lengths.{cut, lead}
 use Rattle.theorems.specs.Trails.{laidOut, Trail, walked, built, made-list, made-answer}
-use Rattle.theorems.specs.Counts.{namesIn, Full, full-unseen, full-counted, none-seen, Sparing, sparing-first, sparing-rest, sparing-trail}
+use Rattle.theorems.specs.Counts.{
+  namesIn,
+  Full,
+  full-unseen,
+  full-counted,
+  none-seen,
+  Sparing,
+  sparing-first,
+  sparing-rest,
+  sparing-trail,
+}
 use Rattle.theorems.specs.Steps.{TransferOwn, transfer-own, transfer-accepts}
 
 -- one allowed transfer parameter
@@ -98,10 +108,13 @@ each-read [] seen p t o = tt
 each-read (q ∷ qs) seen p t o =
     let h = q .head in
     let small = ltb-true h 256 (and-left (isOctet h) _ o) in
-    let after = and-right (isOctet h) _ o in
-    (item-read q (timesSeen seen h) small (every-left isOctet (q .own) _ after) (transfer-own _ h (q .own) _ (t .1)), each-read qs (counted seen h) _ (t .2) (every-right isOctet (q .own) _ after))
+    let after = and-right (isOctet h) _ o in (
+      item-read q (timesSeen seen h) small (every-left isOctet (q .own) _ after) (transfer-own _ h (q .own) _ (t .1)),
+      each-read qs (counted seen h) _ (t .2) (every-right isOctet (q .own) _ after),
+    )
 
-pub transfers-read : (t : List ℕ) (j : ℕ) → every isOctet t ≡ true → length t ≤ most-transfer-octets → transfersVerdict t ≡ Accepted j → TransfersRead t j
+pub transfers-read : (t : List ℕ) (j : ℕ) → every isOctet t ≡ true → length t ≤ most-transfer-octets → transfersVerdict t ≡ Accepted j
+    → TransfersRead t j
 unfolding transfersVerdictBy transfersBy
 transfers-read t j o l e =
     let qs = walk (listing transferStep) unseen 0 0 t in
@@ -156,12 +169,16 @@ each-opens (i ∷ is) p b =
     let rest = each-opens is (p + 1 + length (itemPar p i .own)) (b .1) in
     cc
 
-each-trail : (is : List Item) (seen : Seen) (p : ℕ) → Each ItemBuilt is → Full seen → Sparing oftenOf seen (namesOf is) → Trail transferStep seen p (itemPars p is)
+each-trail : (is : List Item) (seen : Seen) (p : ℕ) → Each ItemBuilt is → Full seen → Sparing oftenOf seen (namesOf is)
+    → Trail transferStep seen p (itemPars p is)
 unfolding itemPars
 each-trail [] seen p b f s = tt
 each-trail (i ∷ is) seen p b f s =
-    let h = i .header in
-    (refl, transfer-accepts (timesSeen seen h) h _ _ (b .0 .own (timesSeen seen h) (sparing-first oftenOf seen h f (namesOf is) s)), each-trail is (counted seen h) _ (b .1) (full-counted seen h f) (sparing-rest oftenOf seen h f (namesOf is) s))
+    let h = i .header in (
+      refl,
+      transfer-accepts (timesSeen seen h) h _ _ (b .0 .own (timesSeen seen h) (sparing-first oftenOf seen h f (namesOf is) s)),
+      each-trail is (counted seen h) _ (b .1) (full-counted seen h f) (sparing-rest oftenOf seen h f (namesOf is) s),
+    )
 
 pub record TransfersBuilt (is : List Item) : Type 0 where
   pub verdict : transfersVerdict (layoutItems is) ≡ Accepted (length (layoutItems is))

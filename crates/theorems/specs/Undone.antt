@@ -1,5 +1,5 @@
--- Demand 3: removing what was appended gives the message back. The appended parameter is the last of its name, behind as many as stood there
--- before, so taking that one out leaves the transfer parameters that were there.
+-- Demand 3: removing what was appended gives the message back. The appended parameter is the last of its name, behind as many as stood
+-- there before, so taking that one out leaves the transfer parameters that were there.
 use Prim.Native.Nat.{ℕ, _<_}
 use native.Mathlib.Omega.{arith}
 use mathlib.Core.Path.{_≡_, sym, ap, _∙_}
@@ -20,7 +20,16 @@ use Rattle.theorems.specs.Lists.{times-append, times-here}
 use Rattle.theorems.specs.Records.{names-append}
 use Rattle.theorems.specs.Parted.{Parted, one-data}
 use Rattle.theorems.specs.Reasons.{EditRight, editedIn, NoReason, edit-taken, edit-accepts}
-use Rattle.theorems.specs.Edits.{new-read, instead-behind, headers-kept, record-edited, items-edited, data-edited, message-allowed, edited-allowed}
+use Rattle.theorems.specs.Edits.{
+  new-read,
+  instead-behind,
+  headers-kept,
+  record-edited,
+  items-edited,
+  data-edited,
+  message-allowed,
+  edited-allowed,
+}
 use Rattle.theorems.specs.Buffers.{Afterwards, buffer-edited}
 
 -- how often the name of new octets stands
@@ -101,7 +110,8 @@ module _ (new : List ℕ) where
       let h = buffer-edited appended d n k o p a in
       let parted = one-data r (m .0) (t .has-data) in
       let removing = back (itemsIn r) in
-      let e : editedIn removing d′ k ≡ r = ap (edited removing) (h .reads) ∙ record-back r (m .0) (edited-allowed appended d n k o p a .0) parted (t .right) p in
+      let e : editedIn removing d′ k ≡ r =
+      ap (edited removing) (h .reads) ∙ record-back r (m .0) (edited-allowed appended d n k o p a .0) parted (t .right) p in
       let long : length (layout (editedIn removing d′ k)) ≡ n = rw (e, m .1) (length-take-le n d (t .within)) in
       let accepted : editingOf removing d′ k ≡ Accepted n = rw long at (edit-accepts removing d′ k (back-free d n k o p a h e)) in
       (accepted, buffer-edited removing d′ k n (h .octets) tt accepted .message ∙ ap layout e ∙ m .1)

@@ -1,5 +1,5 @@
--- The struct and the record that it stands for: a packed record is viewed as what was packed, since each head takes from the arrays what was
--- laid there for it; and what any struct of the code is viewed as is held as a record holds its values.
+-- The struct and the record that it stands for: a packed record is viewed as what was packed, since each head takes from the arrays what
+-- was laid there for it; and what any struct of the code is viewed as is held as a record holds its values.
 use Prim.Native.Nat.{ℕ, _-_, _<_}
 use mathlib.Core.Path.{_≡_, refl, sym, ap}
 use mathlib.Core.Bool.{Bool, true, false, cond}
@@ -11,7 +11,25 @@ use lib.Seq.{take-append-seam, drop-append-seam, take-at, drop-at}
 use Rattle.annex.specs.Heads.{transfer-data, most-commons, most-transfers}
 use Rattle.annex.specs.Items.{Item, Part, part, valuePart}
 use Rattle.annex.specs.Allowed.{every, Each, isOctet, HeldItem, HeldPart, Held, ownPart, itemsIn}
-use Rattle.annex.specs.Records.{noCommon, noTransfer, pad, headOf, commonHeadOf, valuesOf, pack, rawItem, viewItems, lengthsOf, transferCount, transfersSum, viewParts, commonsIn, isWhole, view, rawPart}
+use Rattle.annex.specs.Records.{
+  noCommon,
+  noTransfer,
+  pad,
+  headOf,
+  commonHeadOf,
+  valuesOf,
+  pack,
+  rawItem,
+  viewItems,
+  lengthsOf,
+  transferCount,
+  transfersSum,
+  viewParts,
+  commonsIn,
+  isWhole,
+  view,
+  rawPart,
+}
 use Rattle.annex.specs.declared.Common.{Common}
 use Rattle.annex.specs.declared.Transfer.{Transfer}
 use Rattle.annex.specs.declared.Record.{Record}
@@ -27,7 +45,13 @@ view-items : (is : List Item) (vs : List ℕ) → Each HeldItem is → viewItems
 unfolding viewItems valuesOf
 view-items [] vs h = refl
 view-items (i ∷ is) vs h =
-    rw (append-assoc (i .values) (valuesOf is) vs, take-append-seam (i .values) (valuesOf is ++ vs), drop-append-seam (i .values) (valuesOf is ++ vs), view-items is vs (h .1), h .0 .own)
+    rw (
+      append-assoc (i .values) (valuesOf is) vs,
+      take-append-seam (i .values) (valuesOf is ++ vs),
+      drop-append-seam (i .values) (valuesOf is ++ vs),
+      view-items is vs (h .1),
+      h .0 .own,
+    )
 
 lengths-heads : (is : List Item) → lengthsOf (map headOf is) ≡ length (valuesOf is)
 unfolding lengthsOf valuesOf
@@ -48,7 +72,8 @@ transfers-sum [] h = refl
 transfers-sum (p ∷ r) h = rw (transfers-in p (h .0), transfers-sum r (h .1)) (sym (length-append (p .items) (itemsIn r)))
 
 -- the heads of parts, with those of their parameters and the values
-view-parts : (r : List Part) (ts : List Transfer) (vs : List ℕ) → Held r → viewParts (map commonHeadOf r) (map headOf (itemsIn r) ++ ts) (valuesOf (itemsIn r) ++ vs) ≡ r
+view-parts : (r : List Part) (ts : List Transfer) (vs : List ℕ) → Held r
+    → viewParts (map commonHeadOf r) (map headOf (itemsIn r) ++ ts) (valuesOf (itemsIn r) ++ vs) ≡ r
 unfolding viewParts
 view-parts [] ts vs h = refl
 view-parts (p ∷ r) ts vs h =
@@ -56,7 +81,18 @@ view-parts (p ∷ r) ts vs h =
     let js = itemsIn r in
     let heads : map headOf (is ++ js) ++ ts ≡ map headOf is ++ (map headOf js ++ ts) = rw (map-append headOf is js, append-assoc) in
     let vals : valuesOf (is ++ js) ++ vs ≡ valuesOf is ++ (valuesOf js ++ vs) = rw (values-append is js, append-assoc) in
-    rw (transfers-in p (h .0), heads, vals, take-at (map headOf is) (map headOf js ++ ts) (length is) (length-map is headOf), drop-at (map headOf is) (map headOf js ++ ts) (length is) (length-map is headOf), lengths-heads is, drop-append-seam (valuesOf is) (valuesOf js ++ vs), view-parts r ts vs (h .1), view-items is (valuesOf js ++ vs) (h .0 .each), h .0 .own)
+    rw (
+      transfers-in p (h .0),
+      heads,
+      vals,
+      take-at (map headOf is) (map headOf js ++ ts) (length is) (length-map is headOf),
+      drop-at (map headOf is) (map headOf js ++ ts) (length is) (length-map is headOf),
+      lengths-heads is,
+      drop-append-seam (valuesOf is) (valuesOf js ++ vs),
+      view-parts r ts vs (h .1),
+      view-items is (valuesOf js ++ vs) (h .0 .each),
+      h .0 .own,
+    )
 
 commons-pack : (r : List Part) → commonsIn (pack r) ≡ map commonHeadOf r
 unfolding pack pad
@@ -67,18 +103,28 @@ pub view-pack : (r : List Part) → Held r → view (pack r) ≡ r
 unfolding view pack pad
 view-pack r h =
     rw (commons-pack r)
-    (view-parts r (replicate (most-transfers - length (map headOf (itemsIn r))) noTransfer) (replicate (512 - length (valuesOf (itemsIn r))) 0) h)
+    (view-parts r (replicate (most-transfers - length (map headOf (itemsIn r))) noTransfer)
+    (replicate (512 - length (valuesOf (itemsIn r))) 0) h)
 
 transfers-pack : (r : List Part) → take (length (itemsIn r)) (pack r .transfer) ≡ map headOf (itemsIn r)
 unfolding pack pad
 transfers-pack r =
-    take-at (map headOf (itemsIn r)) (replicate (most-transfers - length (map headOf (itemsIn r))) noTransfer) (length (itemsIn r)) (length-map (itemsIn r) headOf)
+    take-at (map headOf (itemsIn r)) (replicate (most-transfers - length (map headOf (itemsIn r))) noTransfer) (length (itemsIn r))
+    (length-map (itemsIn r) headOf)
 
 -- within the limits the counts and lengths stay within the arrays
 pub whole-pack : (r : List Part) → Held r → Within r → isWhole (pack r) ≡ true
 unfolding isWhole pack
 whole-pack r h w =
-    rw (commons-pack r, transfers-sum r h, transfers-pack r, lengths-heads (itemsIn r), le-leb (length r) most-commons (w .commons), le-leb (length (itemsIn r)) most-transfers (w .transfers), le-leb (length (valuesOf (itemsIn r))) 512 (w .values))
+    rw (
+      commons-pack r,
+      transfers-sum r h,
+      transfers-pack r,
+      lengths-heads (itemsIn r),
+      le-leb (length r) most-commons (w .commons),
+      le-leb (length (itemsIn r)) most-transfers (w .transfers),
+      le-leb (length (valuesOf (itemsIn r))) 512 (w .values),
+    )
 
 -- ---- what any struct is viewed as
 
@@ -109,11 +155,13 @@ held-items (t ∷ ts) vs s o = (
 own-part : (p : Part) → p .header < 256 → Each HeldItem (p .items) → HeldPart (ownPart p)
 own-part p s h = go (eqb (p .header) transfer-data) refl
   where
-    go : (b : Bool) → eqb (p .header) transfer-data ≡ b → HeldPart (cond b (part (p .header) 0 (p .items)) (valuePart (p .header) (p .value)))
+    go : (b : Bool) → eqb (p .header) transfer-data ≡ b
+        → HeldPart (cond b (part (p .header) 0 (p .items)) (valuePart (p .header) (p .value)))
     go true e = record { octet = s; own = rw e; each = h }
     go false e = record { octet = s; own = rw e; each = tt }
 
-held-parts : (cs : List Common) (ts : List Transfer) (vs : List ℕ) → Each OctetCommon cs → Each OctetTransfer ts → every isOctet vs ≡ true → Held (viewParts cs ts vs)
+held-parts : (cs : List Common) (ts : List Transfer) (vs : List ℕ) → Each OctetCommon cs → Each OctetTransfer ts → every isOctet vs ≡ true
+    → Held (viewParts cs ts vs)
 unfolding viewParts
 held-parts [] ts vs s t o = tt
 held-parts (c ∷ cs) ts vs s t o =
@@ -127,4 +175,5 @@ held-parts (c ∷ cs) ts vs s t o =
 pub view-held : (s : Record) → FitsStruct s → Held (view s)
 unfolding view
 view-held s f =
-    held-parts (commonsIn s) (s .transfer) (s .values) (each-take OctetCommon (s .commons) (s .common) (f .common-octets)) (f .transfer-octets) (f .value-octets)
+    held-parts (commonsIn s) (s .transfer) (s .values) (each-take OctetCommon (s .commons) (s .common) (f .common-octets))
+    (f .transfer-octets) (f .value-octets)

@@ -1,6 +1,6 @@
--- Writing accepts, room aside, exactly the records that may be written, and gives the length of what they lay out to: each step's tests are one
--- parameter's rules, and the names seen so far keep count against how often each may stand. So what was read is written as it was, and what
--- was written is read as it was.
+-- Writing accepts, room aside, exactly the records that may be written, and gives the length of what they lay out to: each step's tests are
+-- one parameter's rules, and the names seen so far keep count against how often each may stand. So what was read is written as it was, and
+-- what was written is read as it was.
 use Prim.Native.Nat.{ℕ, suc, _+_, _-_, _≤_, _<_}
 use native.Mathlib.Omega.{arith}
 use mathlib.Core.Path.{_≡_, refl, sym, ap, _∙_}
@@ -12,20 +12,70 @@ use lib.Dec.{eqb, leb, ltb}
 use lib.ListN.{length, drop, length-append}
 use Rattle.annex.specs.Answers.{missing, transfer-over, over-limits, refuse, headerAt}
 use Rattle.annex.specs.Units.{nameOf, extentOf}
-use Rattle.annex.specs.Heads.{among, commonHeaders, user-class, signal-kind, transfer-data, most-commons, most-transfers, most-transfer-octets, most-octets, oftenOf}
+use Rattle.annex.specs.Heads.{
+  among,
+  commonHeaders,
+  user-class,
+  signal-kind,
+  transfer-data,
+  most-commons,
+  most-transfers,
+  most-transfer-octets,
+  most-octets,
+  oftenOf,
+}
 use Rattle.annex.specs.Items.{Item, Part}
 use Rattle.annex.specs.Layout.{layoutItem, layoutItems, layoutPart, layout}
-use Rattle.annex.specs.Allowed.{every, Each, isOctet, lengthRight, faultIn, valueRight, valueFits, HeldItem, HeldPart, Held, itemsIn, contentsSum, namesOf, partNamesOf, Allowed, Writable}
+use Rattle.annex.specs.Allowed.{
+  every,
+  Each,
+  isOctet,
+  lengthRight,
+  faultIn,
+  valueRight,
+  valueFits,
+  HeldItem,
+  HeldPart,
+  Held,
+  itemsIn,
+  contentsSum,
+  namesOf,
+  partNamesOf,
+  Allowed,
+  Writable,
+}
 use Rattle.annex.specs.Walk.{Seen, unseen, timesSeen, counted}
 use Rattle.annex.specs.Reading.{wholeIn, verdictOf, recordOf}
-use Rattle.annex.specs.Writing.{itemWriting, itemsWriting, dataWriting, partWriting, partsWriting, overLimits, recordWriting, structWriting, writingOf, writtenOf}
+use Rattle.annex.specs.Writing.{
+  itemWriting,
+  itemsWriting,
+  dataWriting,
+  partWriting,
+  partsWriting,
+  overLimits,
+  recordWriting,
+  structWriting,
+  writingOf,
+  writtenOf,
+}
 use Rattle.annex.specs.Records.{pack, isWhole, view, readingOf}
 use Rattle.annex.specs.declared.Record.{Record}
 use Rattle.annex.specs.declared.Answer.the-variants.{Accepted}
 use Rattle.laws.specs.Bools.{and-left, and-right}
 use Rattle.laws.specs.Steps.{passed, then-passed, sounded, head-taken, head-right}
 use Rattle.laws.specs.Laid.{length-layout, lead-small, length-small}
-use Rattle.theorems.specs.Counts.{Full, full-unseen, full-counted, none-seen, moved, Sparing, sparing-first, sparing-rest, sparing-cons, sparing-more}
+use Rattle.theorems.specs.Counts.{
+  Full,
+  full-unseen,
+  full-counted,
+  none-seen,
+  moved,
+  Sparing,
+  sparing-first,
+  sparing-rest,
+  sparing-cons,
+  sparing-more,
+}
 use Rattle.theorems.specs.Transfers.{AllowedItem, AllowedItems, none-often}
 use Rattle.theorems.specs.Commons.{AllowedPart, no-items}
 use Rattle.theorems.specs.Records.{plain-items, allowed, header-stands, allowed-parts, allowed-within}
@@ -59,7 +109,8 @@ item-written times p i n e =
     }
 
 -- and that is enough
-item-writes : (times p : ℕ) (i : Item) → AllowedItem i → times < oftenOf (nameOf (i .header)) → itemWriting times p i ≡ Accepted (p + length (layoutItem i))
+item-writes : (times p : ℕ) (i : Item) → AllowedItem i → times < oftenOf (nameOf (i .header))
+    → itemWriting times p i ≡ Accepted (p + length (layoutItem i))
 unfolding itemWriting
 item-writes times p i a f =
     rw (head-right p (i .header) _ (a .used) (a .pli), lt-leb (oftenOf (nameOf (i .header))) times f, a .length-right, a .faultless)
@@ -72,7 +123,8 @@ record ItemsWritten (seen : Seen) (p : ℕ) (is : List Item) (n : ℕ) : Type 0 
   pub often : Sparing oftenOf seen (namesOf is)
   pub behind : n ≡ p + length (layoutItems is)
 
-items-written : (is : List Item) (seen : Seen) (p n : ℕ) → Full seen → Sparing oftenOf seen [] → Each HeldItem is → itemsWriting seen p is ≡ Accepted n → ItemsWritten seen p is n
+items-written : (is : List Item) (seen : Seen) (p n : ℕ) → Full seen → Sparing oftenOf seen [] → Each HeldItem is
+    → itemsWriting seen p is ≡ Accepted n → ItemsWritten seen p is n
 unfolding itemsWriting layoutItems
 items-written [] seen p n f s h e = let same : p ≡ n = cc in record { each = tt; often = s; behind = omega arith }
 items-written (i ∷ is) seen p n f s h e =
@@ -86,18 +138,23 @@ items-written (i ∷ is) seen p n f s h e =
       behind = simp length-append (omega (arith, w .behind, r .behind));
     }
 
-items-write : (is : List Item) (seen : Seen) (p : ℕ) → Full seen → Sparing oftenOf seen (namesOf is) → Each AllowedItem is → itemsWriting seen p is ≡ Accepted (p + length (layoutItems is))
+items-write : (is : List Item) (seen : Seen) (p : ℕ) → Full seen → Sparing oftenOf seen (namesOf is) → Each AllowedItem is
+    → itemsWriting seen p is ≡ Accepted (p + length (layoutItems is))
 unfolding itemsWriting layoutItems
 items-write [] seen p f s a = let e : p ≡ p + 0 = omega arith in ap Accepted e
 items-write (i ∷ is) seen p f s a =
     let k = i .header in
-    let e : p + length (layoutItem i) + length (layoutItems is) ≡ p + length (layoutItem i ++ layoutItems is) = simp length-append (omega arith) in
+    let e : p + length (layoutItem i) + length (layoutItems is) ≡ p + length (layoutItem i ++ layoutItems is) =
+    simp length-append (omega arith) in
     rw (item-writes (timesSeen seen k) p i (a .0) (sparing-first oftenOf seen k f (namesOf is) s))
-    (items-write is (counted seen k) (p + length (layoutItem i)) (full-counted seen k f) (sparing-rest oftenOf seen k f (namesOf is) s) (a .1) ∙ ap Accepted e)
+    (items-write is (counted seen k) (p + length (layoutItem i)) (full-counted seen k f) (sparing-rest oftenOf seen k f (namesOf is) s)
+    (a .1)
+    ∙ ap Accepted e)
 
 -- ---- C5: none is seen at its start, and 14 comes at its end
 
-data-written : (p : ℕ) (is : List Item) (n : ℕ) → Each HeldItem is → dataWriting p is ≡ Accepted n → AllowedItems is × (n ≡ p + 2 + length (layoutItems is))
+data-written : (p : ℕ) (is : List Item) (n : ℕ) → Each HeldItem is → dataWriting p is ≡ Accepted n
+    → AllowedItems is × (n ≡ p + 2 + length (layoutItems is))
 unfolding dataWriting
 data-written p is n h e =
     let over : ℕ → Bool = λ q. ltb most-transfer-octets (q - (p + 2)) in
@@ -120,7 +177,10 @@ unfolding dataWriting
 data-writes p is a =
     let l = length (layoutItems is) in
     let few = a .few-octets in
-    rw (items-write is unseen (p + 2) full-unseen (λ u. omega (arith, none-seen u, a .often u)) (a .each), le-ltb most-transfer-octets (p + 2 + l - (p + 2)) (omega arith))
+    rw (
+      items-write is unseen (p + 2) full-unseen (λ u. omega (arith, none-seen u, a .often u)) (a .each),
+      le-ltb most-transfer-octets (p + 2 + l - (p + 2)) (omega arith),
+    )
 
 -- ---- a common parameter
 
@@ -144,7 +204,9 @@ part-written times p q n h e =
       behind = w .1;
     }
   where
-    go : (b : Bool) → eqb (q .header) transfer-data ≡ b → cond b (dataWriting p (q .items)) (Accepted (p + length (layoutPart q))) ≡ Accepted n → AllowedItems (q .items) × (n ≡ p + length (layoutPart q))
+    go : (b : Bool) → eqb (q .header) transfer-data ≡ b
+        → cond b (dataWriting p (q .items)) (Accepted (p + length (layoutPart q))) ≡ Accepted n
+        → AllowedItems (q .items) × (n ≡ p + length (layoutPart q))
     go true b e =
         let w = data-written p (q .items) n (h .each) e in
         (w .0, rw b (omega (arith, w .1)))
@@ -156,7 +218,8 @@ part-writes : (times p : ℕ) (q : Part) → AllowedPart q → times ≡ 0 → p
 unfolding partWriting layoutPart
 part-writes times p q a z = rw (a .listed, z, a .right, a .fits) (go (eqb (q .header) transfer-data) refl)
   where
-    go : (b : Bool) → eqb (q .header) transfer-data ≡ b → cond b (dataWriting p (q .items)) (Accepted (p + length (layoutPart q))) ≡ Accepted (p + length (layoutPart q))
+    go : (b : Bool) → eqb (q .header) transfer-data ≡ b
+        → cond b (dataWriting p (q .items)) (Accepted (p + length (layoutPart q))) ≡ Accepted (p + length (layoutPart q))
     go true b =
         let l = length (layoutItems (q .items)) in
         let e : p + 2 + l ≡ p + suc (suc l) = omega arith in
@@ -173,7 +236,8 @@ record PartsWritten (seen : Seen) (p : ℕ) (r : List Part) (n : ℕ) : Type 0 w
   pub kind : 0 < stood seen (partNamesOf r) (nameOf signal-kind)
   pub behind : n ≡ p + length (layout r)
 
-parts-written : (r : List Part) (seen : Seen) (p n : ℕ) → Full seen → Sparing (λ x. 1) seen [] → Held r → partsWriting seen p r ≡ Accepted n → PartsWritten seen p r n
+parts-written : (r : List Part) (seen : Seen) (p n : ℕ) → Full seen → Sparing (λ x. 1) seen [] → Held r → partsWriting seen p r ≡ Accepted n
+    → PartsWritten seen p r n
 unfolding partsWriting layout
 parts-written [] seen p n f s h e =
     let w = passed (not (wholeIn seen)) missing p n (Accepted (p + 1)) e in
@@ -188,7 +252,9 @@ parts-written (q ∷ r) seen p n f s h e =
     let xs = partNamesOf r in
     let t = then-passed (partWriting (timesSeen seen k) p q) (λ p′. partsWriting (counted seen k) p′ r) n e in
     let w = part-written (timesSeen seen k) p q (t .0) (h .0) (t .1) in
-    let v = parts-written r (counted seen k) (t .0) n (full-counted seen k f) (sparing-more (λ x. 1) seen k f s (omega (arith, w .new))) (h .1) (t .2) in
+    let v =
+    parts-written r (counted seen k) (t .0) n (full-counted seen k f) (sparing-more (λ x. 1) seen k f s (omega (arith, w .new))) (h .1)
+    (t .2) in
     record {
       each = (w .allowed, v .each);
       once = sparing-cons (λ x. 1) seen k f xs (v .once);
@@ -197,7 +263,8 @@ parts-written (q ∷ r) seen p n f s h e =
       behind = simp length-append (omega (arith, w .behind, v .behind));
     }
 
-parts-write : (r : List Part) (seen : Seen) (p : ℕ) → Full seen → Standing seen (partNamesOf r) → Each AllowedPart r → partsWriting seen p r ≡ Accepted (p + length (layout r))
+parts-write : (r : List Part) (seen : Seen) (p : ℕ) → Full seen → Standing seen (partNamesOf r) → Each AllowedPart r
+    → partsWriting seen p r ≡ Accepted (p + length (layout r))
 unfolding partsWriting layout
 parts-write [] seen p f s a = rw (standing-whole seen s)
 parts-write (q ∷ r) seen p f s a =
@@ -205,7 +272,8 @@ parts-write (q ∷ r) seen p f s a =
     let new : timesSeen seen k ≡ 0 = omega (arith, sparing-first (λ x. 1) seen k f (partNamesOf r) (s .once)) in
     let e : p + length (layoutPart q) + length (layout r) ≡ p + length (layoutPart q ++ layout r) = simp length-append (omega arith) in
     rw (part-writes (timesSeen seen k) p q (a .0) new)
-    (parts-write r (counted seen k) (p + length (layoutPart q)) (full-counted seen k f) (standing-rest seen k (partNamesOf r) f s) (a .1) ∙ ap Accepted e)
+    (parts-write r (counted seen k) (p + length (layoutPart q)) (full-counted seen k f) (standing-rest seen k (partNamesOf r) f s) (a .1)
+    ∙ ap Accepted e)
 
 -- ---- records: accepted exactly if they may be written
 
@@ -219,12 +287,18 @@ allowed-writable r a = a
 within-limits : (r : List Part) → Allowed r → overLimits r ≡ false
 unfolding overLimits
 within-limits r a =
-    rw (le-ltb most-commons (length r) (a .few-commons), le-ltb most-transfers (length (itemsIn r)) (a .few-transfers), le-ltb most-transfer-octets (contentsSum (itemsIn r)) (a .few-contents))
+    rw (
+      le-ltb most-commons (length r) (a .few-commons),
+      le-ltb most-transfers (length (itemsIn r)) (a .few-transfers),
+      le-ltb most-transfer-octets (contentsSum (itemsIn r)) (a .few-contents),
+    )
 
 pub writing-writable : (r : List Part) → Held r → (n : ℕ) → recordWriting r ≡ Accepted n → Writable r × (n ≡ length (layout r))
 unfolding recordWriting
 writing-writable r h n e =
-    let w = parts-written r unseen 0 n full-unseen (λ u. omega (arith, none-seen u)) h (passed (overLimits r) over-limits 0 n (partsWriting unseen 0 r) e .1) in (
+    let w =
+    parts-written r unseen 0 n full-unseen (λ u. omega (arith, none-seen u)) h
+    (passed (overLimits r) over-limits 0 n (partsWriting unseen 0 r) e .1) in (
       allowed r (w .each) (λ u. omega (arith, w .once u))
           (header-stands user-class refl r (w .each) (omega (arith, w .class, none-seen (nameOf user-class))))
           (header-stands signal-kind refl r (w .each) (omega (arith, w .kind, none-seen (nameOf signal-kind)))),
@@ -311,7 +385,8 @@ read-then-written m o n e =
     })
 
 -- and a struct that was written is read as what it stands for
-pub written-then-read : (s : Record) → FitsStruct s → (n : ℕ) → structWriting s ≡ Accepted n → readingOf (layout (view s)) ≡ record { answer = Accepted n; «record» = pack (view s) }
+pub written-then-read : (s : Record) → FitsStruct s → (n : ℕ) → structWriting s ≡ Accepted n
+    → readingOf (layout (view s)) ≡ record { answer = Accepted n; «record» = pack (view s) }
 unfolding readingOf
 written-then-read s f n e =
     let w = struct-written s f n e in

@@ -1,6 +1,6 @@
 -- Two wrong programs for each function that serves the product's: one that always answers what is right at the first input of its row, one
--- that always answers what is right at the second. For `Common::none`, `Transfer::none`, `walk::cursor::first`, `reader::reading::empty` and,
--- in the base, where every name may stand once, for `often_of` a constant is right, and they have no row.
+-- that always answers what is right at the second. For `Common::none`, `Transfer::none`, `walk::cursor::first`, `reader::reading::empty`
+-- and, in the base, where every name may stand once, for `often_of` a constant is right, and they have no row.
 use Prim.Native.Nat.{ℕ, _+_, _*_, _/_, min}
 use native.Mathlib.Omega.{arith}
 use mathlib.Core.Path.{_≡_, refl, sym, ap, _∙_}
@@ -20,9 +20,36 @@ use Rattle.annex.specs.declared.Holding.the-variants.{AsContents, AsDigits, AsN
 use Rattle.annex.specs.Layout.{layoutItem, callOctets}
 use Rattle.annex.specs.Allowed.{every, lengthRight, faultIn}
 use Rattle.annex.specs.Walk.{walk}
-use Rattle.annex.specs.Reading.{transferOf, octetAllowed, commonForm, endOf, transferBy, commonBy, messageVerdictBy, verdictBy, commonsBy, callNumber}
+use Rattle.annex.specs.Reading.{
+  transferOf,
+  octetAllowed,
+  commonForm,
+  endOf,
+  transferBy,
+  commonBy,
+  messageVerdictBy,
+  verdictBy,
+  commonsBy,
+  callNumber,
+}
 use Rattle.annex.specs.Finding.{commonIn, commonFound, findAnswer}
-use Rattle.annex.specs.Records.{valueHead, dataHead, carriedHead, dialledHead, numberHead, pad, valuesOf, pack, viewItems, lengthsOf, transfersSum, viewParts, commonsIn, isWhole, view}
+use Rattle.annex.specs.Records.{
+  valueHead,
+  dataHead,
+  carriedHead,
+  dialledHead,
+  numberHead,
+  pad,
+  valuesOf,
+  pack,
+  viewItems,
+  lengthsOf,
+  transfersSum,
+  viewParts,
+  commonsIn,
+  isWhole,
+  view,
+}
 use Rattle.annex.specs.Writing.{headWriting, itemWriting, overLimits}
 use Rattle.annex.specs.Promises.{Gives}
 use Rattle.annex.specs.Bench.{K, recordOfK, recordOfM}
@@ -87,7 +114,8 @@ rows =
     (min 3 (length {A = ℕ} (0x21 ∷ []) * 2), min 1 (length {A = ℕ} (0x21 ∷ []) * 2)) ∷  -- digits_in
     (flag (leb (511 + 1) 512), flag (leb (512 + 1) 512)) ∷  -- has_room
     (flag (leb (length (packed Dialled (1 ∷ 2 ∷ []))) 1), flag (leb (length (packed Dialled (1 ∷ 2 ∷ []))) 0)) ∷  -- pack_digits
-    (flag (leb (511 + length (digitsOf Dialled 1 (0x21 ∷ []))) 512), flag (leb (511 + length (digitsOf Dialled 2 (0x21 ∷ []))) 512)) ∷  -- unpack_digits
+    (flag (leb (511 + length (digitsOf Dialled 1 (0x21 ∷ []))) 512), flag (leb (511 + length (digitsOf Dialled 2 (0x21 ∷ []))) 512))
+    ∷  -- unpack_digits
     (numberOf (soundThen (headerAt 0) Sound (Accepted 1)), numberOf (soundThen (headerAt 0) (Bad 13 2) (Accepted 1))) ∷  -- at_header
     (getD (0x21 ∷ 0x43 ∷ []) 0 0, getD (0x21 ∷ 0x43 ∷ []) 1 0) ∷  -- octet_at
     (length {A = ℕ} (drop 0 (0x21 ∷ [])), length {A = ℕ} (drop 1 (0x21 ∷ []))) ∷  -- octets_from
@@ -115,11 +143,18 @@ rows =
     (givenOf (Accepted 9), givenOf (Refused 15 0)) ∷  -- given
     (usedAt (pack recordOfM) 0, usedAt (pack recordOfM) 1) ∷  -- values_before
     (flag (isOver (pack recordOfK)), flag (isOver (pack (recordOfK ++ (recordOfK ++ (recordOfK ++ recordOfK)))))) ∷  -- over_limits
-    (givenOf (refuse (not (isWhole (pack recordOfM))) over-limits 0 (Accepted (transfersSum (commonsIn (pack recordOfM))))), givenOf (refuse (not (isWhole (pack recordOfK))) over-limits 0 (Accepted (transfersSum (commonsIn (pack recordOfK)))))) ∷  -- transfers_held
+    (
+      givenOf (refuse (not (isWhole (pack recordOfM))) over-limits 0 (Accepted (transfersSum (commonsIn (pack recordOfM))))),
+      givenOf (refuse (not (isWhole (pack recordOfK))) over-limits 0 (Accepted (transfersSum (commonsIn (pack recordOfK))))),
+    )
+    ∷  -- transfers_held
     (headLength 0x83, headLength 0x01) ∷  -- head_len
     (flag (leb (0 + 1) 1), flag (leb (1 + 1) 1)) ∷  -- copy_in
     (flag (spliceFits (0x00 ∷ []) 1 0 0 []), flag (spliceFits (0x00 ∷ []) 2 0 0 [])) ∷ []  -- splice
 
 pub rows-differ : every (λ (r : ℕ × ℕ). not (eqb (r .0) (r .1))) rows ≡ true
-unfolding afterOf extentOf commonExtentOf leadOf nameUsed pliRight oftenOf zeroesOf formOf halves joined digitOf codeOf isCode halvesFault digitsFault digitsOf packed dialledFault faultOf holdingOf itemOf contentsOf ownOf layoutItem lengthRight faultIn walk transferBy octetAllowed commonForm endOf commonBy messageVerdictBy verdictBy commonsBy commonIn commonFound pad valuesOf pack lengthsOf transfersSum isWhole viewItems viewParts view overLimits itemWriting pars soughtIn stretchAt stretchHere rowHere nextOf
+unfolding afterOf extentOf commonExtentOf leadOf nameUsed pliRight oftenOf zeroesOf formOf halves joined digitOf codeOf isCode halvesFault
+    digitsFault digitsOf packed dialledFault faultOf holdingOf itemOf contentsOf ownOf layoutItem lengthRight faultIn walk transferBy
+    octetAllowed commonForm endOf commonBy messageVerdictBy verdictBy commonsBy commonIn commonFound pad valuesOf pack lengthsOf
+    transfersSum isWhole viewItems viewParts view overLimits itemWriting pars soughtIn stretchAt stretchHere rowHere nextOf
 rows-differ = refl

@@ -71,16 +71,20 @@ pub one-refusal : (held : Record) (a b : Answer) → RecordRefusalPromise held a
 one-refusal held a b p q = same p q
 
 -- with lent memory
-pub one-listing : (m : List ℕ) (table : List Row) (a b : Answer) (s t : List Row) → SpansPromise m table a s → SpansPromise m table b t → (a ≡ b) × (s ≡ t)
+pub one-listing : (m : List ℕ) (table : List Row) (a b : Answer) (s t : List Row) → SpansPromise m table a s → SpansPromise m table b t
+    → (a ≡ b) × (s ≡ t)
 one-listing m table a b s t p q = both p q
 
-pub one-octet-listing : (m table : List ℕ) (a b : Answer) (s t : List ℕ) → OctetSpansPromise m table a s → OctetSpansPromise m table b t → (a ≡ b) × (s ≡ t)
+pub one-octet-listing : (m table : List ℕ) (a b : Answer) (s t : List ℕ) → OctetSpansPromise m table a s → OctetSpansPromise m table b t
+    → (a ≡ b) × (s ≡ t)
 one-octet-listing m table a b s t p q = both p q
 
-pub one-writing : (held : Record) (room : List ℕ) (a b : Answer) (s t : List ℕ) → WritePromise held room a s → WritePromise held room b t → (a ≡ b) × (s ≡ t)
+pub one-writing : (held : Record) (room : List ℕ) (a b : Answer) (s t : List ℕ) → WritePromise held room a s → WritePromise held room b t
+    → (a ≡ b) × (s ≡ t)
 one-writing held room a b s t p q = both p q
 
-pub one-edit : (e : Edit) (buffer : List ℕ) (n : ℕ) (a b : Answer) (s t : List ℕ) → EditPromise e buffer n a s → EditPromise e buffer n b t → (a ≡ b) × (s ≡ t)
+pub one-edit : (e : Edit) (buffer : List ℕ) (n : ℕ) (a b : Answer) (s t : List ℕ) → EditPromise e buffer n a s → EditPromise e buffer n b t
+    → (a ≡ b) × (s ≡ t)
 one-edit e buffer n a b s t p q = both p q
 
 pub one-class : (h x : ℕ) (a b : ClassAnswer) → ClassPromise h x a → ClassPromise h x b → a ≡ b
@@ -88,7 +92,8 @@ one-class h x a b p q = same p q
 
 -- ---- a record's image
 
-pub one-imaging : (held : Record) (room : List ℕ) (a b : Answer) (s t : List ℕ) → ToImagePromise held room a s → ToImagePromise held room b t → (a ≡ b) × (s ≡ t)
+pub one-imaging : (held : Record) (room : List ℕ) (a b : Answer) (s t : List ℕ) → ToImagePromise held room a s
+    → ToImagePromise held room b t → (a ≡ b) × (s ≡ t)
 one-imaging held room a b s t p q = both p q
 
 pub one-imaged : (image : List ℕ) (a b : Imaged) → FromImagePromise image a → FromImagePromise image b → a ≡ b
@@ -99,7 +104,8 @@ one-imaged image a b p q = same p q
 pub one-tk-read : (m room : List ℕ) (a b : ℕ) (s t : List ℕ) → TkReadPromise m room a s → TkReadPromise m room b t → (a ≡ b) × (s ≡ t)
 one-tk-read m room a b s t p q = both p q
 
-pub one-tk-write : (image room : List ℕ) (a b : ℕ) (s t : List ℕ) → TkWritePromise image room a s → TkWritePromise image room b t → (a ≡ b) × (s ≡ t)
+pub one-tk-write : (image room : List ℕ) (a b : ℕ) (s t : List ℕ) → TkWritePromise image room a s → TkWritePromise image room b t
+    → (a ≡ b) × (s ≡ t)
 one-tk-write image room a b s t p q = both p q
 
 pub one-tk-rows : (m table : List ℕ) (a b : ℕ) (s t : List ℕ) → TkRowsPromise m table a s → TkRowsPromise m table b t → (a ≡ b) × (s ≡ t)
@@ -114,7 +120,8 @@ one-tk-transfer m x a b p q = same p q
 pub one-tk-class : (h x a b : ℕ) → TkClassPromise h x a → TkClassPromise h x b → a ≡ b
 one-tk-class h x a b p q = same p q
 
-pub one-tk-edit : (e : Edit) (buffer : List ℕ) (n a b : ℕ) (s t : List ℕ) → TkEditPromise e buffer n a s → TkEditPromise e buffer n b t → (a ≡ b) × (s ≡ t)
+pub one-tk-edit : (e : Edit) (buffer : List ℕ) (n a b : ℕ) (s t : List ℕ) → TkEditPromise e buffer n a s → TkEditPromise e buffer n b t
+    → (a ≡ b) × (s ≡ t)
 one-tk-edit e buffer n a b s t p q = both p q
 
 -- ---- the functions that serve these
@@ -122,6 +129,7 @@ one-tk-edit e buffer n a b s t p q = both p q
 pub one-given : {A : Type 0} (given a b : A) → Gives given a → Gives given b → a ≡ b
 one-given given a b p q = same p q
 
-pub one-stored : (fits : Bool) (stored before : List ℕ) (a b : Bool) (s t : List ℕ) → Stores fits stored before a s → Stores fits stored before b t → (a ≡ b) × (s ≡ t)
+pub one-stored : (fits : Bool) (stored before : List ℕ) (a b : Bool) (s t : List ℕ) → Stores fits stored before a s
+    → Stores fits stored before b t → (a ≡ b) × (s ≡ t)
 one-stored fits stored before a b s t p q =
     (same (p .0) (q .0), p .1 ∙ (ap (λ r. cond r stored before) (same (p .0) (q .0)) ∙ sym (q .1)))

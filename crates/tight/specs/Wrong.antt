@@ -15,7 +15,22 @@ use Rattle.annex.specs.Items.{holdingOf, itemOf, contentsOf, ownOf}
 use Rattle.annex.specs.Layout.{layoutItem, layoutItems, layoutPart, layout}
 use Rattle.annex.specs.Allowed.{lengthRight, faultIn, valueRight, valueFits}
 use Rattle.annex.specs.Walk.{walk}
-use Rattle.annex.specs.Reading.{octetAllowed, commonForm, endOf, verdictOf, transferBy, transfersVerdictBy, dataBy, commonBy, messageVerdictBy, verdictBy, commonsBy, transfersBy, openCommonBy, recordBy}
+use Rattle.annex.specs.Reading.{
+  octetAllowed,
+  commonForm,
+  endOf,
+  verdictOf,
+  transferBy,
+  transfersVerdictBy,
+  dataBy,
+  commonBy,
+  messageVerdictBy,
+  verdictBy,
+  commonsBy,
+  transfersBy,
+  openCommonBy,
+  recordBy,
+}
 use Rattle.annex.specs.Records.{pad, valuesOf, pack, viewItems, lengthsOf, transfersSum, viewParts, isWhole, view, readingOf}
 use Rattle.annex.specs.Writing.{
   itemWriting,
@@ -91,7 +106,13 @@ pub record Said : Type 0 where
   pub removed-rest : getD (bufferOf (Removing 0x18 0) M 23) 19 0 ≡ 0x00
 
 pub said : Said
-unfolding afterOf leadOf commonExtentOf extentOf nameUsed pliRight oftenOf zeroesOf formOf halves joined digitOf codeOf isCode halvesFault digitsFault digitsOf packed numberFault callingFault genericFault dialledFault twoFault faultOf holdingOf itemOf contentsOf ownOf layoutItem layoutItems layoutPart layout lengthRight faultIn valueRight valueFits walk transferBy transfersVerdictBy octetAllowed commonForm endOf dataBy commonBy messageVerdictBy verdictBy commonsBy transfersBy openCommonBy recordBy pad valuesOf pack viewItems lengthsOf transfersSum viewParts isWhole view readingOf itemWriting itemsWriting dataWriting partWriting partsWriting overLimits recordWriting structWriting writingOf writtenOf commonIn commonFound transferIn transferAmong transferFound transferRows commonRowsBy rowsBy spansBy editRefusal instead editedItems edited recordEditing editingOf bufferOf
+unfolding afterOf leadOf commonExtentOf extentOf nameUsed pliRight oftenOf zeroesOf formOf halves joined digitOf codeOf isCode halvesFault
+    digitsFault digitsOf packed numberFault callingFault genericFault dialledFault twoFault faultOf holdingOf itemOf contentsOf ownOf
+    layoutItem layoutItems layoutPart layout lengthRight faultIn valueRight valueFits walk transferBy transfersVerdictBy octetAllowed
+    commonForm endOf dataBy commonBy messageVerdictBy verdictBy commonsBy transfersBy openCommonBy recordBy pad valuesOf pack viewItems
+    lengthsOf transfersSum viewParts isWhole view readingOf itemWriting itemsWriting dataWriting partWriting partsWriting overLimits
+    recordWriting structWriting writingOf writtenOf commonIn commonFound transferIn transferAmong transferFound transferRows commonRowsBy
+    rowsBy spansBy editRefusal instead editedItems edited recordEditing editingOf bufferOf
 said =
     record {
       verdict-cut = refl;
@@ -142,7 +163,8 @@ always-case-2 a e =
     omega arith
 
 -- by the digits 120 of M: they are three, and carried octets would be the count octet and two more, beginning with 3
-pub carries-the-rest : (a : Answer) (held : Record) → getD (held .values) 5 0 ≡ 0x03 → ReadPromise M (record { answer = a; «record» = held }) → ⊥
+pub carries-the-rest : (a : Answer) (held : Record) → getD (held .values) 5 0 ≡ 0x03
+    → ReadPromise M (record { answer = a; «record» = held }) → ⊥
 unfolding pack pad valuesOf
 carries-the-rest a held c e =
     let z : held ≡ pack recordOfM = ap (λ (r : Reading). r .«record») e ∙ said .reading-M in

@@ -1,5 +1,5 @@
--- Wrong programs that the promises about a record's image and the functions for Rust and C shut out, at least two for each function, each with
--- the input at which it breaks its promise.
+-- Wrong programs that the promises about a record's image and the functions for Rust and C shut out, at least two for each function, each
+-- with the input at which it breaks its promise.
 use Prim.Native.Nat.{ℕ, _+_, _*_, _%_, _<_}
 use native.Mathlib.Omega.{arith}
 use mathlib.Core.Path.{_≡_, refl, ap, _∙_}
@@ -12,15 +12,48 @@ use Rattle.annex.specs.Items.{ownOf}
 use Rattle.annex.specs.Layout.{layoutItem, layoutItems, layoutPart, layout}
 use Rattle.annex.specs.Allowed.{valueRight, valueFits}
 use Rattle.annex.specs.Walk.{walk}
-use Rattle.annex.specs.Reading.{octetAllowed, commonForm, endOf, dataBy, commonBy, messageVerdictBy, verdictBy, commonsBy, openCommonBy, recordBy}
+use Rattle.annex.specs.Reading.{
+  octetAllowed,
+  commonForm,
+  endOf,
+  dataBy,
+  commonBy,
+  messageVerdictBy,
+  verdictBy,
+  commonsBy,
+  openCommonBy,
+  recordBy,
+}
 use Rattle.annex.specs.Records.{pad, valuesOf, pack, viewItems, lengthsOf, transfersSum, viewParts, isWhole, view}
 use Rattle.annex.specs.Writing.{partWriting, partsWriting, overLimits, recordWriting, structWriting, writingOf}
-use Rattle.annex.specs.Image.{imageItem, imageItems, imagePart, imageParts, imageOf, imagingOf, imagedIn, itemsFront, partsFront, isWithin, imagedOf}
+use Rattle.annex.specs.Image.{
+  imageItem,
+  imageItems,
+  imagePart,
+  imageParts,
+  imageOf,
+  imagingOf,
+  imagedIn,
+  itemsFront,
+  partsFront,
+  isWithin,
+  imagedOf,
+}
 use Rattle.annex.specs.Spans.{commonRowsBy, rowsBy, spansBy}
 use Rattle.annex.specs.Editing.{Edit, editingOf}
 use Rattle.annex.specs.Editing.Edit.{Removing}
 use Rattle.annex.specs.Classes.{classOf}
-use Rattle.annex.specs.Packed.{packedAnswer, packedClass, imageReading, imageRead, imageWriting, imageWritten, rowsOctets, octetSpans, octetTable}
+use Rattle.annex.specs.Packed.{
+  packedAnswer,
+  packedClass,
+  imageReading,
+  imageRead,
+  imageWriting,
+  imageWritten,
+  rowsOctets,
+  octetSpans,
+  octetTable,
+}
 use Rattle.annex.specs.Promises.{
   ToImagePromise,
   FromImagePromise,
@@ -71,7 +104,11 @@ record SaidPacked : Type 0 where
   no-list : classOf 0x01 1 ≡ classes.Refused 17 0
 
 said-packed : SaidPacked
-unfolding afterOf leadOf commonExtentOf zeroesOf ownOf layoutItem layoutItems layoutPart layout valueRight valueFits walk octetAllowed commonForm endOf dataBy commonBy messageVerdictBy verdictBy commonsBy openCommonBy recordBy pad valuesOf pack viewItems lengthsOf transfersSum viewParts isWhole view partWriting partsWriting overLimits recordWriting structWriting writingOf imageItem imageItems imagePart imageParts imageOf imagingOf imagedIn itemsFront partsFront isWithin imagedOf commonRowsBy rowsBy spansBy classOf imageReading imageRead imageWriting imageWritten rowsOctets octetTable
+unfolding afterOf leadOf commonExtentOf zeroesOf ownOf layoutItem layoutItems layoutPart layout valueRight valueFits walk octetAllowed
+    commonForm endOf dataBy commonBy messageVerdictBy verdictBy commonsBy openCommonBy recordBy pad valuesOf pack viewItems lengthsOf
+    transfersSum viewParts isWhole view partWriting partsWriting overLimits recordWriting structWriting writingOf imageItem imageItems
+    imagePart imageParts imageOf imagingOf imagedIn itemsFront partsFront isWithin imagedOf commonRowsBy rowsBy spansBy classOf imageReading
+    imageRead imageWriting imageWritten rowsOctets octetTable
 said-packed =
     record {
       imaging-K = refl;
@@ -134,7 +171,7 @@ tk-writes-with-octets-over now p =
 pub tk-writes-nothing : (r : ℕ) → TkWritePromise imageOfK (lent 6) r (lent 6) → ⊥
 tk-writes-nothing r p = let z : _≡_ {A = ℕ} 0xEE 0x01 = ap (at 0) (p .1 ∙ said-packed .written-K) in omega arith
 
--- ---- tk_rows: one that writes a row's length before its offset; one that writes the high octet first; one that takes the table's octets for rows
+-- ---- tk_rows: one that writes a row's length before its offset, the high octet first, or takes the table's octets for rows
 
 pub tk-length-first : (r : ℕ) (now : List ℕ) → at 0 now ≡ 1 → TkRowsPromise short (lent 16) r now → ⊥
 tk-length-first r now h p = let z : at 0 now ≡ 0 = ap (at 0) (p .1 ∙ said-packed .table-short) in omega arith
@@ -148,7 +185,8 @@ tk-octets-for-rows now p =
     omega arith
 
 -- octet_spans is shut out for the same: tk_rows packs its answer, and nothing else
-octets-packed : (m table : List ℕ) (r : Answer) (now : List ℕ) → OctetSpansPromise m table r now → TkRowsPromise m table (packedAnswer r) now
+octets-packed : (m table : List ℕ) (r : Answer) (now : List ℕ) → OctetSpansPromise m table r now
+    → TkRowsPromise m table (packedAnswer r) now
 octets-packed m table r now p = (ap packedAnswer (p .0), p .1)
 
 pub octets-length-first : (r : Answer) (now : List ℕ) → at 0 now ≡ 1 → OctetSpansPromise short (lent 16) r now → ⊥
@@ -181,7 +219,8 @@ tk-no-list-as-value p = let z : _≡_ {A = ℕ} 17 (17 * 4294967296) = p ∙ ap 
 
 -- ---- editing: one that answers 0 for done, and not the new length; one that claims success and does nothing
 
-answers-done : (e : Edit) (buffer : List ℕ) (n k : ℕ) → editingOf e buffer n ≡ Accepted k → 0 < k → k < 65536 → (now : List ℕ) → TkEditPromise e buffer n 0 now → ⊥
+answers-done : (e : Edit) (buffer : List ℕ) (n k : ℕ) → editingOf e buffer n ≡ Accepted k → 0 < k → k < 65536 → (now : List ℕ)
+    → TkEditPromise e buffer n 0 now → ⊥
 answers-done e buffer n k f l u now p = let z : _≡_ {A = ℕ} 0 (0 + k % 65536) = p .0 ∙ ap packedAnswer f in omega arith
 
 pub tk-replaces-answers-done : (now : List ℕ) → TkEditPromise shorter M 23 0 now → ⊥

@@ -31,7 +31,8 @@ abbrev pub shortRows : List Row
 shortRows = rowFor 0 0x01 1 ∷ rowFor 2 0x06 1 ∷ rowFor 4 0x00 0 ∷ []
 
 pub short-listed : (room : ℕ) → (rowsOf short ≡ shortRows) × (spansOf short room ≡ refuse (ltb room 3) no-room 0 (Accepted 3))
-unfolding afterOf leadOf commonExtentOf walk octetAllowed commonForm endOf dataBy commonBy messageVerdictBy verdictBy commonsBy commonRowsBy rowsBy spansBy
+unfolding afterOf leadOf commonExtentOf walk octetAllowed commonForm endOf dataBy commonBy messageVerdictBy verdictBy commonsBy commonRowsBy
+    rowsBy spansBy
 short-listed room = (refl, refl)
 
 -- an invented row count: any but 3
@@ -43,7 +44,8 @@ invented-count-breaks n other table now p = other (go (ltb (length table) 3) (p 
     go false e = ap givenOf e
 
 -- a row left out: the end mark's stands where that of the signal kind has to stand
-pub lost-row-breaks : (table now : List Row) (r : Answer) → 3 ≤ length table → SpansPromise short table r (rowFor 0 0x01 1 ∷ rowFor 4 0x00 0 ∷ now) → ⊥
+pub lost-row-breaks : (table now : List Row) (r : Answer) → 3 ≤ length table
+    → SpansPromise short table r (rowFor 0 0x01 1 ∷ rowFor 4 0x00 0 ∷ now) → ⊥
 unfolding tableOf
 lost-row-breaks table now r h p =
     let l = short-listed (length table) in

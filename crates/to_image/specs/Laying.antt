@@ -20,7 +20,21 @@ use Rattle.annex.specs.declared.Common.{Common}
 use Rattle.annex.specs.declared.Transfer.{Transfer}
 use Rattle.annex.specs.declared.Record.{Record}
 use Rattle.theorems.specs.Lists.{each-every}
-use Rattle.limits.specs.Along.{partFrom, commonAt, transferAt, usedAt, ownAt, itemsAt, partsAt, transfersAt, Within, Whole, within-less, transfers-next, parts-next}
+use Rattle.limits.specs.Along.{
+  partFrom,
+  commonAt,
+  transferAt,
+  usedAt,
+  ownAt,
+  itemsAt,
+  partsAt,
+  transfersAt,
+  Within,
+  Whole,
+  within-less,
+  transfers-next,
+  parts-next,
+}
 use Rattle.limits.specs.Limits.{length-parts, length-items}
 
 -- the head of a common parameter; what it does not have is 0
@@ -42,7 +56,9 @@ octets-all xs h = each-every Octet isOctet (λ x l. lt-ltb x 256 l) xs h
 
 abbrev pub OctetHead : Transfer → Type 0
 OctetHead t =
-    Each Octet (t .header ∷ t .notification ∷ t .verification ∷ t .dialling ∷ t .«number_type» ∷ t .incomplete ∷ t .plan ∷ t .presentation ∷ t .screening ∷ [])
+    Each Octet
+    (t .header ∷ t .notification ∷ t .verification ∷ t .dialling ∷ t .«number_type» ∷ t .incomplete ∷ t .plan ∷ t .presentation
+    ∷ t .screening ∷ [])
 
 pub head-octets : (t : Transfer) → OctetHead t → every isOctet (imageHead t) ≡ true
 head-octets t h = octets-all (imageHead t) (omega arith)
@@ -84,7 +100,9 @@ part-octets : (c : Common) (is : List Item) → length is ≡ transferCount c �
 unfolding imagePart imageItems
 part-octets c is e = go (eqb (c .header) transfer-data) is e
   where
-    go : (b : Bool) (js : List Item) → length js ≡ cond b (c .transfers) 0 → imagePart (cond b (part (c .header) 0 js) (valuePart (c .header) (c .value))) ≡ partOctets (commonHead (c .header) (cond b 0 (c .value)) (cond b (c .transfers) 0)) js
+    go : (b : Bool) (js : List Item) → length js ≡ cond b (c .transfers) 0
+        → imagePart (cond b (part (c .header) 0 js) (valuePart (c .header) (c .value)))
+        ≡ partOctets (commonHead (c .header) (cond b 0 (c .value)) (cond b (c .transfers) 0)) js
     go true js l = rw l
     go false [] l = refl
     go false (j ∷ js) l = absurd (omega arith)
@@ -93,9 +111,12 @@ part-octets c is e = go (eqb (c .header) transfer-data) is e
 pub record PartTurn (q : Record) (k j : ℕ) : Type 0 where
   pub sum : j + ownCommon (commonAt q k) .transfers + transfersAt q (k + 1) ≡ transfersSum (commonsIn q)
   pub within : Within q (j + ownCommon (commonAt q k) .transfers)
-  pub octets : imageParts (partsAt q k j) ≡ partOctets (ownCommon (commonAt q k)) (itemsAt q j (ownCommon (commonAt q k) .transfers)) ++ imageParts (partsAt q (k + 1) (j + ownCommon (commonAt q k) .transfers))
+  pub octets : imageParts (partsAt q k j)
+      ≡ partOctets (ownCommon (commonAt q k)) (itemsAt q j (ownCommon (commonAt q k) .transfers))
+      ++ imageParts (partsAt q (k + 1) (j + ownCommon (commonAt q k) .transfers))
 
-pub part-turn : (q : Record) (k j : ℕ) → k < q .commons → q .commons ≤ length (q .common) → length (q .transfer) ≡ most-transfers → Whole q → j + transfersAt q k ≡ transfersSum (commonsIn q) → PartTurn q k j
+pub part-turn : (q : Record) (k j : ℕ) → k < q .commons → q .commons ≤ length (q .common) → length (q .transfer) ≡ most-transfers → Whole q
+    → j + transfersAt q k ≡ transfersSum (commonsIn q) → PartTurn q k j
 unfolding imageParts
 part-turn q k j h l t w e =
     let c = commonAt q k in
@@ -138,7 +159,9 @@ module _ (q : Record) (room : List ℕ) (w : isWhole q ≡ true) where
       let l = lt-ltb (length room) (length (imageOf (view q))) h in
       (rw (w, l), rw (w, l))
 
-  pub imaging-done : length (imageOf (view q)) ≤ length room → (Accepted (length (imageOf (view q))) ≡ imagingOf q (length room)) × (imageOf (view q) ++ drop (length (imageOf (view q))) room ≡ imagedIn q room)
+  pub imaging-done : length (imageOf (view q)) ≤ length room
+      → (Accepted (length (imageOf (view q))) ≡ imagingOf q (length room))
+      × (imageOf (view q) ++ drop (length (imageOf (view q))) room ≡ imagedIn q room)
   unfolding imagingOf imagedIn
   imaging-done h =
       let l = le-ltb (length room) (length (imageOf (view q))) h in

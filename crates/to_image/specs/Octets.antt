@@ -14,7 +14,19 @@ use Rattle.annex.specs.Items.{Item, Part, part, valuePart, heldAs, ownBy, ownOf
 use Rattle.annex.specs.declared.Holding.{Holding}
 use Rattle.annex.specs.declared.Holding.the-variants.{AsContents, AsDigits, AsNumber, AsGeneric}
 use Rattle.annex.specs.Allowed.{Each, every, isOctet, itemsIn}
-use Rattle.annex.specs.Records.{headOf, commonHeadOf, valuesOf, rawItem, viewItems, lengthsOf, transferCount, transfersSum, viewParts, commonsIn, view}
+use Rattle.annex.specs.Records.{
+  headOf,
+  commonHeadOf,
+  valuesOf,
+  rawItem,
+  viewItems,
+  lengthsOf,
+  transferCount,
+  transfersSum,
+  viewParts,
+  commonsIn,
+  view,
+}
 use Rattle.annex.specs.Image.{imageHead, imageItem, imageItems, imageCommon, imagePart, imageParts, imageOf}
 use Rattle.annex.specs.declared.Common.{Common}
 use Rattle.annex.specs.declared.Transfer.{Transfer}
@@ -47,7 +59,9 @@ pub parts-long : (r : List Part) → length (imageParts r) ≡ 6 * length r + le
 unfolding imageParts imageItems
 parts-long [] = refl
 parts-long (p ∷ r) =
-    let a = ap (λ (l : List ℕ). length l) (items-append (p .items) (itemsIn r)) ∙ length-append (imageItems (p .items)) (imageItems (itemsIn r)) in
+    let a =
+    ap (λ (l : List ℕ). length l) (items-append (p .items) (itemsIn r))
+    ∙ length-append (imageItems (p .items)) (imageItems (itemsIn r)) in
     omega (arith, length-append (imagePart p) (imageParts r), part-long p, parts-long r, a)
 
 -- the values of parameters are as many as their heads tell, where there are so many
@@ -67,9 +81,12 @@ pub image-length : (q : Record) → Whole q → length (q .common) ≡ 6 → len
 unfolding imageOf lengthsOf
 image-length q w c t v =
     let n = transfersSum (commonsIn q) in
-    let is : length (imageItems (itemsIn (view q))) ≡ 11 * length (itemsAt q 0 n) + length (valuesOf (itemsAt q 0 n)) = rw (items-all q) (items-long (itemsAt q 0 n)) in
-    let vs : length (valuesOf (itemsAt q 0 n)) ≡ usedAt q n = values-view (take n (q .transfer)) (q .values) (omega (arith, w .within .values)) in
-    omega (arith, parts-long (view q), is, vs, items-many q 0 n (omega (arith, w .within .places)), parts-many q (omega (arith, w .commons)))
+    let is : length (imageItems (itemsIn (view q))) ≡ 11 * length (itemsAt q 0 n) + length (valuesOf (itemsAt q 0 n)) =
+    rw (items-all q) (items-long (itemsAt q 0 n)) in
+    let vs : length (valuesOf (itemsAt q 0 n)) ≡ usedAt q n =
+    values-view (take n (q .transfer)) (q .values) (omega (arith, w .within .values)) in
+    omega
+    (arith, parts-long (view q), is, vs, items-many q 0 n (omega (arith, w .within .places)), parts-many q (omega (arith, w .commons)))
 
 -- ---- octets
 
@@ -90,14 +107,17 @@ view-octets : (ts : List Transfer) (vs : List ℕ) → Each OctetHead ts → eve
 unfolding viewItems ownOf
 view-octets [] vs h o = tt
 view-octets (t ∷ ts) vs h o =
-    let i = rawItem t (take (t .len) vs) in
-    (own-octets (heldAs i) i (h .0, every-take isOctet (t .len) vs o), view-octets ts (drop (t .len) vs) (h .1) (every-drop isOctet (t .len) vs o))
+    let i = rawItem t (take (t .len) vs) in (
+      own-octets (heldAs i) i (h .0, every-take isOctet (t .len) vs o),
+      view-octets ts (drop (t .len) vs) (h .1) (every-drop isOctet (t .len) vs o),
+    )
 
 items-octets : (is : List Item) → Each OctetItem is → every isOctet (imageItems is) ≡ true
 unfolding imageItems imageItem
 items-octets [] h = refl
 items-octets (i ∷ is) h =
-    every-append isOctet (imageItem i) (imageItems is) (every-append isOctet (imageHead (headOf i)) (i .values) (head-octets (headOf i) (h .0 .0)) (h .0 .1)) (items-octets is (h .1))
+    every-append isOctet (imageItem i) (imageItems is)
+    (every-append isOctet (imageHead (headOf i)) (i .values) (head-octets (headOf i) (h .0 .0)) (h .0 .1)) (items-octets is (h .1))
 
 -- the heads of the code's common parameters
 abbrev pub OctetCounts : Common → Type 0
@@ -113,16 +133,21 @@ transfers-small c h = go (eqb (c .header) transfer-data)
     go true = h
     go false = omega arith
 
-parts-view : (cs : List Common) (ts : List Transfer) (vs : List ℕ) → Each OctetCounts cs → Each OctetHead ts → every isOctet vs ≡ true → Each OctetPart (viewParts cs ts vs)
+parts-view : (cs : List Common) (ts : List Transfer) (vs : List ℕ) → Each OctetCounts cs → Each OctetHead ts → every isOctet vs ≡ true
+    → Each OctetPart (viewParts cs ts vs)
 unfolding viewParts
 parts-view [] ts vs hc ht o = tt
 parts-view (c ∷ cs) ts vs hc ht o =
     let n = transferCount c in
     let l = lengthsOf (take n ts) in
-    let few : length (viewItems (take n ts) vs) < 256 = omega (arith, length-items (take n ts) vs, length-take n ts, transfers-small c (hc .0 .1)) in
-    (own (eqb (c .header) transfer-data) (viewItems (take n ts) vs) (few, view-octets (take n ts) vs (each-take OctetHead n ts ht) o), parts-view cs (drop n ts) (drop l vs) (hc .1) (each-drop OctetHead n ts ht) (every-drop isOctet l vs o))
+    let few : length (viewItems (take n ts) vs) < 256 =
+    omega (arith, length-items (take n ts) vs, length-take n ts, transfers-small c (hc .0 .1)) in (
+      own (eqb (c .header) transfer-data) (viewItems (take n ts) vs) (few, view-octets (take n ts) vs (each-take OctetHead n ts ht) o),
+      parts-view cs (drop n ts) (drop l vs) (hc .1) (each-drop OctetHead n ts ht) (every-drop isOctet l vs o),
+    )
   where
-    own : (b : Bool) (is : List Item) → (length is < 256) × Each OctetItem is → OctetPart (cond b (part (c .header) 0 is) (valuePart (c .header) (c .value)))
+    own : (b : Bool) (is : List Item) → (length is < 256) × Each OctetItem is
+        → OctetPart (cond b (part (c .header) 0 is) (valuePart (c .header) (c .value)))
     own true is h = (hc .0 .0, h .0, h .1)
     own false is h = (hc .0 .0, omega arith, tt)
 
@@ -130,7 +155,10 @@ parts-octets : (r : List Part) → Each OctetPart r → every isOctet (imagePart
 unfolding imageParts imagePart
 parts-octets [] h = refl
 parts-octets (p ∷ r) h =
-    every-append isOctet (imagePart p) (imageParts r) (every-append isOctet (imageCommon (commonHeadOf p)) (imageItems (p .items)) (common-octets (commonHeadOf p) (h .0 .0) (h .0 .1)) (items-octets (p .items) (h .0 .2))) (parts-octets r (h .1))
+    every-append isOctet (imagePart p) (imageParts r)
+    (every-append isOctet (imageCommon (commonHeadOf p)) (imageItems (p .items)) (common-octets (commonHeadOf p) (h .0 .0) (h .0 .1))
+    (items-octets (p .items) (h .0 .2)))
+    (parts-octets r (h .1))
 
 -- what the struct has by its types, as far as its image needs it
 pub record FitsImage (q : Record) : Type 0 where
@@ -146,4 +174,6 @@ unfolding imageOf view
 image-octets q f w =
     let n : length (view q) < 256 = omega (arith, parts-many q (omega (arith, w .commons, f .commons-long)), w .commons) in
     and-both (isOctet (length (view q))) (every isOctet (imageParts (view q))) (lt-ltb (length (view q)) 256 n)
-    (parts-octets (view q) (parts-view (commonsIn q) (q .transfer) (q .values) (each-take OctetCounts (q .commons) (q .common) (f .common-counts)) (f .transfer-heads) (f .value-octets)))
+    (parts-octets (view q)
+    (parts-view (commonsIn q) (q .transfer) (q .values) (each-take OctetCounts (q .commons) (q .common) (f .common-counts))
+    (f .transfer-heads) (f .value-octets)))

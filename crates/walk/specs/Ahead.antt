@@ -27,7 +27,20 @@ use Rattle.laws.specs.Members.{sumOf}
 use Rattle.laws.specs.Parts.{from-to}
 use Rattle.laws.specs.Plain.{Size, commonSize, transferSize, pars, pars-end, octet-behind}
 use Rattle.laws.specs.Plain.{commons-plain, transfers-plain, InnerSound, commons-inner}
-use Rattle.laws.specs.Rows.{parAt, octetsIn, Accepts, AcceptsTransfers, Filled, Turned, filled-turn, commons-filled, transfers-filled, rowFor, transfer-turn, common-turn}
+use Rattle.laws.specs.Rows.{
+  parAt,
+  octetsIn,
+  Accepts,
+  AcceptsTransfers,
+  Filled,
+  Turned,
+  filled-turn,
+  commons-filled,
+  transfers-filled,
+  rowFor,
+  transfer-turn,
+  common-turn,
+}
 use Rattle.walk.specs.Stretches.{stretch-whole}
 use Rattle.walk.specs.Cursors.{cursorTo, firstCursor, extentHere, stretchHere, rowHere, nextOf, cursorAt, rowsFrom}
 use Rattle.walk.specs.declared.cursor.Cursor.{Cursor}
@@ -312,7 +325,8 @@ behind m a (suc k) h =
 pub row-behind : (m : List ℕ) (k : ℕ) → k < length (listed m) → rowHere m (cursorAt m k) ≡ getD (listed m) k noRow
 row-behind m k h = go (verdictOf m) refl h
   where
-    go : (a : Answer) → verdictOf m ≡ a → k < length (rowsAfter a (rowsOf m)) → rowHere m (cursorAt m k) ≡ getD (rowsAfter a (rowsOf m)) k noRow
+    go : (a : Answer) → verdictOf m ≡ a → k < length (rowsAfter a (rowsOf m))
+        → rowHere m (cursorAt m k) ≡ getD (rowsAfter a (rowsOf m)) k noRow
     go (Accepted q) e l =
         let b = behind m (q, e) k (omega arith) in
         let t = turn-at m (cursorAt m k) k (b .0) (b .1) l in

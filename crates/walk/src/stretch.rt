@@ -7,8 +7,8 @@ use units::octets_after;
 ghost use Rattle.annex.specs.Promises.{Gives};
 ghost use Rattle.walk.specs.Stretches.{stretchAt};
 
-// Where the contents of the parameter start and end whose header stands at i, if its PLI says e: nowhere where it is cut, or where the octets
-// end before i.
+// Where the contents of the parameter start and end whose header stands at i, if its PLI says e: nowhere where it is cut, or where the
+// octets end before i.
 pub fn stretch_at(t: &[u8], i: usize, e: Extent) -> Found
     ensures { λ r. ⌜ Gives (stretchAt (now (t .entry)) i e) r ⌝ }
 {

@@ -18,7 +18,8 @@ module _ (c : Common) (octet : c .header < 256) where
   same : c .header % 256 ≡ c .header
   same = omega arith
 
-  pub low-call : isCall (c .header) ≡ true → lowOctets (headOctets c) ≡ c .header ∷ c .value % 256 ∷ c .value / 256 % 256 ∷ c .value / 65536 % 256 ∷ []
+  pub low-call : isCall (c .header) ≡ true
+      → lowOctets (headOctets c) ≡ c .header ∷ c .value % 256 ∷ c .value / 256 % 256 ∷ c .value / 65536 % 256 ∷ []
   low-call e =
       let v = c .value in
       let a : v % 256 % 256 ≡ v % 256 = omega arith in
@@ -35,7 +36,9 @@ two-kept [] ys k x h = absurd (omega arith)
 two-kept (a ∷ []) ys k x h = absurd (omega arith)
 two-kept (a ∷ b ∷ w) ys k x h = omega arith
 
-pub data-stored : (room xs ys : List ℕ) (n : ℕ) → 2 + length xs ≤ length room → n ≡ length xs → ys ≡ atFront xs (take (length room - 2) (drop 2 room)) → set (set (putMid 2 (length room - 2) room ys) 0 transfer-data) 1 (n % 256) ≡ atFront (transfer-data ∷ dataOctets xs) room
+pub data-stored : (room xs ys : List ℕ) (n : ℕ) → 2 + length xs ≤ length room → n ≡ length xs
+    → ys ≡ atFront xs (take (length room - 2) (drop 2 room))
+    → set (set (putMid 2 (length room - 2) room ys) 0 transfer-data) 1 (n % 256) ≡ atFront (transfer-data ∷ dataOctets xs) room
 data-stored [] xs ys n h e f = absurd (omega arith)
 data-stored (a ∷ []) xs ys n h e f = absurd (omega arith)
 data-stored (a ∷ b ∷ w) xs ys n h e f =

@@ -12,7 +12,8 @@ returns c =
     let t = c .before in
     let r = t .before .before in
     let a = r .before .before .before .args in
-    read-refused (now (a .message)) (a .image .now) (r .read .result) (r .read .ensures) (c .pack-answer .result) _ _ (t .enum-told2 .given .1) (c .pack-answer .ensures)
+    read-refused (now (a .message)) (a .image .now) (r .read .result) (r .read .ensures) (c .pack-answer .result) _ _
+    (t .enum-told2 .given .1) (c .pack-answer .ensures)
 
 returns-2 : tie.Need-returns-2
 returns-2 c =
@@ -23,7 +24,8 @@ returns-2 c =
     let a = k .before .args in
     let m = now (a .message) in
     let o = octets-every m (λ j. omega (arith, k .shared-slice-known .given j)) in
-    read-accepted m (a .image .now) (r .read .result) (r .read .ensures) (c .pack-answer2 .result) o _ (t .enum-told .given .1) (i .to-image .result) _ (i .to-image .ensures) (c .pack-answer2 .ensures)
+    read-accepted m (a .image .now) (r .read .result) (r .read .ensures) (c .pack-answer2 .result) o _ (t .enum-told .given .1)
+    (i .to-image .result) _ (i .to-image .ensures) (c .pack-answer2 .ensures)
 
 pub tk-read-spec : {M : Type 1} → statement M
 tk-read-spec =

@@ -10,7 +10,8 @@ returns c =
     let t = c .before in
     let f = t .before .before in
     let a = f .before .before .before .args in
-    write-refused (now (a .image)) (a .room .now) (f .from-image .result) (f .from-image .ensures) (c .pack-answer .result) _ _ (t .enum-told2 .given .1) (c .pack-answer .ensures)
+    write-refused (now (a .image)) (a .room .now) (f .from-image .result) (f .from-image .ensures) (c .pack-answer .result) _ _
+    (t .enum-told2 .given .1) (c .pack-answer .ensures)
 
 returns-2 : tie.Need-returns-2
 returns-2 c =
@@ -18,7 +19,8 @@ returns-2 c =
     let t = w .before .before .before in
     let f = t .before .before in
     let a = f .before .before .before .args in
-    write-accepted (now (a .image)) (a .room .now) (f .from-image .result) (f .from-image .ensures) (c .pack-answer2 .result) _ (t .enum-told .given .1) (w .write .result) _ (w .write .ensures) (c .pack-answer2 .ensures)
+    write-accepted (now (a .image)) (a .room .now) (f .from-image .result) (f .from-image .ensures) (c .pack-answer2 .result) _
+    (t .enum-told .given .1) (w .write .result) _ (w .write .ensures) (c .pack-answer2 .ensures)
 
 pub tk-write-spec : {M : Type 1} → statement M
 tk-write-spec =

@@ -1,5 +1,5 @@
--- `class_in` meets its contract: an arm's function answers for the arm's header, headers with the same list have the same class, and a header of
--- no arm is unlisted.
+-- `class_in` meets its contract: an arm's function answers for the arm's header, headers with the same list have the same class, and a
+-- header of no arm is unlisted.
 use Prim.Native.Nat.{ℕ, _+_, _≤_, _<_}
 use native.Mathlib.Omega.{arith}
 use native.Mathlib.Nat.{eq-or-lt-of-le}
@@ -29,7 +29,8 @@ unfolding listedClass
 number-types x = refl
 
 -- an arm of two headers
-one-of-two : (a b : ℕ) → ((x : ℕ) → listedClass a x ≡ listedClass b x) → {h : ℕ} → (h ≡ a) ⊎ (h ≡ b) → (x : ℕ) → listedClass a x ≡ listedClass h x
+one-of-two : (a b : ℕ) → ((x : ℕ) → listedClass a x ≡ listedClass b x) → {h : ℕ} → (h ≡ a) ⊎ (h ≡ b) → (x : ℕ)
+    → listedClass a x ≡ listedClass h x
 one-of-two a b e (inl p) x = rw p
 one-of-two a b e (inr p) x = rw p (e x)
 
@@ -44,7 +45,8 @@ arms =
     (0x46 ∷ []) ∷ (0x42 ∷ []) ∷ []
 
 -- a header of no arm
-none-of : (lo n h x : ℕ) → T (all (λ k. amongAny k arms || not (among k (listed classLists))) lo n) → None arms h → lo ≤ h → h < lo + n → Refused no-class-list 0 ≡ listedClass h x
+none-of : (lo n h x : ℕ) → T (all (λ k. amongAny k arms || not (among k (listed classLists))) lo n) → None arms h → lo ≤ h → h < lo + n
+    → Refused no-class-list 0 ≡ listedClass h x
 unfolding listedClass
 none-of lo n h x t r p q = unlisted classLists h x (rest (λ k. not (among k (listed classLists))) arms lo n t h r p q)
 
@@ -75,6 +77,7 @@ class-in-spec =
     (λ c. rw (c .before .match .keys9) (c .charging-order .ensures))
     (λ c. rw (c .before .match .keys10) (c .adjacent-network .ensures))
     (λ c. c .number-type .ensures ∙ one-of-two 0xD7 0xDC number-types (c .before .match .keys11) _)
-    (λ c. c .result-event .ensures ∙ one-of-two 0x79 0x7A result-events (next-or-it 0x79 (c .before .before .if1 .left) (c .before .if2 .taken)) _)
+    (λ c. c .result-event .ensures
+    ∙ one-of-two 0x79 0x7A result-events (next-or-it 0x79 (c .before .before .if1 .left) (c .before .if2 .taken)) _)
     (λ c. none-of 0 0x79 _ _ tt (c .before .match .rest) (omega arith) (omega arith))
     (λ c. none-of 0x7B 0x85 _ _ tt (c .before .before .match .rest) (omega arith) (omega arith)))

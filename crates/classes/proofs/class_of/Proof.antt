@@ -23,14 +23,16 @@ returns-2 c =
     let h = c .before .before in
     let l = h .before .before .before in
     let a = l .before .args in
-    rw (← class-cleared (a .header) (a .octet), ← l .class-in .ensures, h .before .enum-told .given .1, ← zeroes h, ne-eqb _ _ (c .if1 .taken))
+    rw
+    (← class-cleared (a .header) (a .octet), ← l .class-in .ensures, h .before .enum-told .given .1, ← zeroes h, ne-eqb _ _ (c .if1 .taken))
 
 returns-3 : tie.Need-returns-3
 returns-3 c =
     let h = c .before .before in
     let l = h .before .before .before in
     let a = l .before .args in
-    rw (← class-cleared (a .header) (a .octet), ← l .class-in .ensures, h .before .enum-told .given .1, ← zeroes h, eq-eqb _ _ (c .if1 .left))
+    rw
+    (← class-cleared (a .header) (a .octet), ← l .class-in .ensures, h .before .enum-told .given .1, ← zeroes h, eq-eqb _ _ (c .if1 .left))
 
 pub class-of-spec : {M : Type 1} → statement M
 class-of-spec =

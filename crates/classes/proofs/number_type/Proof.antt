@@ -32,7 +32,9 @@ returns-3 : tie.Need-returns-3
 unfolding listedClass
 returns-3 c =
     let x = c .before .before .before .before .before .args .octet in
-    in-range 0xD7 (Is Spare) ((2 ∷ []) ∷ (1 ∷ 126 ∷ []) ∷ []) 126 2 tt _ (c .before .before .before .before .match .rest) (omega arith) (omega arith) ∙ low x (omega arith)
+    in-range 0xD7 (Is Spare) ((2 ∷ []) ∷ (1 ∷ 126 ∷ []) ∷ []) 126 2 tt _ (c .before .before .before .before .match .rest) (omega arith)
+    (omega arith)
+    ∙ low x (omega arith)
 
 returns-4 : tie.Need-returns-4
 unfolding listedClass
@@ -56,7 +58,8 @@ returns-7 : tie.Need-returns-7
 unfolding listedClass
 returns-7 c =
     let x = c .before .before .before .args .octet in
-    in-range 0xD7 (Is Named) ((2 ∷ []) ∷ (1 ∷ 126 ∷ []) ∷ []) 1 4 tt _ (c .before .before .match .rest) (omega arith) (omega arith) ∙ low x (omega arith)
+    in-range 0xD7 (Is Named) ((2 ∷ []) ∷ (1 ∷ 126 ∷ []) ∷ []) 1 4 tt _ (c .before .before .match .rest) (omega arith) (omega arith)
+    ∙ low x (omega arith)
 
 pub number-type-spec : {M : Type 1} → statement M
 number-type-spec =

@@ -32,7 +32,8 @@ returns-2 c =
     let v = c .before .before in
     let e = v .before .before in
     let a = e .before .before .before in
-    refused (a .args .kind) _ (a .pre) _ _ _ _ _ (octets (e .before)) (c .enum-told2 .given .1) (rw (le-ltb _ _ (e .if1 .left), ← v .verdict .ensures, c .enum-told2 .given .1))
+    refused (a .args .kind) _ (a .pre) _ _ _ _ _ (octets (e .before)) (c .enum-told2 .given .1)
+    (rw (le-ltb _ _ (e .if1 .left), ← v .verdict .ensures, c .enum-told2 .given .1))
 
 returns-3 : tie.Need-returns-3
 returns-3 c =
@@ -41,12 +42,14 @@ returns-3 c =
     let v = m .before .before in
     let e = v .before .before in
     let a = e .before .before .before in
-    refused (a .args .kind) _ (a .pre) _ _ _ _ _ (octets (e .before)) refl (rw (le-ltb _ _ (e .if1 .left), ← v .verdict .ensures, m .enum-told .given .1, ← d .common-plain .ensures, c .enum-told3 .given .1))
+    refused (a .args .kind) _ (a .pre) _ _ _ _ _ (octets (e .before)) refl
+    (rw (le-ltb _ _ (e .if1 .left), ← v .verdict .ensures, m .enum-told .given .1, ← d .common-plain .ensures, c .enum-told3 .given .1))
 
 abbrev at-start : tie.After-known-told → tie.Start
 at-start c = c .before .before .before .before .before .before .before .before .before .before .before .before
 
-found : (c : tie.After-known-told) → Data (now (at-start c .args .buffer)) (at-start c .args .n) (c .before .start .given .0 .0) (c .before .start .given .0 .1 .0)
+found : (c : tie.After-known-told)
+    → Data (now (at-start c .args .buffer)) (at-start c .args .n) (c .before .start .given .0 .0) (c .before .start .given .0 .1 .0)
 found c =
     let d = c .before .before .before in
     let m = d .before .before in
@@ -72,7 +75,8 @@ returns-4 : tie.Need-returns-4
 returns-4 c =
     let h = c .before .before in
     let a = at-start (h .before) in
-    own-refused (a .args .kind) _ _ _ _ _ _ _ _ (a .pre) (found (h .before)) (c .enum-told5 .given .1) (rw (← h .head-answer .ensures, c .enum-told5 .given .1))
+    own-refused (a .args .kind) _ _ _ _ _ _ _ _ (a .pre) (found (h .before)) (c .enum-told5 .given .1)
+    (rw (← h .head-answer .ensures, c .enum-told5 .given .1))
 
 returns-5 : tie.Need-returns-5
 returns-5 c =
@@ -80,7 +84,8 @@ returns-5 c =
     let m = w .before .before .before in
     let h = m .before .before in
     let a = at-start (h .before) in
-    own-refused (a .args .kind) _ _ _ _ _ _ _ _ (a .pre) (found (h .before)) refl (rw (← h .head-answer .ensures, m .enum-told4 .given .1, ← w .spot-in .ensures, c .before .enum-told6 .given .1, ← c .no-spot .ensures))
+    own-refused (a .args .kind) _ _ _ _ _ _ _ _ (a .pre) (found (h .before)) refl
+    (rw (← h .head-answer .ensures, m .enum-told4 .given .1, ← w .spot-in .ensures, c .before .enum-told6 .given .1, ← c .no-spot .ensures))
 
 abbrev at-data : tie.After-contents-answer → tie.After-known-told
 at-data c = c .before .before .before .before .before .before .before .before .before .before
@@ -90,7 +95,8 @@ left c =
     let f = c .before .before in
     let w = f .before .before in
     let m = w .before .before .before in
-    own-left (at-start (at-data c) .args .kind) _ _ _ _ _ (sym (m .before .before .head-answer .ensures) ∙ m .enum-told4 .given .1) (sym (w .spot-in .ensures) ∙ f .from .given .1)
+    own-left (at-start (at-data c) .args .kind) _ _ _ _ _ (sym (m .before .before .head-answer .ensures) ∙ m .enum-told4 .given .1)
+    (sym (w .spot-in .ensures) ∙ f .from .given .1)
     ∙ sym (c .contents-answer .ensures)
 
 returns-6 : tie.Need-returns-6
@@ -114,7 +120,8 @@ placed c =
     let k = d .before .before .before .before .before .before .before .before .before .before in
     let a = at-start d in
     let o = octets-every (now (a .args .new)) (λ i. omega (arith, k .shared-slice-known .given i)) in
-    cut (a .args .kind) _ _ _ _ _ _ _ _ (a .pre) o (found d) (sym (f .before .before .spot-in .ensures) ∙ f .from .given .1) (left n ∙ c .enum-told7 .given .1)
+    cut (a .args .kind) _ _ _ _ _ _ _ _ (a .pre) o (found d) (sym (f .before .before .spot-in .ensures) ∙ f .from .given .1)
+    (left n ∙ c .enum-told7 .given .1)
 
 returns-7 : tie.Need-returns-7
 returns-7 c =

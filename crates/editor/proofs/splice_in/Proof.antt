@@ -27,8 +27,12 @@ returns-3 c =
     let s = c .before .before .before in
     let a = s .before .before .before .before .before in
     let t = not-false _ (c .if2 .left) in
-    let fit = told-fitting (a .args .buffer .now) (a .args .n) (a .args .start + a .args .from) (a .args .to - a .args .from) (a .args .new .now) (sym (s .splice .ensures .0) ∙ t) in
-    (rw (le-ltb _ _ (s .before .before .if1 .left), le-ltb _ _ (fit .room)), rw (s .splice .ensures .1, t) (length-stored _ _ _ _ _ _ _ (a .pre) fit))
+    let fit =
+    told-fitting (a .args .buffer .now) (a .args .n) (a .args .start + a .args .from) (a .args .to - a .args .from) (a .args .new .now)
+    (sym (s .splice .ensures .0) ∙ t) in (
+      rw (le-ltb _ _ (s .before .before .if1 .left), le-ltb _ _ (fit .room)),
+      rw (s .splice .ensures .1, t) (length-stored _ _ _ _ _ _ _ (a .pre) fit),
+    )
 
 pub splice-in-spec : {M : Type 1} → statement M
 splice-in-spec =

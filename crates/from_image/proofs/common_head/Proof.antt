@@ -34,7 +34,14 @@ mul-value-3 : tie.Need-mul-value-3
 mul-value-3 c = omega (arith, c .shared-slice-known5 .given 4)
 
 add-value-3 : tie.Need-add-value-3
-add-value-3 c = omega (arith, c .shared-slice-known5 .given 1, c .shared-slice-known5 .given 2, c .shared-slice-known5 .given 3, c .shared-slice-known5 .given 4)
+add-value-3 c =
+    omega (
+      arith,
+      c .shared-slice-known5 .given 1,
+      c .shared-slice-known5 .given 2,
+      c .shared-slice-known5 .given 3,
+      c .shared-slice-known5 .given 4,
+    )
 
 returns : tie.Need-returns
 returns c = rw (eq-eqb _ transfer-data (c .before .if1 .taken))

@@ -14,7 +14,17 @@ use Rattle.annex.specs.Heads.{most-transfers}
 use Rattle.annex.specs.Image.{itemsFront, commonFront, partsFront, noImage, imagedBy}
 use Rattle.annex.specs.declared.Answer.the-variants.{Accepted}
 use Rattle.laws.specs.Parts.{to-end}
-use Rattle.from_image.specs.Filling.{filledBy, imagedFrom, imaged-start, Next, parts-short, parts-over, parts-stop, parts-next, parts-end}
+use Rattle.from_image.specs.Filling.{
+  filledBy,
+  imagedFrom,
+  imaged-start,
+  Next,
+  parts-short,
+  parts-over,
+  parts-stop,
+  parts-next,
+  parts-end,
+}
 use Rattle.from_image.proofs.fill.Statement.{statement}
 use Rattle.from_image.proofs.fill.Tie as tie
 
@@ -46,24 +56,32 @@ octetsOf a = now (a .before .before .before .args .s)
 becomes : (c : tie.In-loop Inv-loop μ-loop) →
     let a = c .before in
     imagedBy (length (octetsOf a)) (partsFront (a .before .before .before .args .count) (octetsOf a))
-    ≡ imagedFrom (length (octetsOf a)) (a .loop .q) (a .loop .transfers) (a .loop .used) (a .loop .i) (partsFront (suc (a .loop .left - 1)) (drop (a .loop .i) (octetsOf a)))
+    ≡ imagedFrom (length (octetsOf a)) (a .loop .q) (a .loop .transfers) (a .loop .used) (a .loop .i)
+    (partsFront (suc (a .loop .left - 1)) (drop (a .loop .i) (octetsOf a)))
 becomes c =
     let a = c .before in
     let e : a .loop .left ≡ suc (a .loop .left - 1) = omega (arith, c .loop-test .taken) in
-    a .loop .inv .4 ∙ ap (λ (n : ℕ). imagedFrom (length (octetsOf a)) (a .loop .q) (a .loop .transfers) (a .loop .used) (a .loop .i) (partsFront n (drop (a .loop .i) (octetsOf a)))) e
+    a .loop .inv .4
+    ∙ ap
+    (λ (n : ℕ). imagedFrom (length (octetsOf a)) (a .loop .q) (a .loop .transfers) (a .loop .used) (a .loop .i)
+    (partsFront n (drop (a .loop .i) (octetsOf a)))) e
 
 returns : tie.Need-returns Inv-loop μ-loop
 returns c =
     let l = c .before .before in
     let v = l .before .loop in
-    c .refused .ensures ∙ sym (becomes l ∙ parts-over _ (v .q) (v .transfers) (v .used) (v .i) (v .left - 1) (octetsOf (l .before)) (c .before .if1 .taken))
+    c .refused .ensures
+    ∙ sym (becomes l ∙ parts-over _ (v .q) (v .transfers) (v .used) (v .i) (v .left - 1) (octetsOf (l .before)) (c .before .if1 .taken))
 
 returns-2 : tie.Need-returns-2 Inv-loop μ-loop
 returns-2 c =
     let l = c .before .before .before in
     let v = l .before .loop in
     c .refused2 .ensures
-    ∙ sym (becomes l ∙ parts-short _ (v .q) (v .transfers) (v .used) (v .i) (v .left - 1) (octetsOf (l .before)) (rw (length-drop (v .i) (octetsOf (l .before))) (c .before .if2 .taken)))
+    ∙ sym
+    (becomes l
+    ∙ parts-short _ (v .q) (v .transfers) (v .used) (v .i) (v .left - 1) (octetsOf (l .before))
+    (rw (length-drop (v .i) (octetsOf (l .before))) (c .before .if2 .taken)))
 
 -- there is a head
 head-here : (c : tie.Else2 Inv-loop μ-loop) → let a = c .before .before .before in 6 ≤ length (drop (a .loop .i) (octetsOf a))
@@ -76,7 +94,8 @@ common-head-requires c κs =
     let a = c .before .before .before .before in
     rw (to-end (a .loop .i) (octetsOf a)) (head-here (c .before))
 
-head-is : (c : tie.After-common-head Inv-loop μ-loop) → let a = c .before .before .before .before .before in c .common-head .result ≡ commonFront (drop (a .loop .i) (octetsOf a))
+head-is : (c : tie.After-common-head Inv-loop μ-loop) → let a =
+    c .before .before .before .before .before in c .common-head .result ≡ commonFront (drop (a .loop .i) (octetsOf a))
 head-is c =
     let a = c .before .before .before .before .before in
     c .common-head .ensures ∙ ap commonFront (to-end (a .loop .i) (octetsOf a))
@@ -94,11 +113,15 @@ part-with-transfers-start c = omega (arith, c .before .before .if2 .left)
 filled-is : (c : tie.After-with-transfers Inv-loop μ-loop) →
     let h = c .before .before .before in
     let a = h .before .before .before .before .before in
-    c .with-transfers .result ≡ filledBy (a .loop .q) (a .loop .transfers) (a .loop .used) 0 (itemsFront (h .common-head .result .transfers) (drop (a .loop .i + 6) (octetsOf a)))
+    c .with-transfers .result
+    ≡ filledBy (a .loop .q) (a .loop .transfers) (a .loop .used) 0
+    (itemsFront (h .common-head .result .transfers) (drop (a .loop .i + 6) (octetsOf a)))
 filled-is c =
     let h = c .before .before .before in
     let a = h .before .before .before .before .before in
-    c .with-transfers .ensures ∙ ap (λ (d : List ℕ). filledBy (a .loop .q) (a .loop .transfers) (a .loop .used) 0 (itemsFront (h .common-head .result .transfers) d)) (to-end (a .loop .i + 6) (octetsOf a))
+    c .with-transfers .ensures
+    ∙ ap (λ (d : List ℕ). filledBy (a .loop .q) (a .loop .transfers) (a .loop .used) 0 (itemsFront (h .common-head .result .transfers) d))
+    (to-end (a .loop .i + 6) (octetsOf a))
 
 returns-3 : tie.Need-returns-3 Inv-loop μ-loop
 returns-3 c =
@@ -108,7 +131,11 @@ returns-3 c =
     let l = e .before .before in
     let v = l .before .loop in
     c .refused3 .ensures
-    ∙ sym (becomes l ∙ parts-stop _ (v .q) (v .transfers) (v .used) (v .i) (v .left - 1) (octetsOf (l .before)) (h .common-head .result) (w .with-transfers .result) (head-here e) (head-is h) (filled-is w) (not-true (w .with-transfers .result .whole) (c .before .if3 .taken)))
+    ∙ sym
+    (becomes l
+    ∙ parts-stop _ (v .q) (v .transfers) (v .used) (v .i) (v .left - 1) (octetsOf (l .before)) (h .common-head .result)
+    (w .with-transfers .result) (head-here e) (head-is h) (filled-is w)
+    (not-true (w .with-transfers .result .whole) (c .before .if3 .taken)))
 
 next-is : (c : tie.Else3 Inv-loop μ-loop) →
     let w = c .before .before in
@@ -117,17 +144,20 @@ next-is : (c : tie.Else3 Inv-loop μ-loop) →
     let s = octetsOf a in
     let v = a .loop in
     let f = w .with-transfers .result in
-    Next (length s) (v .q) (v .transfers) (v .used) (v .i) (length (drop (v .i + 6) s)) (partsFront (suc (v .left - 1)) (drop (v .i) s)) (partsFront (v .left - 1) (drop (v .i + 6 + f .octets) s)) f (h .common-head .result)
+    Next (length s) (v .q) (v .transfers) (v .used) (v .i) (length (drop (v .i + 6) s)) (partsFront (suc (v .left - 1)) (drop (v .i) s))
+    (partsFront (v .left - 1) (drop (v .i + 6 + f .octets) s)) f (h .common-head .result)
 next-is c =
     let w = c .before .before in
     let h = w .before .before .before in
     let e = h .before .before in
     let a = e .before .before .before in
     let v = a .loop in
-    parts-next _ (v .q) (v .transfers) (v .used) (v .i) (v .left - 1) (octetsOf a) (h .common-head .result) (w .with-transfers .result) (head-here e) (head-is h) (filled-is w) (not-false (w .with-transfers .result .whole) (c .if3 .left))
+    parts-next _ (v .q) (v .transfers) (v .used) (v .i) (v .left - 1) (octetsOf a) (h .common-head .result) (w .with-transfers .result)
+    (head-here e) (head-is h) (filled-is w) (not-false (w .with-transfers .result .whole) (c .if3 .left))
 
 -- the place for the head
-place-here : (c : tie.After-q Inv-loop μ-loop) → c .before .before .before .before .before .before .before .before .before .before .before .loop .q .commons < 6
+place-here : (c : tie.After-q Inv-loop μ-loop)
+    → c .before .before .before .before .before .before .before .before .before .before .before .loop .q .commons < 6
 place-here c = c .before .before .before .before .before .before .before .before .before .if1 .left
 
 mul-c : tie.Need-mul-c Inv-loop μ-loop
@@ -185,7 +215,8 @@ loop-again c =
 ended : (c : tie.After-loop Inv-loop μ-loop) →
     let a = c .before in
     let s = octetsOf a in
-    imagedBy (length s) (partsFront (a .before .before .before .args .count) s) ≡ cond (eqb (a .loop .i) (length s)) (record { answer = Accepted (a .loop .q .commons); held = a .loop .q }) noImage
+    imagedBy (length s) (partsFront (a .before .before .before .args .count) s)
+    ≡ cond (eqb (a .loop .i) (length s)) (record { answer = Accepted (a .loop .q .commons); held = a .loop .q }) noImage
 ended c =
     let v = c .before .loop in
     let s = octetsOf (c .before) in

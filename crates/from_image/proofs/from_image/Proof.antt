@@ -24,7 +24,8 @@ returns-2 : tie.Need-returns-2
 returns-2 c =
     let e = c .before .before .before in
     let m = now (e .before .before .args .image) in
-    c .fill .ensures ∙ ap (λ (d : List ℕ). imagedBy (length d) (partsFront (getD m 0 0) d)) (to-end 1 m) ∙ sym (image-counted m (e .if1 .left))
+    c .fill .ensures ∙ ap (λ (d : List ℕ). imagedBy (length d) (partsFront (getD m 0 0) d)) (to-end 1 m)
+    ∙ sym (image-counted m (e .if1 .left))
 
 pub from-image-spec : {M : Type 1} → statement M
 from-image-spec =

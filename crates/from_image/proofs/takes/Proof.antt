@@ -37,7 +37,9 @@ returns-3 c =
     rw (le-leb (itemSize (a .s .now)) (length (a .s .now)) (whole (c .before)), le-ltb (a .k) most-transfers (omega arith))
 
 -- and there is a place
-placed : (c : tie.Else3) → let a = c .before .before .before .before .before .before .args in fitsAt (a .s .now) (a .k) (a .used) ≡ leb (a .used + headFront (a .s .now) .len) 512
+placed : (c : tie.Else3) → let a =
+    c .before .before .before .before .before .before .args in fitsAt (a .s .now) (a .k) (a .used)
+    ≡ leb (a .used + headFront (a .s .now) .len) 512
 placed c =
     let a = c .before .before .before .before .before .before .args in
     rw (le-leb (itemSize (a .s .now)) (length (a .s .now)) (whole (c .before)), lt-ltb (a .k) most-transfers (omega arith))

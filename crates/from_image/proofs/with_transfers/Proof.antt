@@ -47,11 +47,14 @@ one-more n h = omega arith
 
 becomes : (c : tie.In-loop Inv-loop μ-loop) →
     let a = c .before in
-    filledBy (a .before .before .args .begun) (a .before .before .args .transfers) (a .before .before .args .taken) 0 (itemsFront (a .before .before .args .count) (octetsOf a))
+    filledBy (a .before .before .args .begun) (a .before .before .args .transfers) (a .before .before .args .taken) 0
+    (itemsFront (a .before .before .args .count) (octetsOf a))
     ≡ filledBy (a .loop .q) (a .loop .k) (a .loop .used) (a .loop .i) (itemsFront (suc (a .loop .left - 1)) (hereOf a))
 becomes c =
     let a = c .before in
-    a .loop .inv .3 ∙ ap (λ (n : ℕ). filledBy (a .loop .q) (a .loop .k) (a .loop .used) (a .loop .i) (itemsFront n (hereOf a))) (one-more (a .loop .left) (c .loop-test .taken))
+    a .loop .inv .3
+    ∙ ap (λ (n : ℕ). filledBy (a .loop .q) (a .loop .k) (a .loop .used) (a .loop .i) (itemsFront n (hereOf a)))
+    (one-more (a .loop .left) (c .loop-test .taken))
 
 told : (c : tie.After-takes Inv-loop μ-loop) →
     let a = c .before .before .before in
@@ -119,7 +122,8 @@ part-open-contents-end c = omega (arith, ends (c .before .before .before), len-i
 stored : (c : tie.After-open-contents Inv-loop μ-loop) →
     let h = c .before .before .before .before in
     let a = h .before .before .before .before .before .before in
-    c .open-contents .last .1 .1 .0 ≡ sets (a .loop .q .values) (a .loop .used) (take (headFront (hereOf a) .len) (drop (a .loop .i + 11) (octetsOf a)))
+    c .open-contents .last .1 .1 .0
+    ≡ sets (a .loop .q .values) (a .loop .used) (take (headFront (hereOf a) .len) (drop (a .loop .i + 11) (octetsOf a)))
 stored c =
     let h = c .before .before .before .before in
     let a = h .before .before .before .before .before .before in
@@ -127,7 +131,8 @@ stored c =
     let n = headFront (hereOf a) .len in
     let i = a .loop .i in
     let m : i + 11 + h .transfer-head .result .len - (i + 11) ≡ n = omega (arith, len-is h) in
-    let l : length (take n (drop (i + 11) s)) ≡ n = length-take-le n (drop (i + 11) s) (rw (length-drop (i + 11) s) (omega (arith, ends (h .before .before)))) in
+    let l : length (take n (drop (i + 11) s)) ≡ n =
+    length-take-le n (drop (i + 11) s) (rw (length-drop (i + 11) s) (omega (arith, ends (h .before .before)))) in
     c .open-contents .ensures .1 ∙ rw (m, l, le-leb (a .loop .used + n) 512 (room (h .before .before) .values))
 
 mul-t : tie.Need-mul-t Inv-loop μ-loop
@@ -174,7 +179,9 @@ returns-2 : tie.Need-returns-2 Inv-loop μ-loop
 returns-2 c =
     let a = c .before in
     let n : a .loop .left ≡ 0 = omega arith in
-    sym (a .loop .inv .3 ∙ rw n (filled-end (a .loop .q) (hereOf a) (a .loop .k) (a .loop .used) (a .loop .i) (a .loop .inv .1) (a .loop .inv .2)))
+    sym
+    (a .loop .inv .3
+    ∙ rw n (filled-end (a .loop .q) (hereOf a) (a .loop .k) (a .loop .used) (a .loop .i) (a .loop .inv .1) (a .loop .inv .2)))
 
 pub with-transfers-spec : {M : Type 1} → statement M
 with-transfers-spec =

@@ -24,7 +24,15 @@ returns-3 c =
     let f = g .before in
     let e = f .before in
     let l = e .before in
-    rw (← asks (l .before .args .header) (omega arith), ← l .layout-of .ensures, e .if1 .left, ← f .is-free .ensures, g .if2 .left, ← n .name-listed .ensures, ← c .unlisted .ensures)
+    rw (
+      ← asks (l .before .args .header) (omega arith),
+      ← l .layout-of .ensures,
+      e .if1 .left,
+      ← f .is-free .ensures,
+      g .if2 .left,
+      ← n .name-listed .ensures,
+      ← c .unlisted .ensures,
+    )
 
 pub head-of-spec : {M : Type 1} → statement M
 head-of-spec =

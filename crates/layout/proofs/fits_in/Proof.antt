@@ -25,7 +25,9 @@ returns c =
     let x = n .before in
     let a = x .before .before .args in
     let i = rawItem (a .t) (a .values .now) in
-    sym (lt-leb (length (layoutItem i)) (a .room) (omega (arith, c .if1 .taken, length-layout i, n .lead .ensures, ap leadOf (x .extent-of .ensures))))
+    sym
+    (lt-leb (length (layoutItem i)) (a .room)
+    (omega (arith, c .if1 .taken, length-layout i, n .lead .ensures, ap leadOf (x .extent-of .ensures))))
 
 less : (n k m room : ℕ) → m ≡ k + n → k ≤ room → leb n (room - k) ≡ leb m room
 less n k m room e h = go (leb m room) refl
@@ -42,7 +44,8 @@ returns-2 c =
     let a = x .before .before .args in
     let i = rawItem (a .t) (a .values .now) in
     let s = ap (λ (y : List ℕ). length y) (contents-as (a .held) i (x .before .before .pre)) in
-    less _ _ _ (a .room) (omega (arith, length-layout i, c .len-as .ensures, n .lead .ensures, ap leadOf (x .extent-of .ensures))) (e .if1 .left)
+    less _ _ _ (a .room) (omega (arith, length-layout i, c .len-as .ensures, n .lead .ensures, ap leadOf (x .extent-of .ensures)))
+    (e .if1 .left)
 
 pub fits-in-spec : {M : Type 1} → statement M
 fits-in-spec =

@@ -37,7 +37,8 @@ returns-4 c =
     let st = u .before .before .before in
     let i = rawItem (st .args .t) (st .args .values .now) in
     let k : AsGeneric ≡ heldAs i = sym (u .enum-told4 .given .1) ∙ st .pre in
-    rw (← length-as AsGeneric i k, number-led i (omega arith) (rw (← k) tt), ← contents-as (st .args .held) i (st .pre), ← c .len-as2 .ensures)
+    rw
+    (← length-as AsGeneric i k, number-led i (omega arith) (rw (← k) tt), ← contents-as (st .args .held) i (st .pre), ← c .len-as2 .ensures)
 
 pub length-right-spec : {M : Type 1} → statement M
 length-right-spec =

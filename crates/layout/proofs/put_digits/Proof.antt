@@ -30,7 +30,8 @@ returns c =
     let y = 64 * upperMarks (a .marks) (rawItem (a .t) ds) + length ds in
     let e : x ∷ [] ≡ lowOctets (y ∷ []) = ap (λ n. n ∷ []) (omega (arith, u .upper-marks .ensures ds)) in
     let s = set (a .room .now) 0 x in
-    let l : length (packed Dialled ds) ≤ length (take (length s - 1) (drop 1 s)) = rw (to-end 1 s, length-drop 1 s, length-set) (omega (arith, st .pre)) in
+    let l : length (packed Dialled ds) ≤ length (take (length s - 1) (drop 1 s)) =
+    rw (to-end 1 s, length-drop 1 s, length-set) (omega (arith, st .pre)) in
     written-then (a .room .now) (x ∷ []) (y ∷ []) (packed Dialled ds) (p .pack-digits .last .1 .1 .0) e (omega (arith, st .pre))
     (stored _ _ _ _ _ _ (p .pack-digits .ensures) l)
 

@@ -29,7 +29,8 @@ returns c =
     let st = o .before .before .before in
     let a = st .args in
     let ds = drop 1 (a .values .now) in
-    written-then (a .room .now) (6 ∷ []) (6 ∷ []) (numberContents (rawItem (a .t) ds) ds) (p .put-number .last .1 .1 .0) refl (omega (arith, st .pre)) (rw (o .octets-from .ensures) at (p .put-number .ensures))
+    written-then (a .room .now) (6 ∷ []) (6 ∷ []) (numberContents (rawItem (a .t) ds) ds) (p .put-number .last .1 .1 .0) refl
+    (omega (arith, st .pre)) (rw (o .octets-from .ensures) at (p .put-number .ensures))
 
 same-length : tie.Need-same-length
 same-length c =

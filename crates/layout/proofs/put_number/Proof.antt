@@ -33,8 +33,10 @@ returns c =
     let x = 128 * (length ds % 2) + t .«number_type» in
     let y = 128 * t .incomplete + 16 * t .plan + 4 * t .presentation + t .screening in
     let s = set (set (a .room .now) 0 (x % 256)) 1 (y % 256) in
-    let l : length (packed Numbered ds) ≤ length (take (length s - 2) (drop 2 s)) = rw (to-end 2 s, length-drop 2 s, length-set, length-set) (omega (arith, st .pre)) in
-    written-then (a .room .now) (lowOctets (x ∷ y ∷ [])) (x ∷ y ∷ []) (packed Numbered ds) (p .pack-digits .last .1 .1 .0) refl (omega (arith, st .pre))
+    let l : length (packed Numbered ds) ≤ length (take (length s - 2) (drop 2 s)) =
+    rw (to-end 2 s, length-drop 2 s, length-set, length-set) (omega (arith, st .pre)) in
+    written-then (a .room .now) (lowOctets (x ∷ y ∷ [])) (x ∷ y ∷ []) (packed Numbered ds) (p .pack-digits .last .1 .1 .0) refl
+    (omega (arith, st .pre))
     (stored _ _ _ _ _ _ (p .pack-digits .ensures) l)
 
 same-length : tie.Need-same-length

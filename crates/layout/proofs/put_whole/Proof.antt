@@ -67,7 +67,8 @@ returns c =
     let s = contentsOf (rawItem (a .t) (a .values .now)) in
     let b : h ∷ [] ≡ lowOctets (h ∷ []) = ap (λ n. n ∷ []) (omega arith) in
     rw (plain e)
-    (written-then (a .room .now) (h ∷ []) (h ∷ []) s (p .put-contents .last .1 .1 .1 .0) b (omega (arith, rw (plain e) at (st .pre .1))) (rw (kept st) at (p .put-contents .ensures)))
+    (written-then (a .room .now) (h ∷ []) (h ∷ []) s (p .put-contents .last .1 .1 .1 .0) b (omega (arith, rw (plain e) at (st .pre .1)))
+    (rw (kept st) at (p .put-contents .ensures)))
 
 same-length : tie.Need-same-length
 same-length c =
@@ -109,7 +110,8 @@ returns-2 c =
     let b : h ≡ h % 256 = omega arith in
     let low : h ∷ x % 256 ∷ [] ≡ lowOctets (h ∷ length s ∷ []) = rw (← m) (ap (λ n. n ∷ x % 256 ∷ []) b) in
     rw (led e)
-    (written-then (a .room .now) (h ∷ x % 256 ∷ []) (h ∷ length s ∷ []) s (p .put-contents2 .last .1 .1 .1 .0) low (omega (arith, rw (led e) at (st .pre .1))) (rw (kept st) at (p .put-contents2 .ensures)))
+    (written-then (a .room .now) (h ∷ x % 256 ∷ []) (h ∷ length s ∷ []) s (p .put-contents2 .last .1 .1 .1 .0) low
+    (omega (arith, rw (led e) at (st .pre .1))) (rw (kept st) at (p .put-contents2 .ensures)))
 
 same-length-2 : tie.Need-same-length-2
 same-length-2 c =

@@ -1,4 +1,5 @@
--- `refusal` meets its contract: its tests are those of the definition, in their order, and contents of the right length are too short for a sum to wrap.
+-- `refusal` meets its contract: its tests are those of the definition, in their order, and contents of the right length are too short for a
+-- sum to wrap.
 use Prim.Native.Nat.{ℕ, _+_}
 use native.Mathlib.Omega.{arith}
 use mathlib.Core.Path.{_≡_, sym, ap, _∙_}
@@ -29,7 +30,8 @@ returns c =
     let h = c .before .before in
     let a = h .before .before .args in
     let e = c .enum-told2 .given .1 in
-    rw (own-writing (rawItem (a .t) (a .values .now)) (a .times) 0) (e ∙ sym (head-refused 0 (a .t .header) _ _ _ (sym (h .head-writing .ensures) ∙ e)))
+    rw (own-writing (rawItem (a .t) (a .values .now)) (a .times) 0)
+    (e ∙ sym (head-refused 0 (a .t .header) _ _ _ (sym (h .head-writing .ensures) ∙ e)))
 
 -- past 9: how often the name stood, the length and the fault decide
 past-9 : (c : tie.After-enum-told) →
@@ -54,7 +56,8 @@ returns-2 c =
 past-10 : (c : tie.Else1) →
     let a = c .before .before .before .before .before .before .args in
     let i = rawItem (a .t) (a .values .now) in
-    itemWriting (a .times) 0 (itemFrom (a .t) (a .values .now)) ≡ refuse (not (lengthRight i)) cut-contents 0 (soundThen (headerAt 0) (faultIn i) (Accepted (0 + length (layoutItem i))))
+    itemWriting (a .times) 0 (itemFrom (a .t) (a .values .now))
+    ≡ refuse (not (lengthRight i)) cut-contents 0 (soundThen (headerAt 0) (faultIn i) (Accepted (0 + length (layoutItem i))))
 past-10 c =
     let o = c .before in
     rw (past-9 (o .before), ← o .often-of .ensures, lt-leb _ _ (c .if1 .left))
@@ -93,7 +96,8 @@ returns-4 c =
     let i = rawItem (a .t) (a .values .now) in
     let k = fault-as (o .held-as .result) i (o .held-as .ensures) in
     let s = ap (λ (y : List ℕ). length y) (contents-as (o .held-as .result) i (o .held-as .ensures)) in
-    let e : m .len-as .result + (1 + n .lead .result) ≡ 0 + length (layoutItem i) = omega (arith, length-layout i, m .len-as .ensures, n .lead .ensures, ap leadOf (x .extent-of .ensures)) in
+    let e : m .len-as .result + (1 + n .lead .result) ≡ 0 + length (layoutItem i) =
+    omega (arith, length-layout i, m .len-as .ensures, n .lead .ensures, ap leadOf (x .extent-of .ensures)) in
     rw (past-10 (o .before), ← l .length-right .ensures, g .if2 .left, ← k, ← v .values-fault .ensures)
     (c .at-header .ensures ∙ ap (λ n. soundThen (headerAt 0) (v .values-fault .result) (Accepted n)) (omega arith))
 

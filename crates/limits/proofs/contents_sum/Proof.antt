@@ -59,7 +59,13 @@ len-is c =
     let a = i .before in
     let q = a .before .before .args .t1 in
     let r = rawItem (transferAt q (a .loop .k)) (ownAt q (a .loop .k) (a .loop .used)) in
-    omega (arith, c .contents-len .ensures, contents-most (itemFrom (transferAt q (a .loop .k)) (ownAt q (a .loop .k) (a .loop .used))), ap length (own-values r), here i .few)
+    omega (
+      arith,
+      c .contents-len .ensures,
+      contents-most (itemFrom (transferAt q (a .loop .k)) (ownAt q (a .loop .k) (a .loop .used))),
+      ap length (own-values r),
+      here i .few,
+    )
 
 add-sum : tie.Need-add-sum Inv-loop μ-loop
 add-sum c = omega (arith, len-is c, here (c .before .before .before .before .before) .place)

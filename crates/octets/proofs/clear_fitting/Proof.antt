@@ -32,7 +32,8 @@ loop-again : tie.Need-loop-again Inv-loop μ-loop
 loop-again c =
     let a = c .before .before .args in
     let l = c .before .loop in
-    forward-turn (a .d .now) (a .from) (replicate (a .k) 0) (a .k) (l .i) (l .d) 0 (length-replicate (a .k) 0) (omega arith) (omega arith) (l .inv)
+    forward-turn (a .d .now) (a .from) (replicate (a .k) 0) (a .k) (l .i) (l .d) 0 (length-replicate (a .k) 0) (omega arith) (omega arith)
+    (l .inv)
     (sym (getD-replicate (a .k) (l .i) 0 0 (omega arith)))
 
 same-length : tie.Need-same-length Inv-loop μ-loop

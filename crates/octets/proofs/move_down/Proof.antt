@@ -59,7 +59,8 @@ returns c =
     let a = c .before .before .args in
     let l = c .before .loop in
     let d = a .d .now in
-    forward-end d (a .to) (part d (a .from) (a .k)) (a .k) (l .i) (l .d) (length-part d (a .from) (a .k) (omega arith)) (omega arith) (l .inv)
+    forward-end d (a .to) (part d (a .from) (a .k)) (a .k) (l .i) (l .d) (length-part d (a .from) (a .k) (omega arith)) (omega arith)
+    (l .inv)
 
 pub move-down-spec : {M : Type 1} → statement M
 move-down-spec =

@@ -36,10 +36,13 @@ same-length c = search needs
 
 returns : tie.Need-returns
 returns c =
-    let a = c .before .before .before .before .before .before .before .before .before .before .before .before .before .before .before .args in
+    let a =
+    c .before .before .before .before .before .before .before .before .before .before .before .before .before .before .before .args in
     let to = a .from + length (a .new .now) in
     let tail = a .from + a .old in
-    cc (three-steps (a .d .now) (a .n) (a .from) (a .old) (a .new .now) tail to (a .n - tail) (to + (a .n - tail)) (search needs) refl refl refl refl)
+    cc
+    (three-steps (a .d .now) (a .n) (a .from) (a .old) (a .new .now) tail to (a .n - tail) (to + (a .n - tail))
+    (search needs) refl refl refl refl)
 
 pub splice-fitting-spec : {M : Type 1} → statement M
 splice-fitting-spec =

@@ -39,17 +39,34 @@ returns-5 c =
     let f = c .before in
     let r = f .before .before in
     let n = r .before in
-    rw (common (n .before), le-ltb _ _ (n .if3 .left), ← r .value-right .ensures, not-false (r .value-right .result) (f .before .if4 .left), ← f .value-fits .ensures, not-true (f .value-fits .result) (c .if5 .taken))
+    rw (
+      common (n .before),
+      le-ltb _ _ (n .if3 .left),
+      ← r .value-right .ensures,
+      not-false (r .value-right .result) (f .before .if4 .left),
+      ← f .value-fits .ensures,
+      not-true (f .value-fits .result) (c .if5 .taken),
+    )
 
 add-end : tie.Need-add-end
-add-end c = omega (arith, c .head-len .ensures, head-long (c .before .before .before .before .before .before .before .before .before .args .c .header) .1)
+add-end c =
+    omega
+    (arith, c .head-len .ensures, head-long (c .before .before .before .before .before .before .before .before .before .args .c .header) .1)
 
 returns-6 : tie.Need-returns-6
 returns-6 c =
     let f = c .before .before in
     let r = f .before .before in
     let n = r .before in
-    rw (common (n .before), le-ltb _ _ (n .if3 .left), ← r .value-right .ensures, not-false (r .value-right .result) (f .before .if4 .left), ← f .value-fits .ensures, not-false (f .value-fits .result) (c .before .if5 .left), c .head-len .ensures)
+    rw (
+      common (n .before),
+      le-ltb _ _ (n .if3 .left),
+      ← r .value-right .ensures,
+      not-false (r .value-right .result) (f .before .if4 .left),
+      ← f .value-fits .ensures,
+      not-false (f .value-fits .result) (c .before .if5 .left),
+      c .head-len .ensures,
+    )
 
 pub head-refusal-spec : {M : Type 1} → statement M
 head-refusal-spec =

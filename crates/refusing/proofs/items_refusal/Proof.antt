@@ -1,5 +1,5 @@
--- `items_refusal` meets its contract. The invariant: the answer of the whole is the answer of the parameters from k on, from the place `at`,
--- with what has been seen.
+-- `items_refusal` meets its contract. The invariant: the answer of the whole is the answer of the parameters from k on, from the place
+-- `at`, with what has been seen.
 use Prim.Native.Nat.{suc, _+_, _-_, _*_, _≤_}
 use native.Mathlib.Omega.{arith}
 use mathlib.Core.Path.{_≡_, sym, _∙_}
@@ -68,7 +68,8 @@ itemAt c =
     let k = c .before .loop .k in
     itemFrom (transferAt q k) (ownAt q k (c .before .loop .used))
 
-header-is : (c : tie.In-loop Inv-loop μ-loop) → itemAt c .header ≡ transferAt (c .before .before .before .before .args .t1) (c .before .loop .k) .header
+header-is : (c : tie.In-loop Inv-loop μ-loop)
+    → itemAt c .header ≡ transferAt (c .before .before .before .before .args .t1) (c .before .loop .k) .header
 header-is c =
     let a = c .before in
     let q = a .before .before .before .args .t1 in
@@ -117,14 +118,18 @@ loop-again c =
       here i .next,
       omega (arith, taken c .behind, taken c .short, e, a .loop .inv .3),
       a .loop .inv .4 ∙ rw (here i .items _ (i .loop-test .taken))
-          (items-accepted (a .loop .seen) (a .loop .at) _ (itemAt i) _ _ (header-is i) (sym (r .refusal .ensures)) _ (c .before .a .given .1)),
+          (items-accepted (a .loop .seen) (a .loop .at) _ (itemAt i) _ _ (header-is i) (sym (r .refusal .ensures)) _
+          (c .before .a .given .1)),
     )
 
 returns-2 : tie.Need-returns-2 Inv-loop μ-loop
 returns-2 c =
     let a = c .before in
     let st = a .before .before .before in
-    sym (a .loop .inv .4 ∙ rw (items-end (st .args .t1) (a .loop .k) (st .args .first + st .args .n) (c .loop-test .left), items-over (a .loop .seen) (a .loop .at)))
+    sym
+    (a .loop .inv .4
+    ∙ rw
+    (items-end (st .args .t1) (a .loop .k) (st .args .first + st .args .n) (c .loop-test .left), items-over (a .loop .seen) (a .loop .at)))
 
 pub items-refusal-spec : {M : Type 1} → statement M
 items-refusal-spec =

@@ -1,5 +1,5 @@
--- `parts_refusal` meets its contract. The invariant: the answer of the whole is the answer of the common parameters from k on, from the place
--- `at`, with what has been seen; their transfer parameters start at the place `first`.
+-- `parts_refusal` meets its contract. The invariant: the answer of the whole is the answer of the common parameters from k on, from the
+-- place `at`, with what has been seen; their transfer parameters start at the place `first`.
 use Prim.Native.Nat.{_+_, _-_, _*_, _≤_, _<_}
 use native.Mathlib.Omega.{arith}
 use mathlib.Core.Path.{_≡_, sym, ap, _∙_}
@@ -9,8 +9,28 @@ use Rattle.annex.specs.Records.{transfersSum, commonsIn, view}
 use Rattle.annex.specs.Walk.{unseen, timesSeen}
 use Rattle.annex.specs.Writing.{partsWriting}
 use Rattle.annex.specs.declared.Answer.the-variants.{Accepted}
-use Rattle.limits.specs.Along.{commonAt, partsAt, transfersAt, parts-start, parts-next, parts-end, plain-turn, DataTurn, data-turn, length-mapped}
-use Rattle.refusing.specs.Refusing.{partHeadWriting, part-head-passed, data-passed, part-head-refused, plain-accepted, data-refused, data-accepted, parts-over}
+use Rattle.limits.specs.Along.{
+  commonAt,
+  partsAt,
+  transfersAt,
+  parts-start,
+  parts-next,
+  parts-end,
+  plain-turn,
+  DataTurn,
+  data-turn,
+  length-mapped,
+}
+use Rattle.refusing.specs.Refusing.{
+  partHeadWriting,
+  part-head-passed,
+  data-passed,
+  part-head-refused,
+  plain-accepted,
+  data-refused,
+  data-accepted,
+  parts-over,
+}
 use Rattle.refusing.proofs.parts_refusal.Statement.{statement}
 use Rattle.refusing.proofs.parts_refusal.Tie as tie
 
@@ -99,7 +119,8 @@ data-here : (c : tie.Else1 Inv-loop μ-loop) →
 data-here c =
     let i = c .before .before .before .before .before .before .before .before in
     let a = i .before in
-    data-turn (a .before .args .t1) (a .loop .k) (i .loop-test .taken) (long a) (a .loop .first) (a .before .pre) (a .loop .inv .2) (c .if1 .left)
+    data-turn (a .before .args .t1) (a .loop .k) (i .loop-test .taken) (long a) (a .loop .first) (a .before .pre) (a .loop .inv .2)
+    (c .if1 .left)
 
 data-refusal-requires : tie.Need-data-refusal-requires Inv-loop μ-loop
 data-refusal-requires c κs =
@@ -115,13 +136,16 @@ returns-2 c =
     let a = i .before in
     let e = c .enum-told2 .given .1 in
     rw e (sym (a .loop .inv .3 ∙ rw (data-here x .parts)
-    (data-refused (a .loop .seen) (a .loop .at) (commonAt (a .before .args .t1) (a .loop .k)) _ _ _ (taken t) _ _ (x .if1 .left) (sym (d .data-refusal .ensures) ∙ e))))
+    (data-refused (a .loop .seen) (a .loop .at) (commonAt (a .before .args .t1) (a .loop .k)) _ _ _ (taken t) _ _ (x .if1 .left)
+    (sym (d .data-refusal .ensures) ∙ e))))
 
 add-first : tie.Need-add-first Inv-loop μ-loop
 add-first c = omega (arith, data-here (c .before .before .before .before .before) .within .places)
 
 loop-less-2 : tie.Need-loop-less-2 Inv-loop μ-loop
-loop-less-2 c = omega (arith, c .before .before .before .before .before .before .before .before .before .before .before .before .before .loop-test .taken)
+loop-less-2 c =
+    omega
+    (arith, c .before .before .before .before .before .before .before .before .before .before .before .before .before .loop-test .taken)
 
 loop-again-2 : tie.Need-loop-again-2 Inv-loop μ-loop
 loop-again-2 c =
@@ -147,7 +171,10 @@ returns-3 : tie.Need-returns-3 Inv-loop μ-loop
 returns-3 c =
     let a = c .before .before in
     let q = a .before .args .t1 in
-    c .end-refusal .ensures ∙ sym (a .loop .inv .3 ∙ rw (parts-end q (a .loop .k) (c .before .loop-test .left) (a .loop .first)) (parts-over (a .loop .seen) (a .loop .at)))
+    c .end-refusal .ensures
+    ∙ sym
+    (a .loop .inv .3
+    ∙ rw (parts-end q (a .loop .k) (c .before .loop-test .left) (a .loop .first)) (parts-over (a .loop .seen) (a .loop .at)))
 
 pub parts-refusal-spec : {M : Type 1} → statement M
 parts-refusal-spec =

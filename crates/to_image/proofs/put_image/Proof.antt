@@ -46,7 +46,8 @@ returns c =
     let st = p .before .before .before in
     let a = st .args in
     let v = view (a .q) in
-    written-then (a .out .now) (a .q .commons ∷ []) (length v ∷ []) (imageParts v) (p .put-parts .last .1 .0) (count-is st) (omega (arith, st .pre .1)) (p .put-parts .ensures)
+    written-then (a .out .now) (a .q .commons ∷ []) (length v ∷ []) (imageParts v) (p .put-parts .last .1 .0) (count-is st)
+    (omega (arith, st .pre .1)) (p .put-parts .ensures)
 
 same-length : tie.Need-same-length
 same-length c =

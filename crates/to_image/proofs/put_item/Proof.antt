@@ -26,7 +26,8 @@ returns c =
     let t = h .own-head .result in
     let small : (i : ℕ) → getD s i 0 < 256 = λ i. omega (arith, h .before .before .shared-slice-known .given i) in
     let k : itemFrom (st .args .t) s .values ≡ s = own-values (rawItem (st .args .t) s) in
-    copied-behind room (imageHead t) s (p .put-transfer .last .1 .0) (y .copy-in .last .0) (y .copy-in .result) (omega (arith, st .pre .0, st .pre .1)) (octets-every s small) (p .put-transfer .ensures) (y .copy-in .ensures)
+    copied-behind room (imageHead t) s (p .put-transfer .last .1 .0) (y .copy-in .last .0) (y .copy-in .result)
+    (omega (arith, st .pre .0, st .pre .1)) (octets-every s small) (p .put-transfer .ensures) (y .copy-in .ensures)
     ∙ ap (λ (l : List ℕ). atFront l room) (item-octets t (itemFrom (st .args .t) s) s (h .own-head .ensures) k)
 
 pub put-item-spec : {M : Type 1} → statement M

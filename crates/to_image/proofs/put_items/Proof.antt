@@ -37,7 +37,8 @@ loop-holds c =
     (omega arith, omega arith, c .values-before .ensures, rw e (laid-start (a .out .now) (imageItems (itemsAt (a .t1) (a .first) (a .n)))))
 
 -- the parameter at k
-here : (c : tie.In-loop Inv-loop μ-loop) → Turn (c .before .before .before .before .before .args .t1) (c .before .loop .k) (c .before .loop .used)
+here : (c : tie.In-loop Inv-loop μ-loop)
+    → Turn (c .before .before .before .before .before .args .t1) (c .before .loop .k) (c .before .loop .used)
 here c =
     let a = c .before in
     let st = a .before .before .before .before in
@@ -72,7 +73,8 @@ left-is : (c : tie.In-loop Inv-loop μ-loop) →
     let a = c .before in
     let st = a .before .before .before .before in
     let end = st .args .first + st .args .n in
-    imageItems (itemsAt (st .args .t1) (a .loop .k) (end - a .loop .k)) ≡ imageItem (itemAt c) ++ imageItems (itemsAt (st .args .t1) (a .loop .k + 1) (end - (a .loop .k + 1)))
+    imageItems (itemsAt (st .args .t1) (a .loop .k) (end - a .loop .k))
+    ≡ imageItem (itemAt c) ++ imageItems (itemsAt (st .args .t1) (a .loop .k + 1) (end - (a .loop .k + 1)))
 unfolding imageItems
 left-is c =
     let a = c .before in
@@ -114,7 +116,13 @@ add-at-2 c =
     let i = turned-in c in
     let a = i .before in
     let st = a .before .before .before .before in
-    omega (arith, item-long i, laid-fits (a .loop .inv .3) (st .pre .1) (imageItem (itemAt i)) _ (left-is i), laid-length (a .loop .inv .3) (st .pre .1), st .good)
+    omega (
+      arith,
+      item-long i,
+      laid-fits (a .loop .inv .3) (st .pre .1) (imageItem (itemAt i)) _ (left-is i),
+      laid-length (a .loop .inv .3) (st .pre .1),
+      st .good,
+    )
 
 add-k : tie.Need-add-k Inv-loop μ-loop
 unfolding turned-in
@@ -134,7 +142,8 @@ loop-again c =
       omega arith,
       omega (arith, i .loop-test .taken),
       here i .next,
-      laid-turn (a .loop .inv .3) (st .pre .1) (imageItem (itemAt i)) _ (left-is i) (p .put-item .last .1 .1 .0) (11 + transferAt (st .args .t1) (a .loop .k) .len) (p .put-item .ensures) (item-long i),
+      laid-turn (a .loop .inv .3) (st .pre .1) (imageItem (itemAt i)) _ (left-is i) (p .put-item .last .1 .1 .0)
+          (11 + transferAt (st .args .t1) (a .loop .k) .len) (p .put-item .ensures) (item-long i),
     )
 
 same-length : tie.Need-same-length Inv-loop μ-loop
@@ -147,7 +156,8 @@ unfolding imageItems
 returns c =
     let a = c .before in
     let st = a .before .before .before .before in
-    let none : imageItems (itemsAt (st .args .t1) (a .loop .k) (st .args .first + st .args .n - a .loop .k)) ≡ [] = rw (items-end (st .args .t1) (a .loop .k) (st .args .first + st .args .n) (c .loop-test .left)) in
+    let none : imageItems (itemsAt (st .args .t1) (a .loop .k) (st .args .first + st .args .n - a .loop .k)) ≡ [] =
+    rw (items-end (st .args .t1) (a .loop .k) (st .args .first + st .args .n) (c .loop-test .left)) in
     (laid-count (a .loop .inv .3) (st .pre .1) none, laid-end (a .loop .inv .3) (st .pre .1) none)
 
 pub put-items-spec : {M : Type 1} → statement M

@@ -15,7 +15,8 @@ returns c =
     let a = st .args in
     let is = imageItems (itemsAt (a .q) (a .first) (a .c .transfers)) in (
       omega (arith, p .put-items .ensures .0),
-      lent-behind (a .out .now) (imageCommon (a .c)) is (h .put-common .last .1 .0) (p .put-items .last .1 .1 .1 .0) (omega (arith, st .pre .1)) (h .put-common .ensures) (p .put-items .ensures .1),
+      lent-behind (a .out .now) (imageCommon (a .c)) is (h .put-common .last .1 .0) (p .put-items .last .1 .1 .1 .0)
+          (omega (arith, st .pre .1)) (h .put-common .ensures) (p .put-items .ensures .1),
     )
 
 pub put-part-spec : {M : Type 1} → statement M

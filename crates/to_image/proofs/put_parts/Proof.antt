@@ -59,7 +59,8 @@ octets c =
 left-is : (c : tie.After-own-common Inv-loop μ-loop) →
     let a = c .before .before .before in
     let q = a .before .before .args .t1 in
-    imageParts (partsAt q (a .loop .k) (a .loop .first)) ≡ octets c ++ imageParts (partsAt q (a .loop .k + 1) (a .loop .first + c .own-common .result .transfers))
+    imageParts (partsAt q (a .loop .k) (a .loop .first))
+    ≡ octets c ++ imageParts (partsAt q (a .loop .k + 1) (a .loop .first + c .own-common .result .transfers))
 unfolding octets
 left-is c = rw (c .own-common .ensures) (here (c .before .before) .octets)
 
@@ -72,8 +73,10 @@ put-part-requires : tie.Need-put-part-requires Inv-loop μ-loop
 unfolding octets
 put-part-requires c κs =
     let o = c .before in
-    let a = o .before .before .before in
-    (rw (o .own-common .ensures) (here (o .before .before) .within), laid-room (a .loop .inv .2) (a .before .before .pre .1) (octets o) _ (left-is o))
+    let a = o .before .before .before in (
+      rw (o .own-common .ensures) (here (o .before .before) .within),
+      laid-room (a .loop .inv .2) (a .before .before .pre .1) (octets o) _ (left-is o),
+    )
 
 add-at : tie.Need-add-at Inv-loop μ-loop
 unfolding octets
@@ -82,13 +85,20 @@ add-at c =
     let o = p .before .before in
     let a = o .before .before .before in
     let st = a .before .before in
-    omega (arith, p .put-part .ensures .0, laid-fits (a .loop .inv .2) (st .pre .1) (octets o) _ (left-is o), laid-length (a .loop .inv .2) (st .pre .1), st .good)
+    omega (
+      arith,
+      p .put-part .ensures .0,
+      laid-fits (a .loop .inv .2) (st .pre .1) (octets o) _ (left-is o),
+      laid-length (a .loop .inv .2) (st .pre .1),
+      st .good,
+    )
 
 turned-in : (c : tie.After-struct-known Inv-loop μ-loop) → tie.After-own-common Inv-loop μ-loop
 turned-in c = c .before .before .before .before .before
 
 -- the transfer parameters passed with it
-few-first : (c : tie.After-own-common Inv-loop μ-loop) → c .before .before .before .loop .first + c .own-common .result .transfers ≤ most-transfers
+few-first : (c : tie.After-own-common Inv-loop μ-loop)
+    → c .before .before .before .loop .first + c .own-common .result .transfers ≤ most-transfers
 few-first c = rw (c .own-common .ensures) (here (c .before .before) .within .places)
 
 add-first : tie.Need-add-first Inv-loop μ-loop
@@ -113,7 +123,8 @@ loop-again c =
     let st = a .before .before in (
       omega (arith, i .loop-test .taken),
       rw (o .own-common .ensures) (here i .sum),
-      laid-turn (a .loop .inv .2) (st .pre .1) (octets o) _ (left-is o) (p .put-part .last .1 .1 .1 .0) (p .put-part .result) (p .put-part .ensures .1) (p .put-part .ensures .0),
+      laid-turn (a .loop .inv .2) (st .pre .1) (octets o) _ (left-is o) (p .put-part .last .1 .1 .1 .0) (p .put-part .result)
+          (p .put-part .ensures .1) (p .put-part .ensures .0),
     )
 
 same-length : tie.Need-same-length Inv-loop μ-loop
@@ -126,7 +137,8 @@ unfolding imageParts
 returns c =
     let a = c .before in
     let q = a .before .before .args .t1 in
-    let none : imageParts (partsAt q (a .loop .k) (a .loop .first)) ≡ [] = rw (parts-end q (a .loop .k) (c .loop-test .left) (a .loop .first)) in
+    let none : imageParts (partsAt q (a .loop .k) (a .loop .first)) ≡ [] =
+    rw (parts-end q (a .loop .k) (c .loop-test .left) (a .loop .first)) in
     laid-end (a .loop .inv .2) (a .before .before .pre .1) none
 
 pub put-parts-spec : {M : Type 1} → statement M

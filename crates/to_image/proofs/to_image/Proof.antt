@@ -1,5 +1,5 @@
--- `to_image` meets its contract: a struct that stays within its arrays is laid out where the room suffices, and its numbers are octets; else
--- the room stays.
+-- `to_image` meets its contract: a struct that stays within its arrays is laid out where the room suffices, and its numbers are octets;
+-- else the room stays.
 use Prim.Native.Nat.{ℕ, _+_, _*_, _<_}
 use native.Mathlib.Omega.{arith}
 use mathlib.Core.Path.{_≡_, sym, ap, _∙_}
@@ -86,7 +86,8 @@ long c =
     let t = c .before .before in
     let st = t .before .before .before .before .before in
     let f = fits-image st in
-    sym (image-length (st .args .held) (whole t) (f .commons-long) (f .transfers-long) (f .values-long) ∙ rw (← values-all c, ← accepted t .1))
+    sym
+    (image-length (st .args .held) (whole t) (f .commons-long) (f .transfers-long) (f .values-long) ∙ rw (← values-all c, ← accepted t .1))
 
 returns-2 : tie.Need-returns-2
 returns-2 c =

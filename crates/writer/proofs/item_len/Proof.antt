@@ -22,7 +22,15 @@ add-result c =
     let l = c .before in
     let st = l .before .before .before in
     let i = rawItem (st .args .t) (st .args .values .now) in
-    omega (arith, lead-is l, lead-small (extentOf (st .args .t .header)), c .contents-len .ensures, contents-most (itemFrom (st .args .t) (st .args .values .now)), ap length (own-values i), st .pre)
+    omega (
+      arith,
+      lead-is l,
+      lead-small (extentOf (st .args .t .header)),
+      c .contents-len .ensures,
+      contents-most (itemFrom (st .args .t) (st .args .values .now)),
+      ap length (own-values i),
+      st .pre,
+    )
 
 returns : tie.Need-returns
 returns c =

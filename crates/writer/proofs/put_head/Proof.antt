@@ -35,7 +35,9 @@ returns c =
     let st = k .before .before in
     let a = st .args in
     rw (c .call-octets .ensures)
-    (sym (stored (a .room .now) (headOctets (a .c)) (st .pre) ∙ ap (sets (a .room .now) 0) (low-call (a .c) (omega arith) (sym (k .is-call .ensures) ∙ t .if1 .taken))))
+    (sym
+    (stored (a .room .now) (headOctets (a .c)) (st .pre)
+    ∙ ap (sets (a .room .now) 0) (low-call (a .c) (omega arith) (sym (k .is-call .ensures) ∙ t .if1 .taken))))
 
 slice-write-room-5 : tie.Need-slice-write-room-5
 slice-write-room-5 c =
@@ -47,7 +49,9 @@ returns-2 c =
     let k = c .before in
     let st = k .before .before in
     let a = st .args in
-    sym (stored (a .room .now) (headOctets (a .c)) (st .pre) ∙ ap (sets (a .room .now) 0) (low-plain (a .c) (omega arith) (sym (k .is-call .ensures) ∙ c .if1 .left)))
+    sym
+    (stored (a .room .now) (headOctets (a .c)) (st .pre)
+    ∙ ap (sets (a .room .now) 0) (low-plain (a .c) (omega arith) (sym (k .is-call .ensures) ∙ c .if1 .left)))
 
 pub put-head-spec : {M : Type 1} → statement M
 put-head-spec =

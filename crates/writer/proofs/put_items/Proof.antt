@@ -32,11 +32,16 @@ add-end c = omega (arith, c .before .before .pre .0 .places)
 loop-holds : tie.Need-loop-holds Inv-loop μ-loop
 loop-holds c =
     let a = c .before .before .before .args in
-    let e : a .first + a .n - a .first ≡ a .n = omega arith in
-    (omega arith, omega arith, c .values-before .ensures, rw e (laid-start (a .room .now) (layoutItems (itemsAt (a .t1) (a .first) (a .n)))))
+    let e : a .first + a .n - a .first ≡ a .n = omega arith in (
+      omega arith,
+      omega arith,
+      c .values-before .ensures,
+      rw e (laid-start (a .room .now) (layoutItems (itemsAt (a .t1) (a .first) (a .n)))),
+    )
 
 -- the parameter at k
-here : (c : tie.In-loop Inv-loop μ-loop) → Turn (c .before .before .before .before .before .args .t1) (c .before .loop .k) (c .before .loop .used)
+here : (c : tie.In-loop Inv-loop μ-loop)
+    → Turn (c .before .before .before .before .before .args .t1) (c .before .loop .k) (c .before .loop .used)
 here c =
     let a = c .before in
     let st = a .before .before .before .before in
@@ -56,7 +61,8 @@ left-is : (c : tie.In-loop Inv-loop μ-loop) →
     let a = c .before in
     let st = a .before .before .before .before in
     let end = st .args .first + st .args .n in
-    layoutItems (itemsAt (st .args .t1) (a .loop .k) (end - a .loop .k)) ≡ layoutItem (itemAt c) ++ layoutItems (itemsAt (st .args .t1) (a .loop .k + 1) (end - (a .loop .k + 1)))
+    layoutItems (itemsAt (st .args .t1) (a .loop .k) (end - a .loop .k))
+    ≡ layoutItem (itemAt c) ++ layoutItems (itemsAt (st .args .t1) (a .loop .k + 1) (end - (a .loop .k + 1)))
 unfolding layoutItems
 left-is c =
     let a = c .before in
@@ -101,7 +107,13 @@ add-at c =
     let i = c .before .before .before .before .before .before .before .before .before in
     let a = i .before in
     let st = a .before .before .before .before in
-    omega (arith, c .item-len .ensures, laid-fits (a .loop .inv .3) (st .pre .1) (layoutItem (itemAt i)) _ (left-is i), laid-length (a .loop .inv .3) (st .pre .1), st .good)
+    omega (
+      arith,
+      c .item-len .ensures,
+      laid-fits (a .loop .inv .3) (st .pre .1) (layoutItem (itemAt i)) _ (left-is i),
+      laid-length (a .loop .inv .3) (st .pre .1),
+      st .good,
+    )
 
 add-k : tie.Need-add-k Inv-loop μ-loop
 add-k c = omega (arith, here (c .before .before .before .before .before .before .before .before .before) .place)
@@ -118,7 +130,8 @@ loop-again c =
       omega arith,
       omega (arith, i .loop-test .taken),
       here i .next,
-      laid-turn (a .loop .inv .3) (st .pre .1) (layoutItem (itemAt i)) _ (left-is i) (p .put .last .1 .1 .0) (c .item-len .result) (put-is p) (c .item-len .ensures),
+      laid-turn (a .loop .inv .3) (st .pre .1) (layoutItem (itemAt i)) _ (left-is i) (p .put .last .1 .1 .0) (c .item-len .result)
+          (put-is p) (c .item-len .ensures),
     )
 
 same-length : tie.Need-same-length Inv-loop μ-loop
@@ -131,7 +144,8 @@ unfolding layoutItems
 returns c =
     let a = c .before in
     let st = a .before .before .before .before in
-    let none : layoutItems (itemsAt (st .args .t1) (a .loop .k) (st .args .first + st .args .n - a .loop .k)) ≡ [] = rw (items-end (st .args .t1) (a .loop .k) (st .args .first + st .args .n) (c .loop-test .left)) in
+    let none : layoutItems (itemsAt (st .args .t1) (a .loop .k) (st .args .first + st .args .n - a .loop .k)) ≡ [] =
+    rw (items-end (st .args .t1) (a .loop .k) (st .args .first + st .args .n) (c .loop-test .left)) in
     (laid-count (a .loop .inv .3) (st .pre .1) none, laid-end (a .loop .inv .3) (st .pre .1) none)
 
 pub put-items-spec : {M : Type 1} → statement M

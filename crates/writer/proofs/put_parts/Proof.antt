@@ -10,7 +10,20 @@ use Rattle.annex.specs.Heads.{end-mark}
 use Rattle.annex.specs.Items.{Part}
 use Rattle.annex.specs.Layout.{layoutPart, layout}
 use Rattle.annex.specs.Records.{transfersSum, commonsIn, view}
-use Rattle.limits.specs.Along.{partFrom, commonAt, itemsAt, partsAt, transfersAt, parts-start, parts-end, PlainTurn, plain-turn, DataTurn, data-turn, length-mapped}
+use Rattle.limits.specs.Along.{
+  partFrom,
+  commonAt,
+  itemsAt,
+  partsAt,
+  transfersAt,
+  parts-start,
+  parts-end,
+  PlainTurn,
+  plain-turn,
+  DataTurn,
+  data-turn,
+  length-mapped,
+}
 use Rattle.refusing.specs.Laying.{headOctets, dataLaid, length-head, plain-laid, data-laid}
 use Rattle.laws.specs.Rooms.{Laid, laid-start, laid-length, laid-at, laid-fits, laid-room, laid-turn, laid-last}
 use Rattle.writer.proofs.put_parts.Statement.{statement}
@@ -67,13 +80,15 @@ plain-here c =
 plain-left : (c : tie.Then1 Inv-loop μ-loop) →
     let a = c .before .before .before .before in
     let q = a .before .before .args .t1 in
-    layout (partsAt q (a .loop .k) (a .loop .first)) ≡ headOctets (commonAt q (a .loop .k)) ++ layout (partsAt q (a .loop .k + 1) (a .loop .first))
+    layout (partsAt q (a .loop .k) (a .loop .first))
+    ≡ headOctets (commonAt q (a .loop .k)) ++ layout (partsAt q (a .loop .k + 1) (a .loop .first))
 plain-left c =
     let a = c .before .before .before .before in
     let q = a .before .before .args .t1 in
     let h = commonAt q (a .loop .k) in
     let rest = partsAt q (a .loop .k + 1) (a .loop .first) in
-    ap layout (plain-here c .parts) ∙ layout-cons (partFrom h []) rest ∙ ap (λ (l : List ℕ). l ++ layout rest) (plain-laid h [] (c .if1 .taken))
+    ap layout (plain-here c .parts) ∙ layout-cons (partFrom h []) rest
+    ∙ ap (λ (l : List ℕ). l ++ layout rest) (plain-laid h [] (c .if1 .taken))
 
 -- C5: its octets come next
 data-here : (c : tie.Else1 Inv-loop μ-loop) →
@@ -83,20 +98,23 @@ data-here : (c : tie.Else1 Inv-loop μ-loop) →
 data-here c =
     let i = c .before .before .before in
     let a = i .before in
-    data-turn (a .before .before .args .t1) (a .loop .k) (i .loop-test .taken) (long a) (a .loop .first) (a .before .before .pre .0) (a .loop .inv .1) (c .if1 .left)
+    data-turn (a .before .before .args .t1) (a .loop .k) (i .loop-test .taken) (long a) (a .loop .first) (a .before .before .pre .0)
+    (a .loop .inv .1) (c .if1 .left)
 
 data-left : (c : tie.Else1 Inv-loop μ-loop) →
     let a = c .before .before .before .before in
     let q = a .before .before .args .t1 in
     let n = commonAt q (a .loop .k) .transfers in
-    layout (partsAt q (a .loop .k) (a .loop .first)) ≡ dataLaid (itemsAt q (a .loop .first) n) ++ layout (partsAt q (a .loop .k + 1) (a .loop .first + n))
+    layout (partsAt q (a .loop .k) (a .loop .first))
+    ≡ dataLaid (itemsAt q (a .loop .first) n) ++ layout (partsAt q (a .loop .k + 1) (a .loop .first + n))
 data-left c =
     let a = c .before .before .before .before in
     let q = a .before .before .args .t1 in
     let h = commonAt q (a .loop .k) in
     let is = itemsAt q (a .loop .first) (h .transfers) in
     let rest = partsAt q (a .loop .k + 1) (a .loop .first + h .transfers) in
-    ap layout (data-here c .parts) ∙ layout-cons (partFrom h is) rest ∙ ap (λ (l : List ℕ). l ++ layout rest) (data-laid h is (c .if1 .left))
+    ap layout (data-here c .parts) ∙ layout-cons (partFrom h is) rest
+    ∙ ap (λ (l : List ℕ). l ++ layout rest) (data-laid h is (c .if1 .left))
 
 sub-put-head : tie.Need-sub-put-head Inv-loop μ-loop
 sub-put-head c =
@@ -107,7 +125,8 @@ put-head-requires : tie.Need-put-head-requires Inv-loop μ-loop
 put-head-requires c κs =
     let t = c .before in
     let a = t .before .before .before .before in
-    laid-room (a .loop .inv .2) (a .before .before .pre .1) (headOctets (commonAt (a .before .before .args .t1) (a .loop .k))) _ (plain-left t)
+    laid-room (a .loop .inv .2) (a .before .before .pre .1) (headOctets (commonAt (a .before .before .args .t1) (a .loop .k))) _
+    (plain-left t)
 
 -- how many octets it takes
 head-is : (c : tie.After-head-len Inv-loop μ-loop) →
@@ -122,7 +141,13 @@ add-at c =
     let t = c .before .before .before .before .before in
     let a = t .before .before .before .before in
     let st = a .before .before in
-    omega (arith, head-is c, laid-fits (a .loop .inv .2) (st .pre .1) (headOctets (commonAt (st .args .t1) (a .loop .k))) _ (plain-left t), laid-length (a .loop .inv .2) (st .pre .1), st .good)
+    omega (
+      arith,
+      head-is c,
+      laid-fits (a .loop .inv .2) (st .pre .1) (headOctets (commonAt (st .args .t1) (a .loop .k))) _ (plain-left t),
+      laid-length (a .loop .inv .2) (st .pre .1),
+      st .good,
+    )
 
 loop-less : tie.Need-loop-less Inv-loop μ-loop
 loop-less c = omega (arith, c .before .before .before .before .before .before .before .before .loop-test .taken)
@@ -136,7 +161,8 @@ loop-again c =
     let st = a .before .before in (
       omega (arith, i .loop-test .taken),
       plain-here t .sum,
-      laid-turn (a .loop .inv .2) (st .pre .1) (headOctets (commonAt (st .args .t1) (a .loop .k))) _ (plain-left t) (p .put-head .last .1 .0) (c .head-len .result) (p .put-head .ensures) (head-is c),
+      laid-turn (a .loop .inv .2) (st .pre .1) (headOctets (commonAt (st .args .t1) (a .loop .k))) _ (plain-left t)
+          (p .put-head .last .1 .0) (c .head-len .result) (p .put-head .ensures) (head-is c),
     )
 
 sub-put-data : tie.Need-sub-put-data Inv-loop μ-loop
@@ -156,7 +182,13 @@ add-at-2 c =
     let e = p .before .before .before in
     let a = e .before .before .before .before in
     let st = a .before .before in
-    omega (arith, p .put-data .ensures .0, laid-fits (a .loop .inv .2) (st .pre .1) (dataLaid _) _ (data-left e), laid-length (a .loop .inv .2) (st .pre .1), st .good)
+    omega (
+      arith,
+      p .put-data .ensures .0,
+      laid-fits (a .loop .inv .2) (st .pre .1) (dataLaid _) _ (data-left e),
+      laid-length (a .loop .inv .2) (st .pre .1),
+      st .good,
+    )
 
 add-first : tie.Need-add-first Inv-loop μ-loop
 add-first c = omega (arith, data-here (c .before .before .before .before .before) .within .places)
@@ -173,7 +205,8 @@ loop-again-2 c =
     let st = a .before .before in (
       omega (arith, i .loop-test .taken),
       data-here e .sum,
-      laid-turn (a .loop .inv .2) (st .pre .1) (dataLaid _) _ (data-left e) (p .put-data .last .1 .1 .1 .0) (p .put-data .result) (p .put-data .ensures .1) (p .put-data .ensures .0),
+      laid-turn (a .loop .inv .2) (st .pre .1) (dataLaid _) _ (data-left e) (p .put-data .last .1 .1 .1 .0) (p .put-data .result)
+          (p .put-data .ensures .1) (p .put-data .ensures .0),
     )
 
 -- the end mark is left

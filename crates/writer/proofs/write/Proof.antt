@@ -46,7 +46,8 @@ returns c =
     (rw (t, e), rw e)
 
 -- nothing refuses the record, room aside
-accepted : (c : tie.After-known-told) → structWriting (c .before .before .before .before .before .args .held) ≡ Accepted (c .before .a .given .0 .0)
+accepted : (c : tie.After-known-told)
+    → structWriting (c .before .before .before .before .before .args .held) ≡ Accepted (c .before .a .given .0 .0)
 accepted c = sym (c .before .before .before .record-refusal .ensures) ∙ c .before .a .given .1
 
 returns-2 : tie.Need-returns-2
@@ -75,8 +76,11 @@ returns-3 c =
     let room = a .room .now in
     let laid = layout (view (a .held)) in
     let e = accepted t in
-    let f : atFront laid room ≡ laid ++ drop (t .before .a .given .0 .0) room = rw (low-octets laid (w .octets), w .length-given) in
-    (sym (with-room (a .held) _ e (length room) (x .if1 .left)), p .put-parts .ensures ∙ f ∙ sym (room-after (a .held) _ e room (x .if1 .left)))
+    let f : atFront laid room ≡ laid ++ drop (t .before .a .given .0 .0) room = rw (low-octets laid (w .octets), w .length-given) in (
+      sym (with-room (a .held) _ e (length room) (x .if1 .left)),
+      p .put-parts .ensures ∙ f
+          ∙ sym (room-after (a .held) _ e room (x .if1 .left)),
+    )
 
 pub write-spec : {M : Type 1} → statement M
 write-spec =

@@ -25,11 +25,19 @@ so-far : (c : tie.After-octets-after) →
     let a = c .before .before .before .before .before .before .before .args in
     let n = c .octets-after .result in
     commonForm (a .times) (a .header) (now (a .xs))
-    ≡ refuse (ltb (length (now (a .xs))) n) cut-short 0 (refuse (not (octetAllowed (a .header) (c .before .before .octet-at .result))) not-allowed 0 (Accepted n))
+    ≡ refuse (ltb (length (now (a .xs))) n) cut-short 0
+    (refuse (not (octetAllowed (a .header) (c .before .before .octet-at .result))) not-allowed 0 (Accepted n))
 unfolding commonForm
 so-far c =
     let f = c .before .before in
-    rw (← f .before .before .before .listed .ensures, f .before .before .if1 .left, le-ltb _ _ (f .before .if2 .left), ← f .octet-at .ensures, ← c .before .common-extent-of .ensures, ← c .octets-after .ensures)
+    rw (
+      ← f .before .before .before .listed .ensures,
+      f .before .before .if1 .left,
+      le-ltb _ _ (f .before .if2 .left),
+      ← f .octet-at .ensures,
+      ← c .before .common-extent-of .ensures,
+      ← c .octets-after .ensures,
+    )
 
 returns-3 : tie.Need-returns-3
 returns-3 c = rw (so-far (c .before), lt-ltb _ _ (c .if3 .taken))

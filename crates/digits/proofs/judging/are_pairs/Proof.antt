@@ -24,8 +24,11 @@ loop-again : tie.Need-loop-again Inv-loop μ-loop
 loop-again c =
     let t = c .before .before in
     let l = t .before in
-    let a = l .before .before .args in
-    (omega arith, rw (c .pair-right .ensures) (every-turn (isPair (a .z)) (a .s .now) (l .loop .i) _ (l .loop .good) (l .loop .inv .1) (t .loop-test .taken)))
+    let a = l .before .before .args in (
+      omega arith,
+      rw (c .pair-right .ensures)
+          (every-turn (isPair (a .z)) (a .s .now) (l .loop .i) _ (l .loop .good) (l .loop .inv .1) (t .loop-test .taken)),
+    )
 
 returns : tie.Need-returns Inv-loop μ-loop
 returns c =

@@ -25,19 +25,24 @@ returns-2 : tie.Need-returns-2
 returns-2 c = λ e. absurd (let z : _≡_ {A = ℕ} 0 1 = cc in omega arith)
 
 -- past the test of the whole octets
-whole : (c : tie.Else2) → every (isPair (c .before .before .before .before .before .args .z)) (take (c .before .before .before .before .before .args .n / 2) (c .before .before .before .before .before .args .s .now)) ≡ true
+whole : (c : tie.Else2)
+    → every (isPair (c .before .before .before .before .before .args .z))
+    (take (c .before .before .before .before .before .args .n / 2) (c .before .before .before .before .before .args .s .now))
+    ≡ true
 whole c = sym (c .before .are-pairs .ensures) ∙ not-false (c .before .are-pairs .result) (c .if2 .left)
 
 returns-3 : tie.Need-returns-3
 returns-3 c = λ e at.
     let a = c .before .before .before .before .before .before .args in
-    even-sound (a .z) (a .n) (a .n / 2) at (a .s .now) (omega arith) (drop-of-length-le (a .s .now) {i = a .n / 2} (omega arith)) (whole (c .before))
+    even-sound (a .z) (a .n) (a .n / 2) at (a .s .now) (omega arith) (drop-of-length-le (a .s .now) {i = a .n / 2} (omega arith))
+    (whole (c .before))
 
 returns-4 : tie.Need-returns-4
 returns-4 c = λ e at.
     let f = c .before .before in
     let a = f .before .before .before .before .before .before .args in
-    odd-sound (a .z) (a .n) (a .n / 2) at (getD (a .s .now) (a .n / 2) 0) (a .s .now) (omega arith) (alone (a .s .now) (a .n / 2) (omega arith)) (whole (f .before)) (sym (c .is-code .ensures) ∙ e)
+    odd-sound (a .z) (a .n) (a .n / 2) at (getD (a .s .now) (a .n / 2) 0) (a .s .now) (omega arith)
+    (alone (a .s .now) (a .n / 2) (omega arith)) (whole (f .before)) (sym (c .is-code .ensures) ∙ e)
 
 pub are-sound-spec : {M : Type 1} → statement M
 are-sound-spec =

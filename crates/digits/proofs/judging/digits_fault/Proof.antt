@@ -1,5 +1,5 @@
--- `digits_fault` meets its contract: past the end there is no half-octet, where the quick test passes nothing is wrong, and else the slow walk
--- finds the place.
+-- `digits_fault` meets its contract: past the end there is no half-octet, where the quick test passes nothing is wrong, and else the slow
+-- walk finds the place.
 use mathlib.Core.Path.{sym}
 use borrow.Author.Needs.{needs}
 use Rattle.laws.specs.Parts.{to-end}

@@ -31,7 +31,9 @@ returns c =
     let i = t .loop .i in
     let s = a .s .now in
     let e : (2 * a .at + i) / 2 ≡ a .at + i / 2 = omega arith in
-    sym (t .loop .inv .2 ∙ halves-turn _ _ i _ (halves s) (omega (arith, length-halves s)) ∙ rw (← r .before .half-at .ensures, ← r .half-right .ensures, not-true (r .half-right .result) (c .if1 .taken), e))
+    sym
+    (t .loop .inv .2 ∙ halves-turn _ _ i _ (halves s) (omega (arith, length-halves s))
+    ∙ rw (← r .before .half-at .ensures, ← r .half-right .ensures, not-true (r .half-right .result) (c .if1 .taken), e))
 
 loop-again : tie.Need-loop-again Inv-loop μ-loop
 loop-again c =
@@ -40,7 +42,8 @@ loop-again c =
     let s = t .before .before .args .s .now in (
       omega arith,
       refl,
-      t .loop .inv .2 ∙ halves-turn _ _ (t .loop .i) _ (halves s) (omega (arith, length-halves s)) ∙ rw (← r .before .half-at .ensures, ← r .half-right .ensures, not-false (r .half-right .result) (c .if1 .left), add-assoc),
+      t .loop .inv .2 ∙ halves-turn _ _ (t .loop .i) _ (halves s) (omega (arith, length-halves s))
+          ∙ rw (← r .before .half-at .ensures, ← r .half-right .ensures, not-false (r .half-right .result) (c .if1 .left), add-assoc),
     )
 
 returns-2 : tie.Need-returns-2 Inv-loop μ-loop

@@ -20,8 +20,10 @@ returns-2 c =
     let p = c .before .before in
     let l = p .before .before .before in
     let a = l .before .before .before .args in
-    let n = length (packed (a .z) (a .digits .now)) in
-    (sym (le-leb n (length (a .room .now)) (omega (arith, length-packed (a .z) (a .digits .now), l .packed-len .ensures))), p .pack-fitting .ensures)
+    let n = length (packed (a .z) (a .digits .now)) in (
+      sym (le-leb n (length (a .room .now)) (omega (arith, length-packed (a .z) (a .digits .now), l .packed-len .ensures))),
+      p .pack-fitting .ensures,
+    )
 
 pub pack-digits-spec : {M : Type 1} → statement M
 pack-digits-spec =

@@ -36,7 +36,8 @@ loop-again c =
     let i = l .loop .i in
     let ds = a .digits .now in
     let x = (f .code-of .result + 16 * c .code-of2 .result) % 256 in
-    let e : x ≡ getD (packed (a .z) ds) i 0 % 256 = rw (pair-octet (a .z) ds i (omega arith), ← c .code-of2 .ensures, ← f .code-of .ensures) in (
+    let e : x ≡ getD (packed (a .z) ds) i 0 % 256 =
+    rw (pair-octet (a .z) ds i (omega arith), ← c .code-of2 .ensures, ← f .code-of .ensures) in (
       omega arith,
       simp length-set (l .loop .inv .1),
       rw (l .loop .inv .2) (written-turn (a .room .now) (packed (a .z) ds) i x (omega (arith, length-packed (a .z) ds)) e),
@@ -52,7 +53,8 @@ returns c =
     let ds = st .args .digits .now in
     let z = st .args .z in
     l .loop .inv .2
-    ∙ written-end (st .args .room .now) (packed z ds) (l .loop .i) (omega (arith, length-packed z ds)) (omega (arith, length-packed z ds, st .pre))
+    ∙ written-end (st .args .room .now) (packed z ds) (l .loop .i) (omega (arith, length-packed z ds))
+    (omega (arith, length-packed z ds, st .pre))
 
 slice-write-room-2 : tie.Need-slice-write-room-2 Inv-loop μ-loop
 slice-write-room-2 c =
@@ -73,7 +75,8 @@ returns-2 c =
     let x = c .code-of3 .result in
     let e : x ≡ getD (packed z ds) k 0 % 256 = rw (last-octet z ds k (omega arith), ← c .code-of3 .ensures) (omega arith) in
     rw (l .loop .inv .2, i, written-turn (st .args .room .now) (packed z ds) k x (omega (arith, length-packed z ds)) e)
-    (written-end (st .args .room .now) (packed z ds) (k + 1) (omega (arith, length-packed z ds)) (omega (arith, length-packed z ds, st .pre)))
+    (written-end (st .args .room .now) (packed z ds) (k + 1) (omega (arith, length-packed z ds))
+    (omega (arith, length-packed z ds, st .pre)))
 
 pub pack-fitting-spec : {M : Type 1} → statement M
 pack-fitting-spec =

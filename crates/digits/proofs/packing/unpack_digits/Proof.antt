@@ -27,16 +27,21 @@ unpack-fitting-requires c κs =
     let e = c .before in
     let r = e .before in
     let n = r .before in
-    let a = n .before .before .args in
-    (leb-true (a .used + n .digits-in .result) 512 (sym (r .has-room .ensures) ∙ not-false (r .has-room .result) (e .if1 .left)), omega (arith, n .digits-in .ensures))
+    let a = n .before .before .args in (
+      leb-true (a .used + n .digits-in .result) 512 (sym (r .has-room .ensures) ∙ not-false (r .has-room .result) (e .if1 .left)),
+      omega (arith, n .digits-in .ensures),
+    )
 
 returns-2 : tie.Need-returns-2
 returns-2 c =
     let e = c .before .before in
     let r = e .before in
     let n = r .before in
-    let a = n .before .before .args in
-    (sym (not-false (r .has-room .result) (e .if1 .left)) ∙ asked r, rw (← there (a .z) (a .n) (a .octets .now), ← n .digits-in .ensures) (c .unpack-fitting .ensures))
+    let a = n .before .before .args in (
+      sym (not-false (r .has-room .result) (e .if1 .left))
+          ∙ asked r,
+      rw (← there (a .z) (a .n) (a .octets .now), ← n .digits-in .ensures) (c .unpack-fitting .ensures),
+    )
 
 pub unpack-digits-spec : {M : Type 1} → statement M
 unpack-digits-spec =

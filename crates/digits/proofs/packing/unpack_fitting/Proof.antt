@@ -43,7 +43,8 @@ returns c =
     let at = c .before .before in
     let a = at .before .before .args in
     let ds = digitsOf (a .z) (a .count) (a .octets .now) in
-    let e : take (2 * at .loop .i) ds ≡ ds = take-all (2 * at .loop .i) ds (omega (arith, length-digitsOf (a .z) (a .count) (a .octets .now) (omega arith))) in
+    let e : take (2 * at .loop .i) ds ≡ ds =
+    take-all (2 * at .loop .i) ds (omega (arith, length-digitsOf (a .z) (a .count) (a .octets .now) (omega arith))) in
     at .loop .inv .1 ∙ rw e
 
 returns-2 : tie.Need-returns-2 Inv-loop μ-loop
@@ -57,7 +58,14 @@ returns-2 c =
     let n : a .count ≡ 2 * k + 1 = omega arith in
     let l = length-digitsOf (a .z) (a .count) s (omega arith) in
     let e : take (2 * k + 1) ds ≡ ds = take-all (2 * k + 1) ds (omega arith) in
-    rw (at .loop .inv .1, i, c .digit-of3 .ensures, low-digit (a .z) (a .count) s k (omega arith), sets-turn (a .values .now) (a .used) ds (2 * k) 0 (omega arith), e)
+    rw (
+      at .loop .inv .1,
+      i,
+      c .digit-of3 .ensures,
+      low-digit (a .z) (a .count) s k (omega arith),
+      sets-turn (a .values .now) (a .used) ds (2 * k) 0 (omega arith),
+      e,
+    )
 
 pub unpack-fitting-spec : {M : Type 1} → statement M
 unpack-fitting-spec =

@@ -17,12 +17,22 @@ returns-2 : tie.Need-returns-2
 returns-2 c =
     let n = c .before in
     let h = n .before .before in
-    rw (ne-eqb _ 0 (h .before .before .if1 .left), length-drop, getD-drop, ← h .extent-of .ensures, ← n .before .octet-at .ensures, ← n .octets-after .ensures, ne-eqb _ _ (c .if2 .taken))
+    rw (
+      ne-eqb _ 0 (h .before .before .if1 .left),
+      length-drop,
+      getD-drop,
+      ← h .extent-of .ensures,
+      ← n .before .octet-at .ensures,
+      ← n .octets-after .ensures,
+      ne-eqb _ _ (c .if2 .taken),
+    )
 
 start-within : tie.Need-sub-contents-fault
 start-within c =
     let n = c .before .before in
-    let l = rw (← c .lead .ensures, ← n .octets-after .ensures) at (lead-within (n .before .before .extent-of .result) (n .before .octet-at .result)) in
+    let l =
+    rw (← c .lead .ensures, ← n .octets-after .ensures) at
+    (lead-within (n .before .before .extent-of .result) (n .before .octet-at .result)) in
     omega (arith, l, c .before .if2 .left)
 
 -- past 11: the part handed on is the contents
@@ -33,7 +43,19 @@ returns-3 c =
     let n = l .before .before in
     let h = n .before .before in
     let new = h .before .before .before .before .args .new .now in
-    rw (ne-eqb _ 0 (h .before .before .if1 .left), length-drop, getD-drop, ← h .extent-of .ensures, ← n .before .octet-at .ensures, ← n .octets-after .ensures, eq-eqb _ _ (l .before .if2 .left), drop-drop, ← l .lead .ensures, ← to-end (1 + l .lead .result) new, ← f .contents-fault .ensures)
+    rw (
+      ne-eqb _ 0 (h .before .before .if1 .left),
+      length-drop,
+      getD-drop,
+      ← h .extent-of .ensures,
+      ← n .before .octet-at .ensures,
+      ← n .octets-after .ensures,
+      eq-eqb _ _ (l .before .if2 .left),
+      drop-drop,
+      ← l .lead .ensures,
+      ← to-end (1 + l .lead .result) new,
+      ← f .contents-fault .ensures,
+    )
     (c .at-header .ensures)
 
 pub contents-answer-spec : {M : Type 1} → statement M

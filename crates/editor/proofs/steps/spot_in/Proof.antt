@@ -19,14 +19,16 @@ taken c =
     let w = c .before .before in
     let o = w .before in
     let k = o .before in
-    rw (k .enum-told .given .1, ← k .before .before .octet-at .ensures, ← o .often-of .ensures, ← w .search2 .ensures, c .enum-told3 .given .1)
+    rw
+    (k .enum-told .given .1, ← k .before .before .octet-at .ensures, ← o .often-of .ensures, ← w .search2 .ensures, c .enum-told3 .given .1)
 
 appending : tie.Need-returns-3
 appending c =
     let w = c .before .before in
     let o = w .before in
     let k = o .before in
-    rw (k .enum-told .given .1, ← k .before .before .octet-at .ensures, ← o .often-of .ensures, ← w .search2 .ensures, c .enum-told2 .given .1)
+    rw
+    (k .enum-told .given .1, ← k .before .before .octet-at .ensures, ← o .often-of .ensures, ← w .search2 .ensures, c .enum-told2 .given .1)
 
 pub spot-in-spec : {M : Type 1} → statement M
 spot-in-spec =

@@ -30,7 +30,8 @@ returns-4 c =
     let v = c .before in
     let u = v .before .before in
     let t = u .before in
-    rw (← t .before .octet-at .ensures, eq-eqb _ _ (t .if1 .left), eq-eqb _ _ (u .if2 .left), eq-eqb _ _ (v .if3 .left)) (c .formed .ensures)
+    rw (← t .before .octet-at .ensures, eq-eqb _ _ (t .if1 .left), eq-eqb _ _ (u .if2 .left), eq-eqb _ _ (v .if3 .left))
+    (c .formed .ensures)
 
 pub calling-fault-spec : {M : Type 1} → statement M
 calling-fault-spec =

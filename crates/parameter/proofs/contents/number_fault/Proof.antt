@@ -47,7 +47,8 @@ returns-3 c =
     let e = j .before .before in
     let o = e .before in
     let a = o .before .before .args in
-    let d : drop 2 (o .octets-from .result .now) ≡ drop (a .at + 2) (a .s .now) = ap (drop 2) (o .octets-from .ensures) ∙ drop-drop 2 (a .at) (a .s .now) in
+    let d : drop 2 (o .octets-from .result .now) ≡ drop (a .at + 2) (a .s .now) =
+    ap (drop 2) (o .octets-from .ensures) ∙ drop-drop 2 (a .at) (a .s .now) in
     rw (← o .octets-from .ensures, le-ltb _ _ (e .if1 .left), digits-follow j, d) (c .digits-fault .ensures)
 
 pub number-fault-spec : {M : Type 1} → statement M

@@ -13,7 +13,9 @@ opens : (h : ℕ) (s : List ℕ) (k : Holding) → k ≡ holdingOf h (getD s 0 0
 unfolding itemOf
 opens h s k e = rw e
 
-decided : (c : tie.After-holding-of) (k : Holding) → c .holding-of .result ≡ k → openBy k (c .before .before .before .args .header) (c .before .before .before .args .contents .now) ≡ itemOf (c .before .before .before .args .header) (c .before .before .before .args .contents .now)
+decided : (c : tie.After-holding-of) (k : Holding) → c .holding-of .result ≡ k
+    → openBy k (c .before .before .before .args .header) (c .before .before .before .args .contents .now)
+    ≡ itemOf (c .before .before .before .args .header) (c .before .before .before .args .contents .now)
 decided c k e =
     let a = c .before .before .before .args in
     opens (a .header) (a .contents .now) k (sym e ∙ rw (← c .before .octet-at .ensures) (c .holding-of .ensures))

@@ -33,7 +33,8 @@ digits s = digitsOf Dialled (getD s 0 0 % 64) (drop 1 s)
 unpacked : (c : tie.After-unpack-digits) →
     let a = c .before .before .before .before .before .args in
     let ds = digits (a .s .now) in
-    Stores (leb (a .used + length ds) 512) (sets (a .values .now) (a .used) ds) (a .values .now) (c .unpack-digits .result) (c .unpack-digits .last .1 .1 .1 .0)
+    Stores (leb (a .used + length ds) 512) (sets (a .values .now) (a .used) ds) (a .values .now) (c .unpack-digits .result)
+    (c .unpack-digits .last .1 .1 .1 .0)
 unpacked c =
     let o = c .before .before in
     rw (o .octets-from .ensures, o .before .octet-at .ensures) at (c .unpack-digits .ensures)
@@ -44,7 +45,9 @@ returns c =
     let a = p .before .before .before .before .before .args in
     let s = a .s .now in
     let i = openBy (AsDigits (a .marks)) (a .header) s in
-    let w = not-stored i (a .used) (digits s) (a .values .now) _ _ (kept (a .marks) (a .header) (getD s 0 0 / 64) (digits s)) (unpacked p) (c .before .if1 .taken) in
+    let w =
+    not-stored i (a .used) (digits s) (a .values .now) _ _ (kept (a .marks) (a .header) (getD s 0 0 / 64) (digits s)) (unpacked p)
+    (c .before .if1 .taken) in
     (c .none .ensures ∙ w .0, w .1)
 
 returns-2 : tie.Need-returns-2
@@ -56,8 +59,12 @@ returns-2 c =
     let a = p .before .before .before .before .before .args in
     let s = a .s .now in
     let i = openBy (AsDigits (a .marks)) (a .header) s in
-    let w = all-stored i (a .used) (digits s) (a .values .now) _ _ (kept (a .marks) (a .header) (getD s 0 0 / 64) (digits s)) (unpacked p) (e .if1 .left) in
-    let l : length (digits s) ≡ n .digits-in .result = length-there Dialled (getD s 0 0 % 64) (drop 1 s) ∙ sym (rw (o .octets-from .ensures, o .before .octet-at .ensures) at (n .digits-in .ensures)) in
+    let w =
+    all-stored i (a .used) (digits s) (a .values .now) _ _ (kept (a .marks) (a .header) (getD s 0 0 / 64) (digits s)) (unpacked p)
+    (e .if1 .left) in
+    let l : length (digits s) ≡ n .digits-in .result =
+    length-there Dialled (getD s 0 0 % 64) (drop 1 s)
+    ∙ sym (rw (o .octets-from .ensures, o .before .octet-at .ensures) at (n .digits-in .ensures)) in
     let h : c .marked .result ≡ headOf i = rw (o .before .octet-at .ensures) at (c .marked .ensures (digits s) l) in
     (h ∙ w .0, w .1)
 

@@ -23,7 +23,9 @@ use Rattle.parameter.proofs.opening.open_generic.Tie as tie
 digits : (s : List ℕ) → digitsOf Numbered (countOf (drop 1 s)) (drop 2 (drop 1 s)) ≡ digitsOf Numbered (countOf (drop 1 s)) (drop 3 s)
 digits s = ap (digitsOf Numbered (countOf (drop 1 s))) (drop-drop 2 1 s)
 
-counted : (c : tie.After-count-of) → length (openBy AsGeneric (c .before .before .before .args .header) (c .before .before .before .args .s .now) .values) ≡ c .count-of .result + 1
+counted : (c : tie.After-count-of)
+    → length (openBy AsGeneric (c .before .before .before .args .header) (c .before .before .before .args .s .now) .values)
+    ≡ c .count-of .result + 1
 counted c =
     let s = c .before .before .before .args .s .now in
     rw (c .count-of .ensures, c .before .octets-from .ensures, add-one, ← digits s) (ap suc (number-digits (drop 1 s)))
@@ -31,7 +33,8 @@ counted c =
 fitting : (c : tie.Else1) → c .before .before .before .before .before .args .used + (c .before .before .count-of .result + 1) ≤ 512
 fitting c =
     let n = c .before .before in
-    room-left (n .before .before .before .args .used) (n .count-of .result + 1) (c .before .has-room .result) (c .before .has-room .ensures) (c .if1 .left)
+    room-left (n .before .before .before .args .used) (n .count-of .result + 1) (c .before .has-room .result) (c .before .has-room .ensures)
+    (c .if1 .left)
 
 returns : tie.Need-returns
 returns c =
@@ -39,7 +42,8 @@ returns c =
     let a = n .before .before .before .args in
     let f = c .before .before .has-room in
     let i = openBy AsGeneric (a .header) (a .s .now) in
-    let w = without-room i (a .used) (n .count-of .result + 1) (a .values .now) (f .result) (counted n) (f .ensures) (c .before .if1 .taken) in
+    let w =
+    without-room i (a .used) (n .count-of .result + 1) (a .values .now) (f .result) (counted n) (f .ensures) (c .before .if1 .taken) in
     (c .none .ensures ∙ w .0, w .1)
 
 element-write-values : tie.Need-element-write-values
@@ -62,12 +66,22 @@ returns-2 c =
     let i = openBy AsGeneric (a .header) s in
     let g = r .before .has-room in
     let w = with-room i (a .used) (n .count-of .result + 1) (a .values .now) (g .result) (counted n) (g .ensures) (r .if1 .left) in
-    let x : c .before .before .octet-at .result ≡ getD s 1 0 = rw (c .before .before .octet-at .ensures, f .octets-from .ensures) (getD-drop 1 s 0 0) in
+    let x : c .before .before .octet-at .result ≡ getD s 1 0 =
+    rw (c .before .before .octet-at .ensures, f .octets-from .ensures) (getD-drop 1 s 0 0) in
     let y : c .before .octet-at2 .result ≡ getD s 2 0 = rw (c .before .octet-at2 .ensures, f .octets-from .ensures) (getD-drop 1 s 1 0) in
     let h : c .number .result ≡ headOf i = rw (c .number .ensures, x, y, counted n) in
     let ds = digitsOf Numbered (n .count-of .result) (o .octets-from2 .result .now) in
-    let b : a .used + 1 + length ds ≤ 512 = (omega (arith, fitting r, length-there Numbered (n .count-of .result) (o .octets-from2 .result .now))) in
-    let v : c .before .before .before .unpack-digits .last .1 .1 .1 .0 ≡ sets (a .values .now) (a .used) (i .values) = rw (stored _ _ _ _ _ _ (c .before .before .before .unpack-digits .ensures) b, o .octets-from2 .ensures, n .count-of .ensures, f .octets-from .ensures, digits s, add-one) in
+    let b : a .used + 1 + length ds ≤ 512 =
+    (omega (arith, fitting r, length-there Numbered (n .count-of .result) (o .octets-from2 .result .now))) in
+    let v : c .before .before .before .unpack-digits .last .1 .1 .1 .0 ≡ sets (a .values .now) (a .used) (i .values) =
+    rw (
+      stored _ _ _ _ _ _ (c .before .before .before .unpack-digits .ensures) b,
+      o .octets-from2 .ensures,
+      n .count-of .ensures,
+      f .octets-from .ensures,
+      digits s,
+      add-one,
+    ) in
     (h ∙ w .0, v ∙ w .1)
 
 pub open-generic-spec : {M : Type 1} → statement M

@@ -27,7 +27,8 @@ digits s = digitsOf Numbered (countOf s) (drop 2 s)
 unpacked : (c : tie.After-unpack-digits) →
     let a = c .before .before .before .before .before .args in
     let ds = digits (a .s .now) in
-    Stores (leb (a .used + length ds) 512) (sets (a .values .now) (a .used) ds) (a .values .now) (c .unpack-digits .result) (c .unpack-digits .last .1 .1 .1 .0)
+    Stores (leb (a .used + length ds) 512) (sets (a .values .now) (a .used) ds) (a .values .now) (c .unpack-digits .result)
+    (c .unpack-digits .last .1 .1 .1 .0)
 unpacked c =
     let o = c .before .before in
     rw (o .octets-from .ensures, o .before .count-of .ensures) at (c .unpack-digits .ensures)
@@ -37,7 +38,9 @@ returns c =
     let p = c .before .before in
     let a = p .before .before .before .before .before .args in
     let s = a .s .now in
-    let w = not-stored (openBy (AsNumber false) (a .header) s) (a .used) (digits s) (a .values .now) _ _ refl (unpacked p) (c .before .if1 .taken) in
+    let w =
+    not-stored (openBy (AsNumber false) (a .header) s) (a .used) (digits s) (a .values .now) _ _ refl (unpacked p)
+    (c .before .if1 .taken) in
     (c .none .ensures ∙ w .0, w .1)
 
 cast-number : tie.Need-cast-number
@@ -47,7 +50,12 @@ cast-number c =
     let n = p .before .before .before in
     let a = n .before .before .args in
     let s = a .s .now in
-    omega (arith, few-stored (openBy (AsNumber false) (a .header) s) (a .used) (digits s) (a .values .now) _ _ refl (unpacked p) (e .if1 .left), number-digits s, n .count-of .ensures)
+    omega (
+      arith,
+      few-stored (openBy (AsNumber false) (a .header) s) (a .used) (digits s) (a .values .now) _ _ refl (unpacked p) (e .if1 .left),
+      number-digits s,
+      n .count-of .ensures,
+    )
 
 returns-2 : tie.Need-returns-2
 returns-2 c =
@@ -59,7 +67,8 @@ returns-2 c =
     let i = openBy (AsNumber false) (a .header) s in
     let w = all-stored i (a .used) (digits s) (a .values .now) _ _ refl (unpacked p) (e .if1 .left) in
     let l : length (digits s) ≡ n .count-of .result = number-digits s ∙ sym (n .count-of .ensures) in
-    let h : c .number .result ≡ headOf i = rw (c .number .ensures, c .before .before .octet-at .ensures, c .before .octet-at2 .ensures, l) in
+    let h : c .number .result ≡ headOf i =
+    rw (c .number .ensures, c .before .before .octet-at .ensures, c .before .octet-at2 .ensures, l) in
     (h ∙ w .0, w .1)
 
 pub open-number-spec : {M : Type 1} → statement M

@@ -42,7 +42,10 @@ past-10 : (c : tie.After-octets-after) →
     let a = c .before .before .before .before .before .before .before .before .before .before .args in
     let n = c .octets-after .result in
     let xs = a .xs .now in
-    transferOf (a .times) (a .header) xs ≡ refuse (ltb (length xs) n) cut-contents 0 (soundThen (readingAt (1 + leadOf (extentOf (a .header)))) (faultOf (a .header) (contentsIn (extentOf (a .header)) (take n xs))) (Accepted n))
+    transferOf (a .times) (a .header) xs
+    ≡ refuse (ltb (length xs) n) cut-contents 0
+    (soundThen (readingAt (1 + leadOf (extentOf (a .header)))) (faultOf (a .header) (contentsIn (extentOf (a .header)) (take n xs)))
+    (Accepted n))
 unfolding transferBy
 past-10 c =
     let x = c .before .before in
@@ -50,7 +53,17 @@ past-10 c =
     let p = o .before in
     let u = p .before .before in
     let a = u .before .before .before .pre in
-    rw (← used-of _ _ a, u .if1 .left, ← right-of _ _ a, p .if2 .left, ← o .often-of .ensures, lt-leb _ _ (x .before .if3 .left), ← x .extent-of .ensures, ← c .before .octet-at .ensures, ← c .octets-after .ensures)
+    rw (
+      ← used-of _ _ a,
+      u .if1 .left,
+      ← right-of _ _ a,
+      p .if2 .left,
+      ← o .often-of .ensures,
+      lt-leb _ _ (x .before .if3 .left),
+      ← x .extent-of .ensures,
+      ← c .before .octet-at .ensures,
+      ← c .octets-after .ensures,
+    )
 
 returns-4 : tie.Need-returns-4
 returns-4 c = rw (past-10 (c .before), lt-ltb _ _ (c .if4 .taken))
@@ -69,7 +82,8 @@ returns-5 c =
     let a = st .args in
     let s = take (n .octets-after .result - l .lead .result) (drop (l .lead .result) (a .xs .now)) in
     let e = f .fault-under .ensures ∙ fault-of (a .header) (a .asked) (st .pre) s in
-    rw (past-10 n, le-ltb _ _ (l .before .if4 .left), ← n .before .before .extent-of .ensures, ← l .lead .ensures, ← from-to, ← e) (c .at-header .ensures)
+    rw (past-10 n, le-ltb _ _ (l .before .if4 .left), ← n .before .before .extent-of .ensures, ← l .lead .ensures, ← from-to, ← e)
+    (c .at-header .ensures)
 
 pub judged-spec : {M : Type 1} → statement M
 judged-spec =

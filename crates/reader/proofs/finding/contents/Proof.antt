@@ -17,7 +17,8 @@ read c =
     let i = c .before .before in
     let s = i .before .before in
     let a = s .before .before .args in
-    omega (arith, search-inside (a .k) (now (a .t)) .at _ _ (ap (contentsAt (a .k) (now (a .t))) (sym (s .search .ensures) ∙ i .i .given .1)))
+    omega
+    (arith, search-inside (a .k) (now (a .t)) .at _ _ (ap (contentsAt (a .k) (now (a .t))) (sym (s .search .ensures) ∙ i .i .given .1)))
 
 found : (c : tie.After-lead) →
     let i = c .before .before .before .before in

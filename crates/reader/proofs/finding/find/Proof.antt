@@ -15,7 +15,8 @@ returns c =
     let e = c .enum-told2 .given .1 in
     record { answer = rw (← v, e); order = omega arith; within = omega arith; part = rw (← v, e) }
 
-accepted : (c : tie.After-plain) → verdictOf (now (c .before .before .before .before .before .args .m)) ≡ Accepted (c .before .enum-told .given .0 .0)
+accepted : (c : tie.After-plain)
+    → verdictOf (now (c .before .before .before .before .before .args .m)) ≡ Accepted (c .before .enum-told .given .0 .0)
 accepted c = sym (c .before .before .before .verdict .ensures) ∙ c .before .enum-told .given .1
 
 found : (c : tie.After-plain) →

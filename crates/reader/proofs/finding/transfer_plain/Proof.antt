@@ -33,7 +33,8 @@ returns-2 c =
 found : (c : tie.After-known-told2) →
     let s = c .before .before .before .before .before .before in
     let a = s .before .before .before .before .args in
-    transferPlain (a .name) (a .which) (now (a .m)) ≡ At (s .s .given .0 .0 + c .before .a .given .0 .0) (s .s .given .0 .0 + c .before .a .given .0 .1 .0)
+    transferPlain (a .name) (a .which) (now (a .m))
+    ≡ At (s .s .given .0 .0 + c .before .a .given .0 .0) (s .s .given .0 .0 + c .before .a .given .0 .1 .0)
 found c =
     let t = c .before .before .before in
     let s = t .before .before .before in

@@ -96,7 +96,8 @@ record Put (q q′ : Record) (transfers transfers′ used used′ : ℕ) (p : Pa
   places : transfers′ ≡ transfers + length (p .items)
   values : used′ ≡ used + length (valuesOf (p .items))
 
-put-data : (q : Record) (transfers used : ℕ) (p : Part) (f : Filled) → f ≡ filledWith q (p .items) transfers used → Put q (f .held) transfers (f .transfers) used (f .used) p
+put-data : (q : Record) (transfers used : ℕ) (p : Part) (f : Filled) → f ≡ filledWith q (p .items) transfers used
+    → Put q (f .held) transfers (f .transfers) used (f .used) p
 put-data q transfers used p f e =
     record { held = ap (λ (x : Filled). x .held) e; places = ap (λ (x : Filled). x .transfers) e; values = ap (λ (x : Filled). x .used) e }
 

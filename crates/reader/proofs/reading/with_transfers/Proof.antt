@@ -1,5 +1,5 @@
--- `with_transfers` meets its contract. The invariant: what the struct is to become of the whole transfer data, it becomes of what is left of
--- it from i on, for which there is room.
+-- `with_transfers` meets its contract. The invariant: what the struct is to become of the whole transfer data, it becomes of what is left
+-- of it from i on, for which there is room.
 use Prim.Native.Nat.{ℕ, _≤_, _+_, _-_}
 use mathlib.Core.Path.{_≡_, refl, sym, ap, _∙_}
 use mathlib.Core.List.{List, _∷_}
@@ -62,7 +62,8 @@ record Room (k used : ℕ) (x : Item) (is : List Item) : Type 0 where
   place : k + 1 + length is ≤ most-transfers
   values : used + length (x .values) + length (valuesOf is) ≤ 512
 
-room-for : (k used : ℕ) (x : Item) (is js : List Item) → js ≡ x ∷ is → k + length js ≤ most-transfers → used + length (valuesOf js) ≤ 512 → Room k used x is
+room-for : (k used : ℕ) (x : Item) (is js : List Item) → js ≡ x ∷ is → k + length js ≤ most-transfers → used + length (valuesOf js) ≤ 512
+    → Room k used x is
 unfolding valuesOf
 room-for k used x is js e p v =
     let l = length-append (x .values) (valuesOf is) in

@@ -13,7 +13,8 @@ shift-requires : tie.Need-shift-requires
 shift-requires c κs =
     let t = c .before .before in
     let e = c .enum-told2 .given .1 in
-    rw e (omega (arith, simp (length-take, length-drop) at (transfers-place faultOf fault-within _ .at _ _ (sym (t .transfers .ensures) ∙ e))))
+    rw e
+    (omega (arith, simp (length-take, length-drop) at (transfers-place faultOf fault-within _ .at _ _ (sym (t .transfers .ensures) ∙ e))))
 
 returns : tie.Need-returns
 returns c =

@@ -57,7 +57,8 @@ returns c =
 taken : (c : tie.After-known-told Inv-loop μ-loop) →
     let l = c .before .before .before .before .before .before .before in
     let t = now (l .before .before .args .t) in
-    TransferTaken faultOf (getD (l .loop .seen) (getD t (l .loop .i) 0 % 64) 0) (getD t (l .loop .i) 0) (drop (l .loop .i + 1) t) (c .before .a .given .0 .0)
+    TransferTaken faultOf (getD (l .loop .seen) (getD t (l .loop .i) 0 % 64) 0) (getD t (l .loop .i) 0) (drop (l .loop .i + 1) t)
+    (c .before .a .given .0 .0)
 taken c = transfer-taken faultOf _ _ _ _ (step-is (c .before .before .before) ∙ c .before .a .given .1)
 
 add-seen : tie.Need-add-seen Inv-loop μ-loop

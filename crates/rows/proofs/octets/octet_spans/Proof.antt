@@ -1,4 +1,5 @@
--- `octet_spans` meets its contract: a refusal leaves the table; of an accepted listing there is room for the rows, and one walk stores them.
+-- `octet_spans` meets its contract: a refusal leaves the table; of an accepted listing there is room for the rows, and one walk stores
+-- them.
 use mathlib.Core.Path.{sym, _∙_}
 use denote.Ref.{now}
 use borrow.Author.Needs.{needs}
@@ -25,8 +26,10 @@ returns-2 c =
     let p = c .before .before in
     let t = p .before .before in
     let k = t .before .before in
-    let a = k .before .before .before .args in
-    (k .check .ensures, table-put (now (a .m)) (a .table .now) _ _ _ (sym (k .check .ensures) ∙ t .enum-told .given .1) (p .put-rows .ensures))
+    let a = k .before .before .before .args in (
+      k .check .ensures,
+      table-put (now (a .m)) (a .table .now) _ _ _ (sym (k .check .ensures) ∙ t .enum-told .given .1) (p .put-rows .ensures),
+    )
 
 pub octet-spans-spec : {M : Type 1} → statement M
 octet-spans-spec =

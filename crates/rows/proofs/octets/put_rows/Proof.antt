@@ -60,7 +60,8 @@ loop-again : tie.Need-loop-again Inv-loop μ-loop
 loop-again c =
     let p = c .before .before .before in
     let r = p .before .before in
-    rw (c .next .ensures) (turn (r .before) .again, left-one _ _ _ _ _ (left (r .before)) (rw (r .row-here .ensures) at (p .put-row .ensures)))
+    rw (c .next .ensures)
+    (turn (r .before) .again, left-one _ _ _ _ _ (left (r .before)) (rw (r .row-here .ensures) at (p .put-row .ensures)))
 
 same-length : tie.Need-same-length Inv-loop μ-loop
 same-length c = c .before .before .loop .inv .1 .long
