@@ -95,7 +95,7 @@ fieldsRight i =
 abbrev pub withheldRight : Item → Bool
 withheldRight i = eqb (i .numberType) 0 && (eqb (i .incomplete) 0 && (eqb (i .plan) 0 && eqb (length (i .values)) 0))
 
--- a number's fields, and of one that may be withheld (DC) that where it is nothing but its screening is told
+-- a number's fields; and of one that may be withheld (DC), and is, nothing but its screening is told
 abbrev pub numberRight : Bool → Item → Bool
 numberRight w i = fieldsRight i && cond (w && eqb (i .presentation) withheld) (withheldRight i) true
 

@@ -56,6 +56,7 @@ fn are_sound(z: Alphabet, n: usize, s: &[u8]) -> bool
     if n % 2 == 0 {
         return true;
     }
+    // the last octet holds one digit, and no code is over 12: its high half is then the filler, 0
     is_code(z, s[k])
 }
 

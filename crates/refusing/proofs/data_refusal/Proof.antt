@@ -1,5 +1,5 @@
 -- `data_refusal` meets its contract: the parameters come first, and 14 is told from the place behind them.
-use Prim.Native.Nat.{_+_}
+use Prim.Native.Nat.{ℕ, _+_, _-_, _≤_, _<_}
 use native.Mathlib.Omega.{arith}
 use mathlib.Core.Path.{_≡_, sym, _∙_}
 use borrow.Author.Needs.{needs}
@@ -24,6 +24,10 @@ taken : (c : tie.After-known-told) →
     itemsWriting unseen (a .at + 2) (itemsAt (a .q) (a .first) (a .n)) ≡ Accepted (c .before .a .given .0 .0)
 taken c = sym (c .before .before .before .items-refusal .ensures) ∙ c .before .a .given .1
 
+-- how many octets they take
+abbrev behind : tie.After-known-told → ℕ
+behind c = c .before .a .given .0 .0 - (c .before .before .before .before .args .at + 2)
+
 sub-if1 : tie.Need-sub-if1
 sub-if1 c =
     let a = c .before .before .before .before .args in
@@ -31,11 +35,15 @@ sub-if1 c =
 
 returns-2 : tie.Need-returns-2
 unfolding dataWriting
-returns-2 c = rw (taken (c .before), lt-ltb _ _ (c .if1 .taken))
+returns-2 c =
+    let over : 255 < behind (c .before) = omega (arith, c .if1 .taken) in
+    rw (taken (c .before), lt-ltb _ _ over)
 
 returns-3 : tie.Need-returns-3
 unfolding dataWriting
-returns-3 c = rw (taken (c .before), le-ltb _ _ (c .if1 .left))
+returns-3 c =
+    let under : behind (c .before) ≤ 255 = omega (arith, c .if1 .left) in
+    rw (taken (c .before), le-ltb _ _ under)
 
 pub data-refusal-spec : {M : Type 1} → statement M
 data-refusal-spec =
