@@ -1,6 +1,6 @@
 -- Laws of rows: the parameters of accepted octets add up to them. Hence a walk by the length rule never meets a cut parameter, and the
--- rows outside C5 add up to the message, those inside to C5's length.
-use mathlib.Core.Path.{_≡_, refl, _∙_}
+-- rows from a parameter on are its own, for C5 those inside, and the rows from behind it on.
+use mathlib.Core.Path.{_≡_, refl}
 use mathlib.Core.Bool.{Bool, true, false, cond, _||_}
 use mathlib.Core.List.{List, [], _∷_, _++_, map}
 use Prim.Native.Nat.{ℕ, zero, suc, _+_, _-_, _≤_, _<_}
@@ -11,10 +11,9 @@ use borrow.Author.Tests.{leb-true}
 use lib.Dec.{leb, eqb, ltb}
 use lib.ListN.{length, getD, take, drop, length-drop}
 use lib.Seq.{drop-cons, length-take-le}
-use Rattle.annex.specs.Units.{afterOf, leadOf, extentOf, commonExtentOf}
+use Rattle.annex.specs.Units.{leadOf, extentOf, commonExtentOf}
 use Rattle.annex.specs.Answers.{over-limits}
-use Rattle.annex.specs.Heads.{transfer-data, most-octets}
-use Rattle.annex.specs.Allowed.{Each}
+use Rattle.annex.specs.Heads.{most-octets}
 use Rattle.annex.specs.Walk.{Seen, unseen, counted, Par, Step, byStep, walk, judging, listing}
 use Rattle.annex.specs.Reading.{
   transferStep,
@@ -25,7 +24,6 @@ use Rattle.annex.specs.Reading.{
   messageVerdict,
   verdictOf,
   commonsOf,
-  dataIn,
   transfersVerdictBy,
   messageVerdictBy,
   verdictBy,
@@ -39,7 +37,6 @@ use Rattle.annex.specs.declared.Row.{Row}
 use Rattle.annex.specs.declared.Extent.{Extent}
 use Rattle.annex.specs.Contents.{faultOf}
 use Rattle.laws.specs.Members.{sumOf}
-use Rattle.laws.specs.Extents.{lead-within}
 use Rattle.laws.specs.Steps.{passed, transfer-taken, common-within}
 use Rattle.laws.specs.Plain.{
   Size,
@@ -47,12 +44,8 @@ use Rattle.laws.specs.Plain.{
   transferSize,
   pars,
   pars-turn,
-  Lies,
-  pars-lie,
   commons-plain,
   transfers-plain,
-  InnerSound,
-  commons-inner,
 }
 
 -- ---- sums
@@ -182,60 +175,7 @@ pub common-turn : (i n : ℕ) (m : List ℕ) → Turned commonSize i n m
 unfolding commonRowsBy
 common-turn i n m u = rw (u .next, length-take-le n (drop (i + 1) m) (u .within), zero-add i)
 
--- ---- what the rows add up to
-
--- a row's octets, under a length rule: header, length octet if any, contents
-abbrev pub spanBy : (ℕ → Extent) → Row → ℕ
-spanBy extent r = 1 + leadOf (extent (r .header)) + r .len
-
--- a length octet is among the octets of its parameter
-abbrev pub LeadIn : (ℕ → Extent) → Par → Type 0
-LeadIn extent q = leadOf (extent (q .head)) ≤ length (q .own)
-
-each-then : {A : Type 0} {P Q : A → Type 0} (f : (x : A) → P x → Q x) (xs : List A) → Each P xs → Each Q xs
-each-then f [] h = tt
-each-then f (x ∷ xs) h = (f x (h .0), each-then f xs (h .1))
-
-module _ (extent : ℕ → Extent) where
-  leads-in : (t : List ℕ) → Each (LeadIn extent) (pars (λ h xs. afterOf (extent h) (getD xs 0 0)) 0 0 t)
-  leads-in t =
-      let size : Size = λ h xs. afterOf (extent h) (getD xs 0 0) in
-      each-then {P = Lies size t} {Q = LeadIn extent} (λ q l. rw (l .long) (lead-within _ _)) (pars size 0 0 t) (pars-lie size t t 0 0 refl)
-
-  rows-sum : (s : ℕ) (qs : List Par) → Each (LeadIn extent) qs
-      → sumOf (spanBy extent) (map (λ q. parRow (extent (q .head)) s q) qs) ≡ sumOf octetsIn qs
-  rows-sum s [] h = refl
-  rows-sum s (q ∷ qs) h = omega (arith, h .0, rows-sum s qs (h .1))
-
--- the row of a common parameter itself
-abbrev pub outsideRow : Par → Row
-outsideRow q = parRow (commonExtentOf (q .head)) 0 q
-
--- the rows outside C5 add up to the message
-pub rows-outside : (m : List ℕ) (k : ℕ) → verdictOf m ≡ Accepted k → sumOf (spanBy commonExtentOf) (map outsideRow (commonsOf m)) ≡ length m
-rows-outside m k e =
-    rows-sum commonExtentOf 0 (commonsOf m) (rw (commons-plain faultOf m k e) (leads-in commonExtentOf m)) ∙ commons-sum m k e
-
 pub transfer-rows : (s : ℕ) (qs : List Par) → transferRows s qs ≡ map (λ q. parRow (extentOf (q .head)) s q) qs
 unfolding transferRows
 transfer-rows s [] = refl
 transfer-rows s (q ∷ qs) = rw (transfer-rows s qs)
-
-data-rows : (s : ℕ) (t : List ℕ) (k : ℕ) → transfersVerdict t ≡ Accepted k
-    → sumOf (spanBy extentOf) (transferRows s (transfersOf t)) ≡ length t
-data-rows s t k e =
-    rw (transfer-rows s (transfersOf t))
-    (rows-sum extentOf s (transfersOf t) (rw (transfers-plain faultOf t k e) (leads-in extentOf t)) ∙ transfers-sum t k e)
-
--- the rows inside a C5 add up to its length
-unfoldable pub InsideFills : Par → Type 0
-InsideFills q = q .head ≡ transfer-data → sumOf (spanBy extentOf) (innerRows q) ≡ outsideRow q .len
-
-pub rows-inside : (m : List ℕ) → Each InsideFills (commonsOf m)
-unfolding InsideFills InnerSound
-rows-inside m = each-then inside (commonsOf m) (commons-inner m)
-  where
-    inside : (q : Par) → InnerSound q → InsideFills q
-    inside q sound five =
-        let t = sound five in
-        rw five (data-rows (q .place + 2) (dataIn q) (t .0) (t .1) ∙ length-drop _ (q .own))

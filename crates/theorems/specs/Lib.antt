@@ -23,3 +23,4 @@ pub mod Buffers
 pub mod Splices
 pub mod Undone
 pub mod Finds
+pub mod Listings
