@@ -5,7 +5,7 @@ use mathlib.Core.List.{List, [], _∷_, _++_}
 use lib.Dec.{eqb, leb, ltb}
 use lib.ListN.{length, getD, take, drop}
 use Rattle.annex.specs.Answers.{over-limits, no-room, refuse, roomAfter}
-use Rattle.annex.specs.Heads.{transfer-data, most-commons, most-transfers, most-values}
+use Rattle.annex.specs.Heads.{transfer-data, most-commons, most-transfers, most-transfer-octets, most-values}
 use Rattle.annex.specs.Items.{Item, Part}
 use Rattle.annex.specs.Allowed.{itemsIn}
 use Rattle.annex.specs.Records.{commonHead, transferHead, headOf, commonHeadOf, rawItem, rawPart, valuesOf, pack, isWhole, view}
@@ -74,6 +74,11 @@ common-head = 6
 
 abbrev pub transfer-head : ℕ
 transfer-head = 11
+
+-- the longest image of a record that may be read: the count, as many heads as there may be parameters, and two values for each octet of
+-- transfer data. TK_IMAGE_MAX of the header for C and IMAGE_MAX of the Rust wrapper are this number
+abbrev pub most-image : ℕ
+most-image = 1 + common-head * most-commons + transfer-head * most-transfers + 2 * most-transfer-octets
 
 -- so many parameters at the front of octets, with how many octets they take; or the octets are too short for them
 pub data Front (A : Type 0) : Type 0 where

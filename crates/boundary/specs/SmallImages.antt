@@ -1,15 +1,15 @@
 -- Places and values are below 2^16 where a message is read to an image, or written from one.
-use Prim.Native.Nat.{ℕ, _+_, _-_, _*_, _≤_}
+use Prim.Native.Nat.{ℕ, _+_, _-_, _*_, _/_, _≤_}
 use native.Mathlib.Omega.{arith}
 use mathlib.Core.Path.{_≡_, refl, ap, _∙_}
 use mathlib.Core.Bool.{Bool, true, false, cond, not, _||_, _&&_}
 use mathlib.Core.List.{List, [], _∷_, _++_}
-use borrow.Author.Tests.{ltb-false}
+use borrow.Author.Tests.{ltb-false, le-ltb}
 use lib.Dec.{eqb, ltb}
 use lib.ListN.{length, length-append}
-use Rattle.annex.specs.Answers.{over-limits, missing, transfer-over, no-room, refuse, andThen}
+use Rattle.annex.specs.Answers.{over-limits, missing, transfer-over, no-room, numberOf, refuse, andThen}
 use Rattle.annex.specs.Units.{extentOf}
-use Rattle.annex.specs.Heads.{among, commonHeaders, transfer-data, isCall, most-commons, most-transfers, most-transfer-octets, most-values}
+use Rattle.annex.specs.Heads.{among, commonHeaders, transfer-data, isCall, most-commons, most-transfers, most-transfer-octets}
 use Rattle.annex.specs.Items.{Item, Part}
 use Rattle.annex.specs.Layout.{callOctets, dataOctets, layoutItem, layoutItems, layoutPart, layout}
 use Rattle.annex.specs.Allowed.{every, isOctet, valueRight, valueFits, itemsIn, contentsSum}
@@ -27,25 +27,49 @@ use Rattle.annex.specs.Writing.{
   structWriting,
   writingOf,
 }
-use Rattle.annex.specs.Image.{Front, imageOf, partsFront, noImage, isWithin, imagedBy, imagedOf}
+use Rattle.annex.specs.Image.{Front, most-image, imageOf, partsFront, noImage, isWithin, imagedBy, imagedOf}
 use Rattle.annex.specs.Image.Front.{Taken, Short}
-use Rattle.annex.specs.Packed.{imageReading, imageWriting}
+use Rattle.annex.specs.Packed.{packedAnswer, imageReading, imageWriting}
+use Rattle.annex.specs.Promises.{TkReadPromise}
 use Rattle.annex.specs.declared.Answer.{Answer}
 use Rattle.annex.specs.declared.Answer.the-variants.{Accepted, Refused}
 use Rattle.annex.specs.declared.Record.{Record}
 use Rattle.laws.specs.Laid.{length-layout, lead-small}
 use Rattle.laws.specs.Places.{item-place}
 use Rattle.theorems.specs.Messages.{read-then-laid}
-use Rattle.theorems.specs.Records.{layout-append, allowed-within}
+use Rattle.theorems.specs.Records.{layout-append, values-within}
 use Rattle.theorems.specs.Writings.{item-written}
 use Rattle.to_image.specs.Octets.{items-long, parts-long}
 use Rattle.boundary.specs.Small.{Upto, upto-more, upto-refuse, upto-then, verdict-upto}
 
 -- ---- read to an image
 
--- as many common parameters, transfer parameters and values as a record may hold
-abbrev pub most-image : ℕ
-most-image = 1 + 6 * most-commons + 11 * most-transfers + most-values
+image-most : (m : List ℕ) → every isOctet m ≡ true → (n : ℕ) → verdictOf m ≡ Accepted n → length (imageOf (recordOf m)) ≤ most-image
+unfolding imageOf
+image-most m o n e =
+    let r = recordOf m in
+    let a = read-then-laid m o n e .1 in
+    let values = values-within (itemsIn r) in
+    omega (arith, parts-long r, items-long (itemsIn r), a .few-commons, a .few-transfers, a .few-contents)
+
+-- the number of most-image that a program is compiled with
+pub image-max : most-image ≡ 1119
+image-max = refl
+
+-- with so much room, reading to an image is refused for what is wrong with the message alone, never for want of room
+pub read-roomy : (m room : List ℕ) → every isOctet m ≡ true → most-image ≤ length room → (r : ℕ) (now : List ℕ)
+    → TkReadPromise m room r now → r / 4294967296 ≡ numberOf (verdictOf m)
+unfolding imageReading
+read-roomy m room o l r now p = rw (p .0) (go (verdictOf m) refl)
+  where
+    image : List ℕ
+    image = imageOf (recordOf m)
+
+    go : (a : Answer) → verdictOf m ≡ a
+        → packedAnswer (andThen a (λ _. refuse (ltb (length room) (length image)) no-room 0 (Accepted (length image)))) / 4294967296
+        ≡ numberOf a
+    go (Accepted n) e = rw (le-ltb (length room) (length image) (omega (arith, image-most m o n e))) (omega arith)
+    go (Refused k q) e = omega arith
 
 pub image-upto : (m : List ℕ) (room : ℕ) → every isOctet m ≡ true → Upto most-image (imageReading m room)
 unfolding imageReading imageOf
@@ -56,10 +80,8 @@ image-upto m room o = go (verdictOf m) refl (verdict-upto m)
         (andThen a (λ _. refuse (ltb room (length (imageOf (recordOf m)))) no-room 0 (Accepted (length (imageOf (recordOf m))))))
     go (Accepted n) e u =
         let r = recordOf m in
-        let w = allowed-within r (read-then-laid m o n e .1) in
-        let l : length (imageOf r) ≤ most-image =
-        omega (arith, parts-long r, items-long (itemsIn r), w .commons, w .transfers, w .values) in
-        upto-refuse (ltb room (length (imageOf r))) no-room 0 most-image (Accepted (length (imageOf r))) (omega arith) (omega arith, l)
+        upto-refuse (ltb room (length (imageOf r))) no-room 0 most-image (Accepted (length (imageOf r))) (omega arith)
+        (omega arith, image-most m o n e)
     go (Refused k p) e u = (omega (arith, u .0), omega arith)
 
 -- ---- writing

@@ -24,3 +24,4 @@ pub mod Splices
 pub mod Undone
 pub mod Finds
 pub mod Listings
+pub mod InPlace

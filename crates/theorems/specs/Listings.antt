@@ -133,7 +133,8 @@ rising-items : (is : List Item) (p s : ℕ) (xs : List Row) → p ≤ s → Risi
 unfolding itemRows layoutItems
 rising-items [] p s xs l w = rising-below p (s + 0) xs (omega arith) w
 rising-items (i ∷ is) p s xs l w =
-    let next : s + length (layoutItem i) + length (layoutItems is) ≡ s + length (layoutItem i ++ layoutItems is) = simp length-append (omega arith) in
+    let next : s + length (layoutItem i) + length (layoutItems is) ≡ s + length (layoutItem i ++ layoutItems is) =
+    simp length-append (omega arith) in
     (l, rising-items is (suc s) (s + length (layoutItem i)) xs (omega (arith, length-layout i)) (rw next w))
 
 -- a C5 is longer by its header and length octet than its parameters; another common parameter has none

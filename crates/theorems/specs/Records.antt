@@ -202,7 +202,8 @@ values-length i = go (heldAs i)
     go (AsNumber w) = omega (arith, packed-length Numbered (i .values))
     go AsGeneric = omega (arith, packed-length Numbered (drop 1 (i .values)), length-drop 1 (i .values))
 
-values-within : (is : List Item) → length (valuesOf is) ≤ 2 * contentsSum is
+-- an octet of contents holds at most two values
+pub values-within : (is : List Item) → length (valuesOf is) ≤ 2 * contentsSum is
 unfolding valuesOf
 values-within [] = omega arith
 values-within (i ∷ is) = simp length-append (omega (arith, values-length i, values-within is))

@@ -159,18 +159,18 @@ edit-splices e d n k o w a =
 -- ---- what the splice comes to
 
 module _ (before front back after : List ℕ) where
-  length-with : (part : List ℕ)
+  pub length-with : (part : List ℕ)
       → length (withPart before front part back after) ≡ length before + 2 + length front + length part + length back + length after
   length-with part = simp length-append (omega arith)
 
   -- what stands before the part, with C5's length octet l
-  abbrev headOf : ℕ → List ℕ
+  abbrev pub headOf : ℕ → List ℕ
   headOf l = before ++ (transfer-data ∷ l ∷ front)
 
-  head-length : (l : ℕ) → length (headOf l) ≡ length before + 2 + length front
+  pub head-length : (l : ℕ) → length (headOf l) ≡ length before + 2 + length front
   head-length l = simp length-append (omega arith)
 
-  head-set : (l v : ℕ) → set (headOf l) (length before + 1) v ≡ headOf v
+  pub head-set : (l v : ℕ) → set (headOf l) (length before + 1) v ≡ headOf v
   head-set l v =
       let five = before ++ (transfer-data ∷ []) in
       let at : length five ≡ length before + 1 = simp length-append (omega arith) in
