@@ -1,27 +1,33 @@
--- Demand 3: finding a replaced or appended parameter afterwards gives the new contents. In the edited record it stands behind as many of
--- its name as the edit says, and what is found there is what it was laid out to.
-use Prim.Native.Nat.{ℕ, _+_}
+-- What finding finds in an allowed record, laid out, are the contents of its parameters. Demand 3: finding a replaced or appended parameter
+-- afterwards gives the new contents. In the edited record it stands behind as many of its name as the edit says.
+use Prim.Native.Nat.{ℕ, _+_, _<_}
 use native.Mathlib.Omega.{arith}
 use mathlib.Core.Path.{_≡_, refl, sym, ap, _∙_}
-use mathlib.Core.Bool.{true}
+use mathlib.Core.Bool.{Bool, true, false}
 use mathlib.Core.List.{List, [], _∷_, _++_, append-assoc}
 use lib.ListN.{length, take, drop, length-append}
 use lib.Seq.{take-append-add, take-append-seam, drop-append-add, drop-drop}
-use Rattle.annex.specs.Units.{nameOf, leadOf, extentOf, contentsIn}
-use Rattle.annex.specs.Heads.{transfer-data, oftenOf}
-use Rattle.annex.specs.Items.{Item, Part}
-use Rattle.annex.specs.Layout.{layoutItem, layoutItems, layout}
-use Rattle.annex.specs.Allowed.{every, timesIn, isOctet, itemsIn, namesOf, Allowed}
+use Rattle.annex.specs.Units.{nameOf, leadOf, extentOf, commonExtentOf, contentsIn}
+use Rattle.annex.specs.Heads.{among, transfer-data, oftenOf}
+use Rattle.annex.specs.Items.{Item, Part, contentsOf}
+use Rattle.annex.specs.Layout.{ledBy, layoutItem, layoutItems, layoutPart, layout}
+use Rattle.annex.specs.Allowed.{every, timesIn, isOctet, itemsIn, headersOf, namesOf, Allowed}
 use Rattle.annex.specs.Reading.{recordOf}
-use Rattle.annex.specs.Finding.{transferFound, foundPart, findPart}
+use Rattle.annex.specs.Finding.{commonFound, transferFound, foundPart, findPart}
 use Rattle.annex.specs.Editing.{Edit, newHeader, newAfter, newItem, editedItems, edited, editingOf, bufferOf}
 use Rattle.annex.specs.Editing.Edit.{Replacing, Appending}
 use Rattle.annex.specs.declared.Answer.the-variants.{Accepted}
+use Rattle.annex.specs.declared.Extent.{Extent}
+use Rattle.annex.specs.declared.Extent.the-variants.{Fixed, CountOctet, LengthOctet}
 use Rattle.annex.specs.declared.Found.the-variants.{At}
 use Rattle.laws.specs.Parts.{from-to}
+use Rattle.theorems.specs.Lists.{each-right}
+use Rattle.theorems.specs.Commons.{AllowedPart}
+use Rattle.theorems.specs.Records.{plain-none, allowed-parts}
 use Rattle.theorems.specs.Layouts.{laid-then-read}
-use Rattle.theorems.specs.Parted.{Parted, one-data, layoutParts}
-use Rattle.theorems.specs.Places.{transfer-found}
+use Rattle.theorems.specs.Parted.{Parted, one-data, no-data, layoutParts}
+use Rattle.theorems.specs.Places.{common-found, transfer-found}
+use Rattle.theorems.specs.Listings.{partContents, part-contents}
 use Rattle.theorems.specs.Reasons.{NewRight, edit-taken}
 use Rattle.theorems.specs.Edits.{OfOctets, new-read, changed, items-edited, data-edited, message-allowed, edited-allowed}
 use Rattle.theorems.specs.Buffers.{buffer-edited}
@@ -54,6 +60,48 @@ contents-found r a d x which front one back w n b =
     let found : findPart (layout r) (transferFound x which (layout r)) ≡ foundPart (layout r) (At (s + 1 + lead) (s + length xs)) =
     rw (laid-then-read r a .0, transfer-found r a d x which front one back w n b) in
     found ∙ rw (whole, start, ← long) (stretch p xs rest (1 + lead)) ∙ sym (drop-drop lead 1 xs)
+
+-- so they are the contents that it stands for
+led-contents : (e : Extent) (s : List ℕ) → contentsIn e (ledBy e s) ≡ s
+unfolding leadOf
+led-contents (Fixed n) s = refl
+led-contents CountOctet s = refl
+led-contents LengthOctet s = refl
+
+-- a record with transfer parameters has a C5
+has-data : (r : List Part) → Allowed r → 0 < length (itemsIn r) → Parted r
+has-data r a l = go (among transfer-data (headersOf r)) refl
+  where
+    go : (b : Bool) → among transfer-data (headersOf r) ≡ b → Parted r
+    go true e = one-data r a e
+    go false e = absurd (omega (arith, ap length (plain-none r (a .held) (no-data r e))))
+
+pub transfer-contents : (r : List Part) → Allowed r → (x which : ℕ) (front : List Item) (one : Item) (back : List Item)
+    → itemsIn r ≡ front ++ (one ∷ back) → nameOf (one .header) ≡ x → timesIn x (namesOf front) ≡ which
+    → findPart (layout r) (transferFound x which (layout r)) ≡ contentsOf one
+unfolding layoutItem
+transfer-contents r a x which front one back w n b =
+    let some : 0 < length (itemsIn r) = rw w (simp length-append (omega arith)) in
+    contents-found r a (has-data r a some) x which front one back w n b ∙ led-contents (extentOf (one .header)) (contentsOf one)
+
+-- and of a common parameter
+layout-ahead : (ahead : List Part) (q : Part) (behind : List Part)
+    → layout (ahead ++ (q ∷ behind)) ≡ layoutParts ahead ++ (layoutPart q ++ layout behind)
+unfolding layout layoutParts
+layout-ahead [] q behind = refl
+layout-ahead (p ∷ ahead) q behind = rw (layout-ahead ahead q behind, append-assoc)
+
+pub common-contents : (r : List Part) → Allowed r → (ahead : List Part) (q : Part) (behind : List Part) → r ≡ ahead ++ (q ∷ behind)
+    → findPart (layout r) (commonFound (q .header) (layout r)) ≡ partContents q
+common-contents r a ahead q behind w =
+    let b = layoutParts ahead in
+    let lead = leadOf (commonExtentOf (q .header)) in
+    let part = each-right AllowedPart ahead (q ∷ behind) (rw w at (allowed-parts r a)) .0 in
+    let start : length b + 1 + lead ≡ length b + (1 + lead) = omega arith in
+    let found : findPart (layout r) (commonFound (q .header) (layout r))
+    ≡ foundPart (layout r) (At (length b + (1 + lead)) (length b + length (layoutPart q))) =
+    rw (laid-then-read r a .0, common-found r a ahead q behind w, start) in
+    found ∙ rw (w, layout-ahead ahead q behind) (stretch b (layoutPart q) (layout behind) (1 + lead)) ∙ part-contents q part
 
 -- ---- after an edit
 

@@ -22,6 +22,6 @@ pub mod Edits
 pub mod Buffers
 pub mod Splices
 pub mod Undone
-pub mod Finds
 pub mod Listings
+pub mod Finds
 pub mod InPlace

@@ -9,7 +9,7 @@ use mathlib.Core.Bool.{Bool, true, false, cond}
 use mathlib.Core.List.{List, [], _∷_, _++_}
 use borrow.Author.Tests.{eqb-true, lt-ltb, le-ltb}
 use lib.Dec.{eqb, ltb}
-use lib.ListN.{length, length-append, length-drop}
+use lib.ListN.{length, drop, length-append, length-drop}
 use Rattle.annex.specs.Units.{leadOf, extentOf, commonExtentOf}
 use Rattle.annex.specs.Heads.{among, end-mark, transfer-data, commonHeaders, isCall}
 use Rattle.annex.specs.Items.{Item, Part, contentsOf}
@@ -76,6 +76,19 @@ length-part q a = rw (leads (q .header) (a .listed)) (go (eqb (q .header) transf
     go true c = omega arith
     go false true = omega arith
     go false false = omega arith
+
+-- behind them stand the contents
+pub part-contents : (q : Part) → AllowedPart q → drop (1 + leadOf (commonExtentOf (q .header))) (layoutPart q) ≡ partContents q
+unfolding layoutPart
+part-contents q a = rw (leads (q .header) (a .listed)) (go (eqb (q .header) transfer-data) (isCall (q .header)))
+  where
+    go : (b c : Bool)
+        → drop (1 + cond b 1 0)
+        (q .header ∷ cond b (dataOctets (layoutItems (q .items))) (cond c (callOctets (q .value)) (q .value ∷ [])))
+        ≡ cond b (layoutItems (q .items)) (cond c (callOctets (q .value)) (q .value ∷ []))
+    go true c = refl
+    go false true = refl
+    go false false = refl
 
 inner-listed : (q : Part) (p : ℕ) → AllowedPart q → innerRows (partPar p q) ≡ itemRows (p + 2) (q .items)
 unfolding layoutPart itemRows leadOf commonExtentOf

@@ -1,19 +1,19 @@
 -- Where C5 and a transfer parameter of it stand in an allowed record, laid out: right behind what is laid out before them. Finding gives
 -- those places.
-use Prim.Native.Nat.{ℕ, zero, suc, _+_, _-_, _≤_}
+use Prim.Native.Nat.{ℕ, zero, suc, _+_, _-_, _≤_, _<_}
 use native.Mathlib.Omega.{arith}
 use native.Mathlib.Nat.{add-zero, zero-add}
 use mathlib.Core.Path.{_≡_, refl, sym, ap, _∙_}
 use mathlib.Core.Bool.{Bool, true, false, cond}
 use mathlib.Core.List.{List, [], _∷_, _++_, append-nil}
-use borrow.Author.Tests.{eq-eqb, ltb-true, ltb-false, le-ltb}
+use borrow.Author.Tests.{eqb-true, eq-eqb, ltb-true, ltb-false, le-ltb}
 use lib.Dec.{eqb, leb, ltb}
 use lib.ListN.{length, drop, length-append}
 use Rattle.annex.specs.Units.{nameOf, leadOf, extentOf, commonExtentOf}
 use Rattle.annex.specs.Heads.{among, transfer-data, oftenOf, kth}
 use Rattle.annex.specs.Items.{Item, Part, contentsOf, dataPart}
 use Rattle.annex.specs.Layout.{ledBy, layoutItem, layoutItems, layoutPart, layout}
-use Rattle.annex.specs.Allowed.{every, Each, timesIn, isOctet, itemsIn, headersOf, namesOf, Allowed}
+use Rattle.annex.specs.Allowed.{every, Each, timesIn, isOctet, itemsIn, headersOf, namesOf, partNamesOf, Allowed}
 use Rattle.annex.specs.Walk.{Par}
 use Rattle.annex.specs.Reading.{verdictOf, transfersOf, recordOf}
 use Rattle.annex.specs.Finding.{stretchOf, commonIn, commonFound, transferIn, transferAmong, transferFound}
@@ -21,10 +21,12 @@ use Rattle.annex.specs.declared.Answer.the-variants.{Accepted}
 use Rattle.annex.specs.declared.Found.{Found}
 use Rattle.annex.specs.declared.Found.the-variants.{At, Nowhere}
 use Rattle.laws.specs.Often.{some-often}
+use Rattle.theorems.specs.Lists.{each-right, times-rest}
 use Rattle.theorems.specs.Counts.{namesIn}
 use Rattle.theorems.specs.Transfers.{itemPar, itemPars, transfers-built}
-use Rattle.theorems.specs.Commons.{partPar}
-use Rattle.theorems.specs.Records.{Plain, plain-none, allowed-items}
+use Rattle.theorems.specs.Steps.{not-end}
+use Rattle.theorems.specs.Commons.{AllowedPart, partPar}
+use Rattle.theorems.specs.Records.{Once, Plain, plain-none, allowed-items, allowed-parts, allowed-once}
 use Rattle.theorems.specs.Named.{passed-over, choose}
 use Rattle.theorems.specs.Parted.{Parted, one-data, no-data, layoutParts}
 use Rattle.theorems.specs.Messages.{read-then-laid}
@@ -46,12 +48,16 @@ behind-part : (at : ℕ) (p : Part) (ahead : List Part)
 unfolding layoutParts
 behind-part at p ahead = simp length-append (omega (arith, part-length p))
 
-common-behind : (ahead : List Part) (r : List Part) (at : ℕ) → Each Plain ahead
-    → commonIn transfer-data (partPars at (ahead ++ r)) ≡ commonIn transfer-data (partPars (at + length (layoutParts ahead)) r)
+-- none of them has the header h
+abbrev pub Others : ℕ → List Part → Type 0
+Others h ahead = Each (λ p. eqb (p .header) h ≡ false) ahead
+
+common-behind : (h : ℕ) (ahead : List Part) (r : List Part) (at : ℕ) → Others h ahead
+    → commonIn h (partPars at (ahead ++ r)) ≡ commonIn h (partPars (at + length (layoutParts ahead)) r)
 unfolding partPars commonIn
-common-behind [] r at p = unfold layoutParts in rw add-zero
-common-behind (q ∷ ahead) r at p =
-    rw (p .0, ← behind-part at q ahead) (common-behind ahead r (at + 1 + length (partPar at q .own)) (p .1))
+common-behind h [] r at p = unfold layoutParts in rw add-zero
+common-behind h (q ∷ ahead) r at p =
+    rw (p .0, ← behind-part at q ahead) (common-behind h ahead r (at + 1 + length (partPar at q .own)) (p .1))
 
 among-behind : (x which : ℕ) (ahead : List Part) (r : List Part) (at : ℕ) → Each Plain ahead
     → transferAmong x which (partPars at (ahead ++ r)) ≡ transferAmong x which (partPars (at + length (layoutParts ahead)) r)
@@ -60,11 +66,17 @@ among-behind x which [] r at p = unfold layoutParts in rw add-zero
 among-behind x which (q ∷ ahead) r at p =
     rw (p .0, ← behind-part at q ahead) (among-behind x which ahead r (at + 1 + length (partPar at q .own)) (p .1))
 
--- at C5
-common-here : (is : List Item) (behind : List Part) (at : ℕ)
+-- at the one with the header, and at C5
+common-here : (q : Part) (behind : List Part) (at : ℕ)
+    → commonIn (q .header) (partPars at (q ∷ behind)) ≡ At (at + 1 + leadOf (commonExtentOf (q .header))) (at + length (layoutPart q))
+unfolding partPars commonIn
+common-here q behind at =
+    rw (eq-eqb (q .header) (q .header) refl) (same-at _ _ _ _ (omega arith) (omega (arith, part-length q)))
+
+data-here : (is : List Item) (behind : List Part) (at : ℕ)
     → commonIn transfer-data (partPars at (dataPart is ∷ behind)) ≡ At (at + 2) (at + 2 + length (layoutItems is))
-unfolding partPars commonIn layoutPart leadOf commonExtentOf
-common-here is behind at = same-at _ _ _ _ (omega arith) (omega arith)
+unfolding layoutPart leadOf commonExtentOf
+data-here is behind at = common-here (dataPart is) behind at ∙ same-at _ _ _ _ (omega arith) (omega arith)
 
 among-here : (x which : ℕ) (is : List Item) (behind : List Part) (at : ℕ)
     → transferAmong x which (partPars at (dataPart is ∷ behind)) ≡ transferIn x which (at + 2) (transfersOf (layoutItems is))
@@ -137,6 +149,41 @@ transfer-nowhere x which s (i ∷ is) p l =
 
 -- ---- in an allowed record, laid out
 
+-- a name that may stand once stands in one part alone
+named-there : (q : Part) (ahead behind : List Part) → 0 < timesIn (nameOf (q .header)) (partNamesOf (ahead ++ (q ∷ behind)))
+named-there q [] behind = rw (eq-eqb (nameOf (q .header)) (nameOf (q .header)) refl) (omega arith)
+named-there q (p ∷ ahead) behind =
+    let x = nameOf (q .header) in
+    omega (arith, named-there q ahead behind, times-rest x (nameOf (p .header)) (partNamesOf (ahead ++ (q ∷ behind))))
+
+others : (q : Part) (ahead behind : List Part) → Once (ahead ++ (q ∷ behind)) → Others (q .header) ahead
+others q [] behind o = tt
+others q (p ∷ ahead) behind o = (go (eqb (p .header) (q .header)) refl, others q ahead behind rest)
+  where
+    xs : List ℕ
+    xs = partNamesOf (ahead ++ (q ∷ behind))
+
+    rest : Once (ahead ++ (q ∷ behind))
+    rest u = omega (arith, o u, times-rest u (nameOf (p .header)) xs)
+
+    go : (b : Bool) → eqb (p .header) (q .header) ≡ b → b ≡ false
+    go true e =
+        let same : nameOf (q .header) ≡ nameOf (p .header) = rw (eqb-true (p .header) (q .header) e) in
+        absurd (omega (arith, rw (eq-eqb (nameOf (q .header)) (nameOf (p .header)) same) at (o (nameOf (q .header))), named-there q ahead behind))
+    go false e = refl
+
+-- a common parameter, in front of which these stand
+pub common-found : (r : List Part) → Allowed r → (ahead : List Part) (q : Part) (behind : List Part) → r ≡ ahead ++ (q ∷ behind)
+    → commonFound (q .header) (layout r)
+    ≡ At (length (layoutParts ahead) + 1 + leadOf (commonExtentOf (q .header))) (length (layoutParts ahead) + length (layoutPart q))
+unfolding commonFound
+common-found r a ahead q behind w =
+    let part = each-right AllowedPart ahead (q ∷ behind) (rw w at (allowed-parts r a)) .0 in
+    rw (not-end (q .header) (part .listed), laid-then-listed r a)
+    (ap (λ (s : List Part). commonIn (q .header) (partPars 0 s)) w
+    ∙ common-behind (q .header) ahead (q ∷ behind) 0 (others q ahead behind (rw w at (allowed-once r a)))
+    ∙ rw zero-add (common-here q behind (length (layoutParts ahead))))
+
 module _ (r : List Part) (a : Allowed r) (d : Parted r) where
   pub data-found : commonFound transfer-data (layout r)
       ≡ At (length (layoutParts (d .ahead)) + 2) (length (layoutParts (d .ahead)) + 2 + length (layoutItems (itemsIn r)))
@@ -144,8 +191,8 @@ module _ (r : List Part) (a : Allowed r) (d : Parted r) where
   data-found =
       rw (laid-then-listed r a)
       (ap (λ (s : List Part). commonIn transfer-data (partPars 0 s)) (d .whole)
-      ∙ common-behind (d .ahead) (dataPart (itemsIn r) ∷ d .behind) 0 (d .plain-ahead)
-      ∙ rw zero-add (common-here (itemsIn r) (d .behind) (length (layoutParts (d .ahead)))))
+      ∙ common-behind transfer-data (d .ahead) (dataPart (itemsIn r) ∷ d .behind) 0 (d .plain-ahead)
+      ∙ rw zero-add (data-here (itemsIn r) (d .behind) (length (layoutParts (d .ahead)))))
 
   transfers-found : (x which : ℕ)
       → transferFound x which (layout r) ≡ transferIn x which (length (layoutParts (d .ahead)) + 2) (itemPars 0 (itemsIn r))
@@ -186,7 +233,7 @@ module _ (r : List Part) (a : Allowed r) (d : Parted r) where
 module _ (r : List Part) (a : Allowed r) (p : Each Plain r) where
   no-data-found : commonFound transfer-data (layout r) ≡ Nowhere
   unfolding commonFound
-  no-data-found = rw (laid-then-listed r a) (rw append-nil at (common-behind r [] 0 p) ∙ common-end (0 + length (layoutParts r)))
+  no-data-found = rw (laid-then-listed r a) (rw append-nil at (common-behind transfer-data r [] 0 p) ∙ common-end (0 + length (layoutParts r)))
 
   no-transfer-found : (x which : ℕ) → transferFound x which (layout r) ≡ Nowhere
   unfolding transferFound

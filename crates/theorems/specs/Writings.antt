@@ -349,7 +349,7 @@ module _ (s : Record) (n : ℕ) (e : structWriting s ≡ Accepted n) where
   room-after room l = rw (with-room (length room) l)
 
 -- a record that may be written, packed
-packed-writes : (r : List Part) → Writable r → structWriting (pack r) ≡ Accepted (length (layout r))
+pub packed-writes : (r : List Part) → Writable r → structWriting (pack r) ≡ Accepted (length (layout r))
 packed-writes r w =
     let a = writable-allowed r w in
     let v = view-pack r (a .held) in

@@ -1,0 +1,1 @@
+// The three demands, each as one statement over the promises: in specs/.
