@@ -1,0 +1,177 @@
+//! The cases that the program of `crates/cases` reads, made of their text,
+//! `tests/cases/cases.txt`, which tells its own form.
+
+use crate::record::{Common, Record, Transfer};
+
+const TEXT: &str = include_str!("../../../tests/cases/cases.txt");
+const EDITS: &str = include_str!("../../../tests/vectors/edits.txt");
+const RECORDS: &str = include_str!("../../../tests/vectors/records.txt");
+
+/// What the octets of a case begin with: an edit's or a write's place among
+/// these, then three numbers.
+const KINDS: [&str; 7] = [
+    "replace",
+    "append",
+    "remove",
+    "write",
+    "commons",
+    "transfers",
+    "values",
+];
+
+/// The fields of a transfer parameter, by their order in an image.
+const FIELDS: [&str; 8] = [
+    "notification",
+    "verification",
+    "dialling",
+    "type",
+    "incomplete",
+    "plan",
+    "presentation",
+    "screening",
+];
+
+/// The most common parameters that the program's struct has room for.
+const MOST_COMMONS: u8 = 6;
+
+/// All cases, one behind the other.
+///
+/// # Errors
+///
+/// The first line that has none of the forms.
+pub fn octets() -> Result<Vec<u8>, String> {
+    let mut octets = Vec::new();
+    for line in lines(TEXT) {
+        let of_line = match line {
+            "edits of tests/vectors" => lines(EDITS).map(edit_vector).collect(),
+            "records of tests/vectors" => lines(RECORDS).map(record_vector).collect(),
+            _ => case(line).map(|case| vec![case]),
+        };
+        let cases: Vec<Vec<u8>> = of_line.ok_or_else(|| line.to_string())?;
+        octets.extend(cases.concat());
+    }
+    Ok(octets)
+}
+
+/// The lines that are neither empty nor a remark.
+fn lines(text: &str) -> impl Iterator<Item = &str> {
+    let told = |line: &&str| !line.is_empty() && !line.starts_with('#');
+    text.lines().map(str::trim).filter(told)
+}
+
+fn case(line: &str) -> Option<Vec<u8>> {
+    let (call, given) = line.split_once('|')?;
+    let (kind, number) = call.trim().split_once(' ')?;
+    if kind == "write" {
+        let (room, change) = number.split_once(", ").unwrap_or((number, "write 0"));
+        let (what, to) = change.split_once(' ')?;
+        let numbers = [to.parse().ok()?, room.parse().ok()?];
+        return octets_of(what, numbers, &[], &image(given)?);
+    }
+    let (buffer, new) = given.split_once('|')?;
+    edit(kind, number.parse().ok()?, &hex(buffer)?, &hex(new)?)
+}
+
+/// `edit NEW | buffer | n | answer`: the name that is removed is decimal.
+fn edit_vector(line: &str) -> Option<Vec<u8>> {
+    let parts: Vec<&str> = line.split(" | ").collect();
+    let [call, buffer, n, _] = parts[..] else {
+        return None;
+    };
+    let new = match call.split_once(' ')? {
+        (_, "-") => Vec::new(),
+        ("remove", name) => vec![name.parse().ok()?],
+        (_, new) => hex(new)?,
+    };
+    edit(
+        call.split(' ').next()?,
+        n.parse().ok()?,
+        &hex(buffer)?,
+        &new,
+    )
+}
+
+/// `image | answer`; nothing where the struct has no room for the record.
+fn record_vector(line: &str) -> Option<Vec<u8>> {
+    let (image, answer) = line.split_once(" | ")?;
+    let image = hex(image)?;
+    if *image.first()? > MOST_COMMONS {
+        return Some(Vec::new());
+    }
+    let room = match answer.strip_prefix("accepted ") {
+        Some(message) => hex(message)?.len() as u16 + 2,
+        None => 8,
+    };
+    octets_of("write", [0, room], &[], &image)
+}
+
+fn edit(kind: &str, n: u16, buffer: &[u8], new: &[u8]) -> Option<Vec<u8>> {
+    octets_of(kind, [n, buffer.len() as u16], buffer, new)
+}
+
+fn octets_of(kind: &str, numbers: [u16; 2], buffer: &[u8], last: &[u8]) -> Option<Vec<u8>> {
+    let mut octets = vec![KINDS.iter().position(|name| *name == kind)? as u8];
+    for number in [numbers[0], numbers[1], last.len() as u16] {
+        octets.extend(number.to_le_bytes());
+    }
+    octets.extend_from_slice(buffer);
+    octets.extend_from_slice(last);
+    Some(octets)
+}
+
+/// Octets in hexadecimal, `07*200` for as many of one, M and K of the bench table.
+fn hex(text: &str) -> Option<Vec<u8>> {
+    let mut octets = Vec::new();
+    for word in text.split_whitespace() {
+        let (word, count) = match word.split_once('*') {
+            Some((word, count)) => (word, count.parse().ok()?),
+            None => (word, 1),
+        };
+        let digits = match word {
+            "M" => "01018339300004010611C50A9004213A52819803210A00",
+            "K" => "01010611",
+            _ => word,
+        };
+        let octet = |at| u8::from_str_radix(digits.get(at..at + 2)?, 16).ok();
+        let run: Option<Vec<u8>> = (0..digits.len()).step_by(2).map(octet).collect();
+        octets.extend(run?.repeat(count));
+    }
+    Some(octets)
+}
+
+/// The image of a record.
+fn image(text: &str) -> Option<Vec<u8>> {
+    let mut record = Record::default();
+    for word in text.split_whitespace() {
+        if let Some((head, values)) = word.split_once(':') {
+            let data = record.common.last_mut()?;
+            data.transfers.push(transfer(head, values)?);
+            continue;
+        }
+        let (header, value) = word.split_once('=').unwrap_or((word, "0"));
+        record.common.push(Common {
+            header: u8::from_str_radix(header, 16).ok()?,
+            value: u32::from_str_radix(value, 16).ok()?,
+            transfers: Vec::new(),
+        });
+    }
+    Some(record.image())
+}
+
+fn transfer(head: &str, values: &str) -> Option<Transfer> {
+    let (header, told) = match head.strip_suffix(')') {
+        Some(head) => head.split_once('(')?,
+        None => (head, ""),
+    };
+    let mut fields = [0; 8];
+    for field in told.split_terminator(',') {
+        let (name, value) = field.split_once('=')?;
+        let index = FIELDS.iter().position(|known| *known == name)?;
+        fields[index] = u8::from_str_radix(value, 16).ok()?;
+    }
+    Some(Transfer {
+        header: u8::from_str_radix(header, 16).ok()?,
+        fields,
+        values: hex(values)?,
+    })
+}

@@ -1,0 +1,12 @@
+//! The program of `crates/cases` reads what `tests/cases/cases.txt` tells.
+
+use trial::cases::octets;
+
+#[test]
+fn the_text_is_what_the_program_reads() {
+    let read = include_bytes!("../../../crates/cases/stdin");
+    let told = octets().expect("lines of a known form");
+    let same = told.iter().zip(read).take_while(|(a, b)| a == b).count();
+    assert_eq!(told.len(), read.len(), "the same up to octet {same}");
+    assert_eq!(same, read.len(), "the same up to octet {same}");
+}
