@@ -1,6 +1,6 @@
 -- Wrong programs that the promises shut out, each with the input at which it breaks one: those that document 01 names under "How tight each
 -- promise is", and two for every other public function. Those about a record's image and about the functions for Rust and C stand in
--- WrongPacked, the listing's in crate rows, the classes' in crate classes.
+-- WrongPacked, those of the tables of rows in WrongRows, the classes' in WrongClasses, those of what serves others in Constants.
 use Prim.Native.Nat.{ℕ}
 use native.Mathlib.Omega.{arith}
 use mathlib.Core.Path.{_≡_, refl, ap, _∙_}
@@ -66,7 +66,7 @@ use Rattle.annex.specs.declared.Answer.the-variants.{Accepted, Refused}
 use Rattle.annex.specs.declared.Record.{Record}
 use Rattle.annex.specs.declared.Reading.{Reading}
 
--- case 2: the shortest message; and an edit of each kind of M
+-- case 2: the shortest message; and two edits of M, a replacement and an append
 abbrev pub short : List ℕ
 short = K ++ (0x00 ∷ [])
 
