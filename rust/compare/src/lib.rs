@@ -63,13 +63,14 @@ impl fmt::Display for Difference {
     }
 }
 
-/// Puts the first `count` inputs under `seed` to both codecs. Gives which
-/// answers occurred, or the first difference.
+/// Puts the first `count` inputs under `seed` to both codecs, and tells `after`
+/// how many are done after each. Gives which answers occurred, or the first
+/// difference.
 ///
 /// # Errors
 ///
 /// The first input to which the codecs answer differently.
-pub fn compare(seed: u64, count: u64) -> Result<Coverage, Difference> {
+pub fn compare(seed: u64, count: u64, mut after: impl FnMut(u64)) -> Result<Coverage, Difference> {
     let mut coverage = Coverage::default();
     for index in 0..count {
         let input = input_at(seed, index);
@@ -78,6 +79,7 @@ pub fn compare(seed: u64, count: u64) -> Result<Coverage, Difference> {
             return Err(Difference { seed, index });
         }
         coverage.note(&input, &outcome);
+        after(index + 1);
     }
     Ok(coverage)
 }

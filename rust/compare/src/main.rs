@@ -7,7 +7,8 @@ use trial::{answer, input_at, Outcome};
 
 const USAGE: &str = "\
 usage: compare SEED COUNT        puts so many inputs to both codecs; fails at the first difference,
-                                 or if an answer that can be given did not occur
+                                 or if an answer that can be given did not occur;
+                                 says on standard error, every 5 seconds, how far it is
        compare show SEED INDEX   one input, and what each codec makes of it";
 
 fn main() -> ExitCode {
@@ -28,9 +29,24 @@ fn run(words: &[&str]) -> Option<ExitCode> {
     }
 }
 
+/// Seconds from one word of progress to the next.
+const EVERY: u64 = 5;
+
+/// Says on standard error how many inputs are done, every few seconds.
+fn progress(start: Instant, count: u64) -> impl FnMut(u64) {
+    let mut next = EVERY;
+    move |done| {
+        let seconds = start.elapsed().as_secs();
+        if seconds >= next {
+            eprintln!("{done} of {count} inputs after {seconds} s");
+            next = seconds + EVERY;
+        }
+    }
+}
+
 fn compare_all(seed: u64, count: u64) -> ExitCode {
     let start = Instant::now();
-    match compare(seed, count) {
+    match compare(seed, count, progress(start, count)) {
         Ok(coverage) => {
             let seconds = start.elapsed().as_secs_f64();
             println!("{coverage}\n{count} inputs without a difference in {seconds:.2} s");

@@ -9,7 +9,7 @@ const COUNT: u64 = 200_000;
 #[test]
 fn over_many_inputs() {
     let coverage =
-        compare::compare(SEED, COUNT).unwrap_or_else(|difference| panic!("{difference}"));
+        compare::compare(SEED, COUNT, |_| ()).unwrap_or_else(|difference| panic!("{difference}"));
     println!("{coverage}");
     assert_eq!(coverage.lacking(), [""; 0]);
     assert_eq!(coverage.surplus(), [""; 0]);
