@@ -1,5 +1,6 @@
 //! On x86-64, links the codec's static library. Elsewhere the crate `far`
-//! stands in for it, and there is nothing to link.
+//! stands in for it, and there is nothing to link. The tests are told for which
+//! target they are built.
 
 use std::env;
 use std::path::PathBuf;
@@ -7,6 +8,8 @@ use std::process::exit;
 
 fn main() {
     println!("cargo::rerun-if-changed=build.rs");
+    let target = env::var("TARGET").unwrap_or_default();
+    println!("cargo::rustc-env=CODEC_TARGET={target}");
     if env::var("CARGO_CFG_TARGET_ARCH").as_deref() != Ok("x86_64") {
         return;
     }

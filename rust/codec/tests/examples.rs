@@ -1,7 +1,7 @@
 //! The example prints what stands beside it.
 
 use std::env;
-use std::path::PathBuf;
+use std::path::{Path, PathBuf};
 use std::process::Command;
 
 /// An example that cargo has built beside this test: a full `cargo test` builds
@@ -12,10 +12,24 @@ fn example(name: &str) -> PathBuf {
     folder.join("examples").join(name)
 }
 
+/// Runs a program as cargo runs this test: where its environment names a runner
+/// for the target, by that one.
+fn command(program: &Path) -> Command {
+    let target = env!("CODEC_TARGET").replace('-', "_").to_uppercase();
+    let runner = env::var(format!("CARGO_TARGET_{target}_RUNNER")).unwrap_or_default();
+    let mut words = runner.split_whitespace();
+    let Some(first) = words.next() else {
+        return Command::new(program);
+    };
+    let mut command = Command::new(first);
+    command.args(words).arg(program);
+    command
+}
+
 #[test]
 fn area() {
     let path = example("area");
-    let ran = Command::new(&path)
+    let ran = command(&path)
         .output()
         .unwrap_or_else(|error| panic!("{}: {error}", path.display()));
     assert!(ran.status.success(), "{ran:?}");

@@ -62,7 +62,7 @@ impl Coding {
             let [low, high] = self.pair(octet);
             union | low | high
         });
-        union != SPARE && last.is_none_or(|octet| octet < 0x10 && self.lists(octet))
+        union != SPARE && last.map_or(true, |octet| octet < 0x10 && self.lists(octet))
     }
 
     fn lists(&self, code: u8) -> bool {

@@ -96,14 +96,12 @@ impl<'i> Rest<'i> {
     }
 
     fn array<const N: usize>(&mut self) -> Option<[u8; N]> {
-        let (first, rest) = self.0.split_first_chunk()?;
-        self.0 = rest;
-        Some(*first)
+        self.octets(N)?.try_into().ok()
     }
 
     fn octets(&mut self, len: usize) -> Option<&'i [u8]> {
-        let (first, rest) = self.0.split_at_checked(len)?;
-        self.0 = rest;
+        let first = self.0.get(..len)?;
+        self.0 = &self.0[len..];
         Some(first)
     }
 }

@@ -241,13 +241,13 @@ impl Written {
     fn take_transfer<'i>(&mut self, octets: &'i [u8]) -> Option<&'i [u8]> {
         let (head, rest) = octets.split_first_chunk::<11>()?;
         let count = u16::from_le_bytes([head[9], head[10]]);
-        let (values, rest) = rest.split_at_checked(count.into())?;
+        let values = rest.get(..count.into())?;
         self.transfers.push(Transfer {
             header: head[0],
             values: values.to_vec(),
             ..Transfer::default()
         });
-        Some(rest)
+        Some(&rest[values.len()..])
     }
 
     /// Whether a parameter has so many dialled digits.
