@@ -1,5 +1,5 @@
--- The three demands. Each is one statement, `Demand1` to `Demand3`, about what the functions promise (annex: Promises), so about every
--- program that keeps the promises, ours among them; `demand-1` to `demand-3` prove them, citing what stands in theorems, tight and boundary.
+-- The three demands. Each is one statement, `Demand1` to `Demand3`, about what the functions promise (annex: Promises), and so about every
+-- program that keeps the promises, ours among them; `demand-1` to `demand-3` prove them from what stands in `theorems`.
 --
 -- A function answers `r`; `now` is what it leaves in the memory it was lent. A slice of octets is a list of numbers, each below 256
 -- (`Octetwise`), and a struct has arrays of their lengths, with numbers that fit their fields (`FitsStruct`): that is what the types say.

@@ -169,7 +169,8 @@ others q (p ∷ ahead) behind o = (go (eqb (p .header) (q .header)) refl, others
     go : (b : Bool) → eqb (p .header) (q .header) ≡ b → b ≡ false
     go true e =
         let same : nameOf (q .header) ≡ nameOf (p .header) = rw (eqb-true (p .header) (q .header) e) in
-        absurd (omega (arith, rw (eq-eqb (nameOf (q .header)) (nameOf (p .header)) same) at (o (nameOf (q .header))), named-there q ahead behind))
+        let twice = rw (eq-eqb (nameOf (q .header)) (nameOf (p .header)) same) at (o (nameOf (q .header))) in
+        absurd (omega (arith, twice, named-there q ahead behind))
     go false e = refl
 
 -- a common parameter, in front of which these stand
@@ -233,7 +234,8 @@ module _ (r : List Part) (a : Allowed r) (d : Parted r) where
 module _ (r : List Part) (a : Allowed r) (p : Each Plain r) where
   no-data-found : commonFound transfer-data (layout r) ≡ Nowhere
   unfolding commonFound
-  no-data-found = rw (laid-then-listed r a) (rw append-nil at (common-behind transfer-data r [] 0 p) ∙ common-end (0 + length (layoutParts r)))
+  no-data-found =
+      rw (laid-then-listed r a) (rw append-nil at (common-behind transfer-data r [] 0 p) ∙ common-end (0 + length (layoutParts r)))
 
   no-transfer-found : (x which : ℕ) → transferFound x which (layout r) ≡ Nowhere
   unfolding transferFound
