@@ -1,5 +1,5 @@
--- Listings that the promise shuts out, each with the message at which it breaks it.
-use Prim.Native.Nat.{ℕ, _≤_}
+-- Listings that the promise shuts out: an invented row count of any message, the others at a message at which they break it.
+use Prim.Native.Nat.{ℕ, _+_, _≤_}
 use native.Mathlib.Omega.{arith}
 use mathlib.Core.Path.{_≡_, refl, ap, _∙_}
 use mathlib.Core.Bool.{Bool, true, false}
@@ -9,8 +9,20 @@ use lib.ListN.{length, getD, drop}
 use borrow.Author.Tests.{le-ltb}
 use Rattle.annex.specs.Answers.{no-room, numberOf, givenOf, refuse}
 use Rattle.annex.specs.Units.{afterOf, leadOf, commonExtentOf}
+use Rattle.annex.specs.Allowed.{every, isOctet, itemsIn}
 use Rattle.annex.specs.Walk.{walk}
-use Rattle.annex.specs.Reading.{octetAllowed, commonForm, endOf, dataBy, commonBy, messageVerdictBy, verdictBy, commonsBy}
+use Rattle.annex.specs.Reading.{
+  verdictOf,
+  recordOf,
+  octetAllowed,
+  commonForm,
+  endOf,
+  dataBy,
+  commonBy,
+  messageVerdictBy,
+  verdictBy,
+  commonsBy,
+}
 use Rattle.annex.specs.Spans.{rowsOf, spansOf, tableOf, commonRowsBy, rowsBy, spansBy}
 use Rattle.annex.specs.Promises.{SpansPromise}
 use Rattle.annex.specs.Bench.{K}
@@ -18,6 +30,7 @@ use Rattle.annex.specs.declared.Answer.{Answer}
 use Rattle.annex.specs.declared.Answer.the-variants.{Accepted}
 use Rattle.annex.specs.declared.Row.{Row}
 use Rattle.laws.specs.Listed.{noRow}
+use Rattle.theorems.specs.Listings.{row-count}
 
 -- the shortest accepted message, case 2 of the bench table
 abbrev pub short : List ℕ
@@ -35,13 +48,17 @@ unfolding afterOf leadOf commonExtentOf walk octetAllowed commonForm endOf dataB
     rowsBy spansBy
 short-listed room = (refl, refl)
 
--- an invented row count: any but 3
-pub invented-count-breaks : (n : ℕ) → (n ≡ 3 → ⊥) → (table now : List Row) → SpansPromise short table (Accepted n) now → ⊥
-invented-count-breaks n other table now p = other (go (ltb (length table) 3) (p .0 ∙ short-listed (length table) .1))
+-- an invented row count, whatever the message: any but that of the record's parameters and the end mark
+pub invented-count-breaks : (m : List ℕ) → every isOctet m ≡ true → (k : ℕ) → verdictOf m ≡ Accepted k → (n : ℕ)
+    → (n ≡ 1 + length (recordOf m) + length (itemsIn (recordOf m)) → ⊥) → (table now : List Row) → SpansPromise m table (Accepted n) now
+    → ⊥
+unfolding spansBy
+invented-count-breaks m o k e n other table now p =
+    other (go (ltb (length table) (length (rowsOf m))) (rw e at (p .0)) ∙ row-count m o k e)
   where
-    go : (b : Bool) → Accepted n ≡ refuse b no-room 0 (Accepted 3) → n ≡ 3
-    go true e = absurd (let z : _≡_ {A = ℕ} 0 15 = ap numberOf e in omega arith)
-    go false e = ap givenOf e
+    go : (b : Bool) → Accepted n ≡ refuse b no-room 0 (Accepted (length (rowsOf m))) → n ≡ length (rowsOf m)
+    go true f = absurd (let z : _≡_ {A = ℕ} 0 15 = ap numberOf f in omega arith)
+    go false f = ap givenOf f
 
 -- a row left out: the end mark's stands where that of the signal kind has to stand
 pub lost-row-breaks : (table now : List Row) (r : Answer) → 3 ≤ length table
