@@ -1,6 +1,6 @@
 -- The headers and limits: document 01, "Common part" (the table of headers, the signal kinds) and "Transfer data" (the lists under
 -- PLI 01, PLI 10 and PLI 11, the names with no layout, the unused names).
-use Prim.Native.Nat.{ℕ, zero, suc, _+_, _*_, _%_}
+use Prim.Native.Nat.{ℕ, zero, suc, _+_}
 use mathlib.Core.Bool.{Bool, false, cond, not, _&&_, _||_}
 use mathlib.Core.List.{List, [], _∷_, map}
 use lib.Dec.{eqb}
@@ -54,11 +54,7 @@ listedHeaders = end-mark ∷ commonHeaders
 abbrev pub isCall : ℕ → Bool
 isCall h = eqb h partners-call || eqb h own-call
 
--- Common part, 06: H0 in the high half (house), H1 in the low half
-abbrev pub signalOf : ℕ → ℕ → ℕ
-signalOf h0 h1 = 16 * (h0 % 16) + h1 % 16
-
--- Common part, the signal kinds; and the one user class that is allowed
+-- Common part, 06: the signal kinds, H0 in the high half (house), H1 in the low half; and the one user class that is allowed
 abbrev pub signalKinds : List ℕ
 signalKinds =
     0x11 ∷ 0x12 ∷ 0x23 ∷ 0x24 ∷ 0x25 ∷ 0x26 ∷ 0x31 ∷ 0x61 ∷ 0x62 ∷ 0x71 ∷ 0x72 ∷ 0x73 ∷ 0x74 ∷ []

@@ -2,7 +2,6 @@
 // What they mean is said in specs/, which is all that a reader has to believe.
 ghost use Rattle.annex.specs.Promises.{Gives};
 ghost use Rattle.annex.specs.Units.{octetsOf};
-ghost use Rattle.annex.specs.Heads.{signalOf};
 ghost use Rattle.annex.specs.Records.{valueHead, dataHead, carriedHead, dialledHead, numberHead, noCommon, noTransfer};
 
 // What a call answers: accepted, with a count, or refused, with a number and a place.
@@ -435,13 +434,6 @@ impl Signal {
     pub const CHANNEL_INITIAL: u8 = 0x73;
 
     pub const CHANNEL_INITIAL_RESPONSE: u8 = 0x74;
-
-    // The kind with this H0 and H1, each taken as four bits.
-    pub fn of(h0: u8, h1: u8) -> Signal
-        ensures { λ r. ⌜ Gives (signalOf h0 h1) (r .0) ⌝ }
-    {
-        Signal(16 * (h0 % 16) + h1 % 16)
-    }
 }
 
 // A record: the first `commons` of `common`; the parameters of its C5s one after the other in `transfer`; their values one after

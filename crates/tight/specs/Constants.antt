@@ -11,7 +11,7 @@ use lib.Dec.{eqb, leb}
 use lib.ListN.{length, getD, drop}
 use Rattle.annex.specs.Answers.{numberOf, givenOf, faultNumberOf, stopOf, over-limits, refuse, soundThen, headerAt}
 use Rattle.annex.specs.Units.{octetsOf, afterOf, leadOf, commonExtentOf, extentOf}
-use Rattle.annex.specs.Heads.{clear, among, listedHeaders, isCall, signalOf, nameUsed, pliRight, oftenOf, zeroesOf, formOf}
+use Rattle.annex.specs.Heads.{clear, among, listedHeaders, isCall, nameUsed, pliRight, oftenOf, zeroesOf, formOf}
 use Rattle.annex.specs.Digits.{halves, joined, digitOf, codeOf, isCode, isDigit, halvesFault, digitsFault, digitsOf, packed}
 use Rattle.annex.specs.Contents.{formedThen, dialledFault, faultOf}
 use Rattle.annex.specs.Items.{plainItem, holdingOf, openBy, itemOf, contentsOf, ownOf}
@@ -96,7 +96,6 @@ rows =
     (carriedHead 0xCC 1 .len, carriedHead 0xCC 2 .len) ∷  -- Transfer::carried
     (dialledHead 0x91 1 0 0 2 .notification, dialledHead 0x91 0 1 0 2 .notification) ∷  -- Transfer::dialled
     (numberHead 0xD7 0x83 0x11 1 .plan, numberHead 0xD7 0x83 0x21 1 .plan) ∷  -- Transfer::number
-    (signalOf 1 2, signalOf 2 1) ∷  -- Signal::of
     (afterOf (extentOf 0x07) 0, afterOf (extentOf 0x41) 0) ∷  -- extent_of
     (afterOf (commonExtentOf 0x01) 0, afterOf (commonExtentOf 0x83) 0) ∷  -- common_extent_of
     (afterOf CountOctet 4, afterOf LengthOctet 4) ∷  -- octets_after
