@@ -11,6 +11,8 @@ use Rattle.annex.specs.Heads.{end-mark, transfer-data, kth}
 use Rattle.annex.specs.Walk.{Par}
 use Rattle.annex.specs.Reading.{verdictOf, commonsOf, transfersOf, dataIn}
 use Rattle.annex.specs.declared.Extent.{Extent}
+use Rattle.annex.specs.declared.Key.{Key}
+use Rattle.annex.specs.declared.Key.the-variants.{Header, Name}
 use Rattle.annex.specs.declared.Found.{Found}
 use Rattle.annex.specs.declared.Found.the-variants.{At, Nowhere}
 use Rattle.annex.specs.declared.Answer.{Answer}
@@ -43,6 +45,11 @@ transferAmong x which (q ∷ qs) =
 
 unfoldable pub transferFound : ℕ → ℕ → List ℕ → Found
 transferFound x which m = transferAmong x which (commonsOf m)
+
+-- by a key: a header, or a name and which of those with it
+abbrev pub foundBy : Key → List ℕ → Found
+foundBy (Header h) m = commonFound h m
+foundBy (Name x which) m = transferFound x which m
 
 -- the second question: accepted, with where the contents start, or number and place
 abbrev pub foundAnswer : Found → Answer

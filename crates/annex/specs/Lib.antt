@@ -20,3 +20,7 @@ pub mod Classes
 pub mod Packed
 pub mod Promises
 pub mod Bench
+-- And what the functions give that serve these: no rules of document 01, and no promise of the product rests on them.
+pub mod Walking
+pub mod Memory
+pub mod Opening

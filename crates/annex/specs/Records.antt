@@ -97,10 +97,14 @@ rawItem t vs =
 abbrev pub rawPart : Common → List Item → Part
 rawPart c is = part (c .header) (c .value) is
 
--- the parameters of which these are the heads, with their values one after the other; what a parameter does not have is no part of it
+-- the transfer parameter with this head and these values; what a parameter does not have is no part of it
+abbrev pub itemFrom : Transfer → List ℕ → Item
+itemFrom t vs = ownOf (rawItem t vs)
+
+-- the parameters of which these are the heads, with their values one after the other
 unfoldable pub viewItems : List Transfer → List ℕ → List Item
 viewItems [] vs = []
-viewItems (t ∷ ts) vs = ownOf (rawItem t (take (t .len) vs)) ∷ viewItems ts (drop (t .len) vs)
+viewItems (t ∷ ts) vs = itemFrom t (take (t .len) vs) ∷ viewItems ts (drop (t .len) vs)
 
 unfoldable pub lengthsOf : List Transfer → ℕ
 lengthsOf [] = 0

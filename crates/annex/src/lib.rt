@@ -489,6 +489,12 @@ impl Row {
     pub const OCTETS: usize = 5;
 }
 
+// Where a walk over a message stands. at: the next header. end: where the C5 ends that this header is in, and outside C5 `at` too.
+pub struct Cursor {
+    pub at: usize,
+    pub end: usize,
+}
+
 // The class of a code value.
 pub enum Class {
     Named,

@@ -31,7 +31,7 @@ use Rattle.annex.specs.Layout.{layoutItems, layout}
 use Rattle.annex.specs.Allowed.{every, isOctet, headersOf, itemsIn, namesOf, timesIn}
 use Rattle.annex.specs.Reading.{verdictOf, recordOf}
 use Rattle.annex.specs.Packed.{oneNumber, packedAnswer, row-octets, octetSpans}
-use Rattle.annex.specs.Finding.{foundAnswer, foundPart, findAnswer, findPart}
+use Rattle.annex.specs.Finding.{foundAnswer, foundPart, findAnswer, findPart, foundBy}
 use Rattle.annex.specs.Spans.{rowsOf, spansBy}
 use Rattle.annex.specs.Editing.{Edit, newHeader, newAfter, newHead, newContents, editRefusal, edited, recordEditing, editingOf}
 use Rattle.annex.specs.Editing.Edit.{Replacing, Appending, Removing}
@@ -48,7 +48,7 @@ use Rattle.annex.specs.declared.ClassAnswer.the-variants as classes
 use Rattle.laws.specs.Few.{rows-few}
 use Rattle.laws.specs.Offsets.{fault-within}
 use Rattle.laws.specs.Steps.{PlaceTo, accepted-place, refuse-place, then-place, head-place, sound-place, place-told, verdict-place}
-use Rattle.laws.specs.Finding.{Inside, plainBy, plain-inside, foundBy, plain-found}
+use Rattle.laws.specs.Finding.{Inside, plainBy, plain-inside, plain-found}
 use Rattle.theorems.specs.Messages.{message-read}
 use Rattle.theorems.specs.Layouts.{laid-then-read}
 use Rattle.theorems.specs.Edits.{OfOctets, edited-allowed}

@@ -13,7 +13,7 @@ ghost use lib.Seq.{sets};
 ghost use Rattle.annex.specs.Promises.{Gives, Stores};
 ghost use Rattle.annex.specs.Digits.{isDigit, digitsOf, packed};
 ghost use Rattle.annex.specs.Allowed.{every};
-ghost use Rattle.laws.specs.Written.{atFront};
+ghost use Rattle.annex.specs.Memory.{atFront};
 
 // Whether each value is a digit. No turn leaves early, so that the compiler can take many at once.
 pub fn are_digits(values: &[u8]) -> bool

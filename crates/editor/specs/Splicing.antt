@@ -15,9 +15,10 @@ use Rattle.annex.specs.Layout.{layoutItems, layout}
 use Rattle.annex.specs.Allowed.{itemsIn}
 use Rattle.annex.specs.Editing.{Edit, editingOf, holding, bufferBy, bufferOf}
 use Rattle.annex.specs.Promises.{EditPromise}
+use Rattle.annex.specs.Memory.{spliceFits, spliced}
 use Rattle.annex.specs.declared.Answer.{Answer}
 use Rattle.annex.specs.declared.Answer.the-variants.{Accepted}
-use Rattle.octets.specs.Splice.{spliceFits, spliced, Fitting, set-spliced}
+use Rattle.octets.specs.Splice.{Fitting, set-spliced}
 use Rattle.theorems.specs.Reasons.{editedIn}
 use Rattle.theorems.specs.Splices.{Spliced, length-becomes, length-transfer, octets-become}
 use Rattle.editor.specs.Steps.{roomAnswer}

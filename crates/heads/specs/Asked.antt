@@ -1,7 +1,7 @@
 -- All that the lists ask of a header, as the code holds it, and that the code's look-up asks it: one table computed over the 256 headers.
 use Prim.Native.Nat.{ℕ, zero, suc, _+_, _<_}
 use native.Mathlib.Omega.{arith}
-use mathlib.Core.Path.{_≡_, refl}
+use mathlib.Core.Path.{_≡_, refl, _∙_}
 use mathlib.Core.Bool.{Bool, true, false, cond, not, _||_}
 use mathlib.Core.List.{List, [], _∷_, map}
 use borrow.Author.Tests.{eqb-true, eqb-false}
@@ -20,19 +20,12 @@ abbrev asked : Bool → Bool → ℕ → Form → Asked
 asked u r z f = record { used = u; right = r; zeroes = z; form = f }
 
 -- what the definitions ask of a header
-abbrev pub askedOf : ℕ → Asked
+abbrev askedOf : ℕ → Asked
 askedOf h = asked (nameUsed h) (pliRight h) (zeroesOf h) (formOf h)
 
--- each thing by itself
-module _ (h : ℕ) (r : Asked) (e : r ≡ askedOf h) where
-  pub used-of : r .used ≡ nameUsed h
-  used-of = rw e
-
-  pub right-of : r .right ≡ pliRight h
-  right-of = rw e
-
-  pub form-of : r .form ≡ formOf h
-  form-of = rw e
+-- the same thing by thing
+abbrev pub Asks : ℕ → Asked → Type 0
+Asks h r = (r .used ≡ nameUsed h) × (r .right ≡ pliRight h) × (r .zeroes ≡ zeroesOf h) × (r .form ≡ formOf h)
 
 -- ---- as the code looks it up
 
@@ -87,9 +80,12 @@ module _ {A : Type 0} (f g : ℕ → A) where
 abbrev lookedUp : ℕ → Asked
 lookedUp h = askedBy (layoutOf h) h
 
-pub asks : (h : ℕ) → h < 256 → askedBy (layoutOf h) h ≡ askedOf h
+asked-same : (h : ℕ) → h < 256 → lookedUp h ≡ askedOf h
 unfolding layoutOf nameUsed pliRight zeroesOf formOf
-asks h l = same-below lookedUp askedOf 256 refl h l
+asked-same h l = same-below lookedUp askedOf 256 refl h l
+
+pub asks : (h : ℕ) → h < 256 → (r : Asked) → r ≡ askedBy (layoutOf h) h → Asks h r
+asks h l r e = let f = e ∙ asked-same h l in (rw f, rw f, rw f, rw f)
 
 -- ---- a header in no list
 

@@ -8,10 +8,10 @@ ghost use mathlib.Core.Path.{_≡_};
 ghost use Prim.Native.Nat.{_<_};
 ghost use Rattle.annex.specs.Promises.{Gives};
 ghost use Rattle.annex.specs.Units.{pliOf};
-ghost use Rattle.annex.specs.Heads.{among, freeNames, oftenOf};
+ghost use Rattle.annex.specs.Heads.{among, freeNames, oftenOf, nameUsed, pliRight, zeroesOf, formOf};
 ghost use Rattle.annex.specs.Writing.{headWriting};
 ghost use Rattle.annex.specs.declared.Answer.the-variants.{Accepted};
-ghost use Rattle.heads.specs.Asked.{layoutOf, nameListed, unlistedForm, askedOf};
+ghost use Rattle.heads.specs.Asked.{layoutOf, nameListed, unlistedForm};
 
 // A row of the lists: whether there is one, the bits of the first octet of the contents that must be 0, the form.
 struct Layout(bool, u8, Form);
@@ -152,9 +152,11 @@ fn unlisted(pli: u8) -> Form
     }
 }
 
-// All that is asked of a header.
+// All that is asked of a header: whether its name is used, and under this PLI; which bits of the first octet of its contents must be 0;
+// their form.
 pub fn head_of(header: u8) -> Asked
-    ensures { λ r. ⌜ Gives (askedOf header) r ⌝ }
+    ensures { λ r. ⌜ Gives (nameUsed header) (r .used) × Gives (pliRight header) (r .right) ×
+        Gives (zeroesOf header) (r .zeroes) × Gives (formOf header) (r .form) ⌝ }
 {
     let row = layout_of(header);
     let form = row.2;
@@ -184,7 +186,7 @@ pub fn head_of(header: u8) -> Asked
     }
 }
 
-// 8, then 9, of a header that is to be written, in a record or as the new parameter of an edit.
+// 8, then 9, of a header that is to be written, in a record or as the new parameter of an edit; else accepted with 0.
 pub fn head_writing(header: u8) -> Answer
     ensures { λ r. ⌜ Gives (headWriting 0 header (Accepted 0)) r ⌝ }
 {

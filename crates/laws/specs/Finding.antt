@@ -13,57 +13,18 @@ use Rattle.annex.specs.Heads.{end-mark, transfer-data, kth}
 use Rattle.annex.specs.Allowed.{Each}
 use Rattle.annex.specs.Walk.{Par}
 use Rattle.annex.specs.Reading.{transfersOf, verdictOf, dataIn}
-use Rattle.annex.specs.Finding.{stretchOf, commonIn, commonFound, transferIn, transferAmong, transferFound}
+use Rattle.annex.specs.Finding.{stretchOf, commonIn, commonFound, transferIn, transferAmong, transferFound, foundBy}
 use Rattle.annex.specs.declared.Answer.the-variants.{Accepted}
-use Rattle.annex.specs.declared.Extent.{Extent}
 use Rattle.annex.specs.declared.Key.{Key}
 use Rattle.annex.specs.declared.Key.the-variants.{Header, Name}
 use Rattle.annex.specs.declared.Found.{Found}
 use Rattle.annex.specs.declared.Found.the-variants.{At, Nowhere}
 use Rattle.annex.specs.Contents.{faultOf}
+use Rattle.annex.specs.Walking.{sizeBy, isSought, whichOf, extentBy, wholeOf, soughtIn, contentsAt, contentsFound, commonPlain}
 use Rattle.laws.specs.Extents.{lead-within}
 use Rattle.laws.specs.Parts.{from-to}
-use Rattle.laws.specs.Plain.{sizeBy, commonSize, transferSize, pars, Lies, pars-lie}
+use Rattle.laws.specs.Plain.{commonSize, transferSize, Lies, pars-lie}
 use Rattle.laws.specs.Plain.{transfers-plain, commons-plain, InnerSound, commons-inner}
-
--- ---- the parameter that a key asks for
-
--- whether it asks for the header x, which of those it asks for, and what the PLI of x says
-abbrev pub isSought : Key → ℕ → Bool
-isSought (Header h) x = eqb x h
-isSought (Name n which) x = eqb n (nameOf x)
-
-abbrev pub whichOf : Key → ℕ
-whichOf (Header h) = 0
-whichOf (Name n which) = which
-
-abbrev pub extentBy : Key → ℕ → Extent
-extentBy (Header h) x = commonExtentOf x
-extentBy (Name n which) x = extentOf x
-
--- a parameter from its header to its end
-abbrev wholeOf : Par → Found
-wholeOf q = At (q .place) (q .place + 1 + length (q .own))
-
--- behind so many that it asks for
-unfoldable pub soughtIn : Key → ℕ → List Par → Found
-soughtIn k which [] = Nowhere
-soughtIn k which (q ∷ qs) = cond (isSought k (q .head)) (kth which (wholeOf q) (λ w. soughtIn k w qs)) (soughtIn k which qs)
-
--- in the octets t from the octet i on, by the length rule alone
-abbrev pub searchFrom : Key → ℕ → ℕ → List ℕ → Found
-searchFrom k which i t = soughtIn k which (pars (sizeBy (extentBy k)) 0 i (drop i t))
-
-abbrev pub searchIn : Key → List ℕ → Found
-searchIn k t = searchFrom k (whichOf k) 0 t
-
--- the contents of a parameter of t
-abbrev pub contentsAt : Key → List ℕ → Found → Found
-contentsAt k t (At i e) = At (i + 1 + leadOf (extentBy k (getD t i 0))) e
-contentsAt k t Nowhere = Nowhere
-
-abbrev pub contentsFound : Key → List ℕ → Found
-contentsFound k t = contentsAt k t (searchIn k t)
 
 -- ---- what is found lies within n octets
 
@@ -94,10 +55,6 @@ pub search-inside : (k : Key) (t : List ℕ) → Inside (length t) (contentsFoun
 search-inside k t = sought-inside k (whichOf k) t _ (pars-lie (sizeBy (extentBy k)) t t 0 0 refl)
 
 -- ---- in a message, by the length rule alone
-
--- of a common parameter: the end mark has no contents to be found
-abbrev pub commonPlain : ℕ → List ℕ → Found
-commonPlain h m = cond (eqb h end-mark) Nowhere (contentsFound (Header h) m)
 
 -- of a transfer parameter with the name x, in the transfer data t
 abbrev pub transferSearch : ℕ → ℕ → List ℕ → Found
@@ -147,10 +104,6 @@ plain-inside (Header h) m = common-inside h m
 plain-inside (Name x which) m = transfer-inside x which m
 
 -- ---- in an accepted message it is what the definition finds
-
-abbrev pub foundBy : Key → List ℕ → Found
-foundBy (Header h) m = commonFound h m
-foundBy (Name x which) m = transferFound x which m
 
 -- the first of some parameters by g
 first-by : (b : Bool) (g : Found → Found) (f f′ r r′ : Found) → (b ≡ true → f ≡ g f′) → r ≡ g r′ → cond b f r ≡ g (cond b f′ r′)

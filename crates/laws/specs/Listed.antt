@@ -14,10 +14,6 @@ use Rattle.annex.specs.declared.Answer.{Answer}
 use Rattle.annex.specs.declared.Answer.the-variants.{Accepted, Refused}
 use Rattle.annex.specs.declared.Row.{Row}
 
--- what a place without a row is read as
-abbrev pub noRow : Row
-noRow = record { offset = 0; header = 0; len = 0 }
-
 -- the rows that a listing gives after an answer: none after a refusal
 abbrev pub rowsAfter : Answer → List Row → List Row
 rowsAfter (Accepted n) rows = rows

@@ -1,5 +1,5 @@
--- The parameters of octets by the length rule alone, with no other check: what the code walks over once a message is accepted. For accepted
--- octets they are the listed ones.
+-- Laws of the parameters of octets by the length rule alone, which the code walks over once a message is accepted: for accepted octets they
+-- are the listed ones.
 use mathlib.Core.Path.{_≡_, refl, sym, ap, _∙_}
 use mathlib.Core.Bool.{Bool, true, false, cond, not, _||_}
 use mathlib.Core.List.{List, [], _∷_}
@@ -35,33 +35,17 @@ use Rattle.annex.specs.Reading.{
   dataBy,
   commonStepBy,
 }
+use Rattle.annex.specs.Walking.{Size, sizeBy, parOf, pars}
 use Rattle.annex.specs.declared.Extent.{Extent}
 use Rattle.annex.specs.declared.Answer.{Answer}
 use Rattle.annex.specs.declared.Answer.the-variants.{Accepted, Refused}
 use Rattle.laws.specs.Steps.{passed, transfer-taken, common-taken, common-formed, common-within, data-taken}
-
--- how many octets after a header are its own, of the octets after it
-abbrev pub Size : Type 0
-Size = ℕ → List ℕ → ℕ
-
-abbrev pub sizeBy : (ℕ → Extent) → Size
-sizeBy ext h xs = afterOf (ext h) (getD xs 0 0)
 
 abbrev pub commonSize : Size
 commonSize = sizeBy commonExtentOf
 
 abbrev pub transferSize : Size
 transferSize = sizeBy extentOf
-
-abbrev parOf : ℕ → ℕ → ℕ → List ℕ → Par
-parOf p h n xs = record { place = p; head = h; own = take n xs }
-
--- up to the first that is cut
-unfoldable pub pars : Size → ℕ → ℕ → List ℕ → List Par
-pars size k p [] = []
-pars size (suc k) p (x ∷ xs) = pars size k (p + 1) xs
-pars size zero p (x ∷ xs) =
-    cond (leb (size x xs) (length xs)) (parOf p x (size x xs) xs ∷ pars size (size x xs) (p + 1) xs) []
 
 module _ (size : Size) where
   pars-none : (k p : ℕ) → pars size k p [] ≡ []

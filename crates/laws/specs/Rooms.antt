@@ -6,7 +6,8 @@ use mathlib.Core.List.{List, [], _∷_, _++_, map-append, append-nil, append-ass
 use borrow.Rule.Slice.PartMut.{putMid}
 use lib.ListN.{length, take, drop, set, length-append, length-drop}
 use lib.Seq.{sets}
-use Rattle.laws.specs.Written.{lowOctets, atFront, length-low, written-length, written-then}
+use Rattle.annex.specs.Memory.{lowOctets, atFront}
+use Rattle.laws.specs.Written.{length-low, written-length, written-then}
 use Rattle.laws.specs.Fronts.{front-all}
 use Rattle.laws.specs.Parts.{to-end}
 use Rattle.laws.specs.Stores.{sets-snoc}

@@ -36,13 +36,12 @@ use Rattle.annex.specs.declared.Answer.the-variants.{Accepted, Refused}
 use Rattle.annex.specs.declared.Row.{Row}
 use Rattle.annex.specs.declared.Extent.{Extent}
 use Rattle.annex.specs.Contents.{faultOf}
+use Rattle.annex.specs.Walking.{Size, pars}
 use Rattle.laws.specs.Members.{sumOf}
 use Rattle.laws.specs.Steps.{passed, transfer-taken, common-within}
 use Rattle.laws.specs.Plain.{
-  Size,
   commonSize,
   transferSize,
-  pars,
   pars-turn,
   commons-plain,
   transfers-plain,

@@ -3,22 +3,15 @@ use Prim.Native.Nat.{ℕ, zero, suc, _+_, _-_, _%_, _<_, _≤_}
 use native.Mathlib.Omega.{arith}
 use mathlib.Core.Path.{_≡_, refl, sym, ap, _∙_}
 use mathlib.Core.Bool.{true}
-use mathlib.Core.List.{List, [], _∷_, _++_, map, map-append}
+use mathlib.Core.List.{List, [], _∷_, _++_, map-append}
 use borrow.Author.Tests.{ltb-true, lt-ltb}
 use borrow.Rule.Slice.PartMut.{putMid}
 use lib.ListN.{length, getD, take, drop, set, length-append, length-map}
 use lib.Seq.{sets}
 use Rattle.annex.specs.Allowed.{every, isOctet}
+use Rattle.annex.specs.Memory.{lowOctets, atFront}
 use Rattle.laws.specs.Bools.{and-left, and-right}
 use Rattle.laws.specs.Fronts.{front-turn, front-end, front-length, front-then}
-
--- each number modulo 256
-abbrev pub lowOctets : List ℕ → List ℕ
-lowOctets xs = map (λ x. x % 256) xs
-
--- numbers written at the front of the room, and behind them what it held
-abbrev pub atFront : List ℕ → List ℕ → List ℕ
-atFront xs room = lowOctets xs ++ drop (length xs) room
 
 -- octets of a slice as octets of a list
 pub octets-every : (s : List ℕ) → ((i : ℕ) → getD s i 0 < 256) → every isOctet s ≡ true

@@ -33,10 +33,9 @@ ghost use Rattle.annex.specs.Items.{holdingOf, upperMarks, numberContents, cont
 ghost use Rattle.annex.specs.declared.Holding.the-variants.{AsDigits, AsGeneric};
 ghost use Rattle.annex.specs.Layout.{layoutItem};
 ghost use Rattle.annex.specs.Allowed.{lengthFits, lengthRight, marksRight, fieldsRight, withheldRight, numberRight, valuesFault, faultAs};
-ghost use Rattle.annex.specs.Records.{rawItem};
+ghost use Rattle.annex.specs.Records.{rawItem, itemFrom};
 ghost use Rattle.annex.specs.Writing.{itemWriting};
-ghost use Rattle.laws.specs.Written.{atFront};
-ghost use Rattle.layout.specs.Laying.{itemFrom};
+ghost use Rattle.annex.specs.Memory.{atFront};
 
 // How the values under this header are held.
 fn held_as(header: u8, values: &[u8]) -> Holding

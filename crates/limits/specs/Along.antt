@@ -22,11 +22,11 @@ use Rattle.annex.specs.Records.{
   commonsIn,
   view,
   rawPart,
+  itemFrom,
 }
 use Rattle.annex.specs.declared.Common.{Common}
 use Rattle.annex.specs.declared.Transfer.{Transfer}
 use Rattle.annex.specs.declared.Record.{Record}
-use Rattle.layout.specs.Laying.{itemFrom}
 
 -- the common parameter with this head and these transfer parameters; what it does not have is no part of it
 abbrev pub partFrom : Common → List Item → Part

@@ -5,15 +5,16 @@ use annex::Record;
 use annex::Transfer;
 use layout::contents_len;
 ghost use mathlib.Core.Path.{_≡_};
-ghost use mathlib.Core.Bool.{not};
+ghost use mathlib.Core.Bool.{not, _||_};
 ghost use Prim.Native.Nat.{_≤_};
+ghost use lib.ListN.{take};
 ghost use Rattle.annex.specs.Promises.{Gives};
 ghost use Rattle.annex.specs.Answers.{over-limits, refuse};
 ghost use Rattle.annex.specs.Allowed.{contentsSum};
-ghost use Rattle.annex.specs.Records.{transferCount, transfersSum, commonsIn, isWhole};
+ghost use Rattle.annex.specs.Records.{lengthsOf, transferCount, transfersSum, commonsIn, isWhole, view};
+ghost use Rattle.annex.specs.Writing.{overLimits};
 ghost use Rattle.annex.specs.declared.Answer.the-variants.{Accepted};
-ghost use Rattle.limits.specs.Along.{usedAt, itemsAt, Within};
-ghost use Rattle.limits.specs.Limits.{isOver};
+ghost use Rattle.limits.specs.Along.{itemsAt, Within};
 
 // How many transfer parameters a common parameter holds: only a C5 has any.
 fn transfers_in(c: Common) -> u8
@@ -42,9 +43,10 @@ fn transfers_sum(q: Record) -> usize
     sum
 }
 
-// How many values the first n transfer parameters have together.
+// How many values the first n heads of the array of transfer parameters have together, whatever the record's counts are; all of them where
+// there are fewer than n.
 pub fn values_before(q: Record, n: usize) -> usize
-    ensures { λ r. ⌜ Gives (usedAt q n) r ⌝ }
+    ensures { λ r. ⌜ Gives (lengthsOf (take n (q .transfer))) r ⌝ }
 {
     let mut sum: usize = 0;
     let mut k: usize = 0;
@@ -103,9 +105,9 @@ fn contents_sum(q: Record, n: usize) -> usize
     sum
 }
 
-// Whether the record is over its limits.
+// Whether the record is over its limits, in its counts and lengths or in its contents.
 pub fn over_limits(q: Record) -> bool
-    ensures { λ r. ⌜ Gives (isOver q) r ⌝ }
+    ensures { λ r. ⌜ Gives (not (isWhole q) || overLimits (view q)) r ⌝ }
 {
     if !is_whole(q) {
         return true;

@@ -6,9 +6,10 @@ use native.Mathlib.Omega.{arith}
 use lib.ListN.{length, take, drop, replicate, length-take, length-drop, length-replicate}
 use lib.Seq.{take-at, drop-at, take-add, drop-append-add, length-take-le}
 use Rattle.annex.specs.Editing.{cleared}
+use Rattle.annex.specs.Memory.{put, splicedMessage, spliced}
 use Rattle.laws.specs.Parts.{from-to}
-use Rattle.octets.specs.Put.{put, part, length-part}
-use Rattle.octets.specs.Splice.{splicedMessage, spliced, Fitting, length-message}
+use Rattle.octets.specs.Put.{part, length-part}
+use Rattle.octets.specs.Splice.{Fitting, length-message}
 
 -- octets written where p ends
 put-seam : (p q s : List ℕ) (at : ℕ) → length p ≡ at → put (p ++ q) at s ≡ p ++ (s ++ drop (length s) q)

@@ -7,7 +7,7 @@ use native.Mathlib.Numerals.{add-one}
 use native.Mathlib.Omega.{arith}
 use lib.ListN.{length, take, drop, getD, set, take-append-drop, drop-of-length-le, length-set}
 use lib.Seq.{paste, paste-suc, take-suc, drop-cons, set-at, append-snoc, take-all, length-take-le}
-use Rattle.octets.specs.Put.{put}
+use Rattle.annex.specs.Memory.{put}
 
 -- ---- forward
 

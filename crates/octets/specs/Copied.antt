@@ -10,8 +10,8 @@ use lib.ListN.{length, take, drop, length-append}
 use lib.Seq.{sets, sets-eq, take-at, drop-append-add, drop-drop}
 use Rattle.annex.specs.Allowed.{every, isOctet}
 use Rattle.annex.specs.Promises.{Stores}
-use Rattle.laws.specs.Written.{lowOctets, atFront, low-octets, length-low, written-length}
-use Rattle.octets.specs.Put.{put}
+use Rattle.annex.specs.Memory.{lowOctets, atFront, put}
+use Rattle.laws.specs.Written.{low-octets, length-low, written-length}
 
 put-behind : (room first s : List ℕ) → every isOctet s ≡ true → put (atFront first room) (length first) s ≡ atFront (first ++ s) room
 unfolding put

@@ -1,14 +1,11 @@
--- What a stretch of stores leaves of octets, and what can be read of it afterwards.
+-- A part of octets, and laws of what can be read of octets that others were written over.
 use mathlib.Core.Path.{_≡_, refl, sym, ap, _∙_}
 use mathlib.Core.List.{List, _++_, append-assoc}
 use Prim.Native.Nat.{ℕ, _+_, _-_, _≤_, _<_}
 use native.Mathlib.Omega.{arith}
 use lib.ListN.{length, take, drop, getD, length-append, length-take, length-drop}
 use lib.Seq.{getD-take, getD-drop, take-at, drop-at, length-take-le}
-
--- d with s written over it from index at on
-unfoldable pub put : List ℕ → ℕ → List ℕ → List ℕ
-put d at s = take at d ++ (s ++ drop (at + length s) d)
+use Rattle.annex.specs.Memory.{put}
 
 -- the k octets of d from index from on
 unfoldable pub part : List ℕ → ℕ → ℕ → List ℕ

@@ -1,6 +1,7 @@
--- A stretch of a message replaced in the buffer that holds it, and what can be read of the buffer afterwards.
+-- Laws of a stretch of a message replaced in the buffer that holds it: that it fits, as facts, and what can be read of the buffer
+-- afterwards.
 use mathlib.Core.Path.{_≡_, ap, _∙_}
-use mathlib.Core.Bool.{Bool, true, _&&_}
+use mathlib.Core.Bool.{true, _&&_}
 use mathlib.Core.List.{List, _++_}
 use Prim.Native.Nat.{ℕ, _+_, _-_, _≤_, _<_}
 use native.Mathlib.Omega.{arith}
@@ -9,20 +10,8 @@ use lib.Dec.{leb}
 use lib.ListN.{length, take, drop, set, length-set, length-append, length-take, length-drop}
 use lib.Seq.{set-append-left, length-take-le}
 use Rattle.annex.specs.Editing.{cleared, holding}
+use Rattle.annex.specs.Memory.{splicedMessage, spliced, spliceFits}
 use Rattle.laws.specs.Bools.{and-left, and-right}
-
--- the message in the first n octets of d, with its old octets from index from on replaced by new
-abbrev pub splicedMessage : List ℕ → ℕ → ℕ → ℕ → List ℕ → List ℕ
-splicedMessage d n from old new = take from d ++ (new ++ drop (from + old) (take n d))
-
--- the buffer that then holds it
-unfoldable pub spliced : List ℕ → ℕ → ℕ → ℕ → List ℕ → List ℕ
-spliced d n from old new = holding d n (splicedMessage d n from old new)
-
--- whether the old octets lie within the message, the message within the buffer, and the new message too
-abbrev pub spliceFits : List ℕ → ℕ → ℕ → ℕ → List ℕ → Bool
-spliceFits d n from old new =
-    leb (from + old) n && (leb n (length d) && leb (n - old + length new) (length d))
 
 -- the same as facts
 pub record Fitting (d : List ℕ) (n from old : ℕ) (new : List ℕ) : Type 0 where

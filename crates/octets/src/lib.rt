@@ -6,8 +6,9 @@ ghost use Prim.Native.Nat.{_+_, _-_, _≤_};
 ghost use lib.Dec.{leb};
 ghost use lib.ListN.{length, getD, drop, replicate};
 ghost use Rattle.annex.specs.Promises.{Gives, Stores};
-ghost use Rattle.octets.specs.Put.{put, part};
-ghost use Rattle.octets.specs.Splice.{spliced, spliceFits, Fitting};
+ghost use Rattle.annex.specs.Memory.{put, spliced, spliceFits};
+ghost use Rattle.octets.specs.Put.{part};
+ghost use Rattle.octets.specs.Splice.{Fitting};
 
 // The octet at i, and 0 past the end.
 pub fn octet_at(octets: &[u8], i: usize) -> u8

@@ -5,10 +5,10 @@ use mathlib.Core.List.{List}
 use lib.ListN.{getD}
 use Rattle.annex.specs.Heads.{clear}
 use Rattle.annex.specs.Contents.{formedThen, faultBy, faultOf}
-use Rattle.heads.specs.Asked.{askedOf}
+use Rattle.heads.specs.Asked.{Asks}
 use Rattle.heads.specs.declared.Asked.{Asked}
 
-module _ (h : ℕ) (r : Asked) (e : r ≡ askedOf h) where
+module _ (h : ℕ) (r : Asked) (e : Asks h r) where
   pub fault-of : (s : List ℕ) → formedThen (clear (r .zeroes) (getD s 0 0)) (faultBy (r .form) s) ≡ faultOf h s
   unfolding faultOf
-  fault-of s = rw e
+  fault-of s = rw (e .2, e .3)

@@ -1,4 +1,4 @@
--- What the contracts of this crate's functions cite beside the definitions of `annex`, and laws of what they promise.
+-- Laws of what this crate's functions promise.
 pub mod Asked
 pub mod Opening
 pub mod Stored

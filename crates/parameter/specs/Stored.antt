@@ -10,7 +10,8 @@ use lib.Seq.{sets}
 use Rattle.annex.specs.Promises.{Stores}
 use Rattle.annex.specs.Items.{Item}
 use Rattle.annex.specs.Records.{headOf, noTransfer}
-use Rattle.parameter.specs.Opening.{headFor, valuesWith, without-room, with-room, room-left}
+use Rattle.annex.specs.Opening.{headFor, valuesWith}
+use Rattle.parameter.specs.Opening.{without-room, with-room, room-left}
 
 pub stored : (n m : ℕ) (r : Bool) (s before now : List ℕ) → Stores (leb n m) s before r now → n ≤ m → now ≡ s
 stored n m r s before now c h =

@@ -22,7 +22,7 @@ ghost use Rattle.annex.specs.Contents.{countOf};
 ghost use Rattle.annex.specs.Items.{holdingOf, openBy, openMarks};
 ghost use Rattle.annex.specs.declared.Holding.the-variants.{AsContents, AsDigits, AsNumber, AsGeneric};
 ghost use Rattle.annex.specs.Records.{headOf};
-ghost use Rattle.parameter.specs.Opening.{headFor, valuesWith, openedHead, openedValues};
+ghost use Rattle.annex.specs.Opening.{headFor, valuesWith, openedHead, openedValues};
 
 // Stores the octets of `s` in `values` from `used` on.
 fn copy_values(s: &[u8], values: &mut [u8; Transfer::MOST_VALUES], used: usize)
@@ -75,7 +75,8 @@ fn count_of(s: &[u8]) -> usize
     (s.len() - 2) * 2 - (s[0] / 128) as usize
 }
 
-// A parameter that holds its contents.
+// The head of a parameter that holds these octets as they are, whatever its header asks. They go into `values` after the used ones; where
+// they have no room, the head is empty and nothing is stored.
 pub fn open_contents(
     header: u8,
     s: &[u8],

@@ -12,12 +12,12 @@ use units::octets_after;
 ghost use mathlib.Core.Path.{_≡_};
 ghost use Rattle.annex.specs.Promises.{Gives};
 ghost use Rattle.annex.specs.Reading.{transferOf};
-ghost use Rattle.heads.specs.Asked.{askedOf};
+ghost use Rattle.heads.specs.Asked.{Asks};
 
 // The parameter's name stood `times` before; `asked` is what a look-up says of its header; xs are the octets after it, to the end of the
 // transfer data.
 fn judged(asked: Asked, times: u8, header: u8, xs: &[u8]) -> Answer
-    requires { ⌜ asked ≡ askedOf header ⌝ }
+    requires { ⌜ Asks header asked ⌝ }
     ensures { λ r. ⌜ r ≡ transferOf times header (now (xs .entry)) ⌝ }
 {
     if !asked.used {
@@ -41,7 +41,7 @@ fn judged(asked: Asked, times: u8, header: u8, xs: &[u8]) -> Answer
     at_header(f, n)
 }
 
-// Accepted with how many of the octets after the header are the parameter's own.
+// 8 to 13 of a parameter whose name stood `times` before, or how many of the octets xs after its header are its own.
 pub fn transfer(times: u8, header: u8, xs: &[u8]) -> Answer
     ensures { λ r. ⌜ Gives (transferOf times header (now (xs .entry))) r ⌝ }
 {

@@ -16,10 +16,11 @@ use Rattle.annex.specs.declared.Record.{Record}
 use Rattle.annex.specs.declared.Found.the-variants.{Nowhere}
 use Rattle.annex.specs.declared.Answer.the-variants.{Accepted}
 use Rattle.annex.specs.Contents.{faultOf}
+use Rattle.annex.specs.Walking.{stretchAt}
 use mathlib.Core.Bool.{true}
 use Rattle.laws.specs.Plain.{InnerSound, commons-plain, commons-inner}
 use Rattle.laws.specs.Filling.{withItems, withParts, emptyRecord, filled-whole, filled-none, part-put, values-append}
-use Rattle.walk.specs.Stretches.{parIn, stretchAt, Whole}
+use Rattle.walk.specs.Stretches.{parIn, Whole}
 use Rattle.theorems.specs.Messages.{read-within}
 use Rattle.reader.specs.Filling.{parsAt, partsLeft, parts-none, parts-mark, parts-more}
 

@@ -15,9 +15,10 @@ use Rattle.annex.specs.Reading.{openTransfer, openCommon, withoutEnd, dataIn}
 use Rattle.annex.specs.declared.Found.the-variants.{Nowhere}
 use Rattle.annex.specs.declared.Record.{Record}
 use Rattle.annex.specs.Contents.{faultOf}
-use Rattle.laws.specs.Plain.{pars, transferSize, commonSize, InnerSound, transfers-plain}
+use Rattle.annex.specs.Walking.{pars, stretchAt}
+use Rattle.laws.specs.Plain.{transferSize, commonSize, InnerSound, transfers-plain}
 use Rattle.laws.specs.Filling.{withItems, items-turn, items-opened}
-use Rattle.walk.specs.Stretches.{parIn, stretchAt, Whole, stretch-none}
+use Rattle.walk.specs.Stretches.{parIn, Whole, stretch-none}
 use Rattle.reader.specs.declared.reading.Filled.{Filled}
 
 -- the parameters of transfer data, by the length rule alone

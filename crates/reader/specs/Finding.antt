@@ -8,13 +8,12 @@ use lib.ListN.{length, getD, take, drop, length-drop}
 use lib.Seq.{length-take-le}
 use Rattle.annex.specs.Finding.{findAnswer, findPart}
 use Rattle.annex.specs.Heads.{kth}
+use Rattle.annex.specs.Walking.{isSought, extentBy, soughtIn, searchFrom, stretchAt}
 use Rattle.annex.specs.declared.Found.{Found}
 use Rattle.annex.specs.declared.Found.the-variants.{At, Nowhere}
 use Rattle.annex.specs.declared.Key.{Key}
-use Rattle.laws.specs.Finding.{isSought, extentBy, soughtIn, searchFrom}
-use Rattle.walk.specs.Stretches.{stretchAt, Whole, stretch-none}
+use Rattle.walk.specs.Stretches.{Whole, stretch-none}
 use Rattle.reader.specs.declared.finding.Finding.{Finding}
-use Rattle.reader.specs.declared.finding.Stretch.{Stretch}
 
 -- of the message m where the contents are found at f: the answer, and a stretch of m that is the part
 pub record Tells (m : List ℕ) (f : Found) (r : Finding) : Type 0 where
@@ -23,16 +22,12 @@ pub record Tells (m : List ℕ) (f : Found) (r : Finding) : Type 0 where
   pub within : r .2 ≤ length m
   pub part : take (r .2 - r .1) (drop (r .1) m) ≡ findPart m f
 
--- the answer, and the part's length
-abbrev pub bothOf : List ℕ → Found → Stretch
-bothOf m f = record { answer = findAnswer m f; len = length (findPart m f) }
-
-pub both-told : (m : List ℕ) (f : Found) (r : Finding) → Tells m f r → record { answer = r .0; len = r .2 - r .1 } ≡ bothOf m f
-both-told m f r t =
+-- the part has as many octets as the stretch
+pub part-long : (m : List ℕ) (f : Found) (r : Finding) → Tells m f r → r .2 - r .1 ≡ length (findPart m f)
+part-long m f r t =
     let k : r .2 - r .1 ≤ length (drop (r .1) m) = rw (length-drop (r .1) m) (omega (arith, t .within)) in
     let long = length-take-le (r .2 - r .1) (drop (r .1) m) k in
-    let len : r .2 - r .1 ≡ length (findPart m f) = sym long ∙ ap (λ (p : List ℕ). length p) (t .part) in
-    rw (t .answer, len)
+    sym long ∙ ap (λ (p : List ℕ). length p) (t .part)
 
 -- ---- one turn of the search
 

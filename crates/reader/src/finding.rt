@@ -11,7 +11,8 @@ use units::extent_of;
 use units::lead;
 use walk::stretch::stretch_at;
 ghost use mathlib.Core.Path.{_≡_};
-ghost use Rattle.annex.specs.Finding.{findPart};
+ghost use lib.ListN.{length};
+ghost use Rattle.annex.specs.Finding.{findAnswer, findPart, foundBy};
 ghost use Rattle.annex.specs.Promises.{
   FindCommonPromise,
   FindCommonAnswerPromise,
@@ -19,8 +20,9 @@ ghost use Rattle.annex.specs.Promises.{
   FindTransferAnswerPromise,
   Gives,
 };
-ghost use Rattle.laws.specs.Finding.{isSought, whichOf, extentBy, searchIn, contentsFound, commonPlain, transferPlain, plainBy, foundBy};
-ghost use Rattle.reader.specs.Finding.{Tells, bothOf};
+ghost use Rattle.annex.specs.Walking.{isSought, whichOf, extentBy, searchIn, contentsFound, commonPlain};
+ghost use Rattle.laws.specs.Finding.{transferPlain, plainBy};
+ghost use Rattle.reader.specs.Finding.{Tells};
 
 // What finding gives: the answer to the second question, and where the contents start and end, 0 and 0 if refused.
 struct Finding(Answer, usize, usize);
@@ -144,9 +146,10 @@ pub struct Stretch {
     pub len: usize,
 }
 
-// Both answers of one finding.
+// Both answers of one finding: the second question's, and the length of the part.
 pub fn find_both(m: &[u8], k: Key) -> Stretch
-    ensures { λ r. ⌜ Gives (bothOf (now (m .entry)) (foundBy k (now (m .entry)))) r ⌝ }
+    ensures { λ r. ⌜ Gives (findAnswer (now (m .entry)) (foundBy k (now (m .entry)))) (r .answer) ×
+        Gives (length (findPart (now (m .entry)) (foundBy k (now (m .entry))))) (r .len) ⌝ }
 {
     let f = find(m, k);
     let answer = f.0;

@@ -14,6 +14,7 @@ use units::common_extent_of;
 use units::extent_of;
 use walk::stretch::stretch_at;
 ghost use mathlib.Core.Path.{_≡_};
+ghost use mathlib.Core.List.{[]};
 ghost use Prim.Native.Nat.{_+_, _≤_};
 ghost use lib.ListN.{length};
 ghost use Rattle.annex.specs.Heads.{most-transfers};
@@ -21,7 +22,7 @@ ghost use Rattle.annex.specs.Reading.{verdictOf, recordOf};
 ghost use Rattle.annex.specs.declared.Answer.the-variants.{Accepted};
 ghost use Rattle.annex.specs.Records.{valuesOf, pack};
 ghost use Rattle.annex.specs.Promises.{ReadPromise, Gives};
-ghost use Rattle.laws.specs.Filling.{emptyRecord, partHead};
+ghost use Rattle.laws.specs.Filling.{partHead};
 ghost use Rattle.reader.specs.Filling.{itemsFrom, filledWith};
 
 // A record's struct, and how many of its transfer parameters and values are filled in.
@@ -31,9 +32,9 @@ struct Filled {
     used: usize,
 }
 
-// The record of a refused message.
+// The record of nothing, which stands beside a refusal.
 pub fn empty() -> Record
-    ensures { λ r. ⌜ Gives emptyRecord r ⌝ }
+    ensures { λ r. ⌜ Gives (pack []) r ⌝ }
 {
     let c = Common::none();
     let t = Transfer::none();

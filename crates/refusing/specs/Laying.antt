@@ -4,11 +4,13 @@ use native.Mathlib.Omega.{arith}
 use mathlib.Core.Path.{_≡_, refl}
 use mathlib.Core.Bool.{Bool, true, false, cond}
 use mathlib.Core.List.{List, [], _∷_}
-use borrow.Author.Tests.{ne-eqb}
+use borrow.Author.Tests.{eqb-true, ne-eqb}
+use lib.Dec.{eqb}
 use lib.ListN.{length}
 use Rattle.annex.specs.Heads.{transfer-data, isCall}
-use Rattle.annex.specs.Items.{Item}
+use Rattle.annex.specs.Items.{Item, valuePart}
 use Rattle.annex.specs.Layout.{layoutItems, callOctets, dataOctets, layoutPart}
+use Rattle.annex.specs.Records.{valueHead}
 use Rattle.annex.specs.declared.Common.{Common}
 use Rattle.limits.specs.Along.{partFrom}
 
@@ -37,6 +39,16 @@ length-head c = go (isCall (c .header))
     go : (b : Bool) → suc (length (cond b (callOctets (c .value)) (c .value ∷ []))) ≡ cond b 4 2
     go true = refl
     go false = refl
+
+-- as many as one with no transfer parameters is laid out to
+pub head-laid : (h : ℕ) → length (layoutPart (valuePart h 0)) ≡ headLength h
+unfolding layoutPart layoutItems
+head-laid h = go (eqb h transfer-data) refl
+  where
+    go : (a : Bool) → eqb h transfer-data ≡ a
+        → suc (length (cond a (dataOctets (layoutItems [])) (cond (isCall h) (callOctets 0) (0 ∷ [])))) ≡ headLength h
+    go true e = rw (eqb-true h transfer-data e)
+    go false e = length-head (valueHead h 0)
 
 module _ (c : Common) (is : List Item) where
   pub plain-laid : (c .header ≡ transfer-data → ⊥) → layoutPart (partFrom c is) ≡ headOctets c

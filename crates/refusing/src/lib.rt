@@ -12,13 +12,15 @@ use limits::over_limits;
 use limits::values_before;
 ghost use mathlib.Core.Path.{_≡_};
 ghost use Prim.Native.Nat.{_+_, _≤_};
+ghost use lib.ListN.{length};
 ghost use Rattle.annex.specs.Promises.{Gives, RecordRefusalPromise};
+ghost use Rattle.annex.specs.Items.{valuePart};
+ghost use Rattle.annex.specs.Layout.{layoutPart};
 ghost use Rattle.annex.specs.Reading.{octetAllowed};
 ghost use Rattle.annex.specs.Records.{view};
 ghost use Rattle.annex.specs.Walk.{unseen};
 ghost use Rattle.annex.specs.Writing.{itemsWriting, dataWriting, partsWriting};
 ghost use Rattle.limits.specs.Along.{itemsAt, Within, Whole};
-ghost use Rattle.refusing.specs.Laying.{headLength};
 ghost use Rattle.refusing.specs.Refusing.{placedAt, headFits, partHeadWriting, endWriting};
 
 // A refusal, told at the place p.
@@ -106,9 +108,9 @@ fn value_fits(c: Common) -> bool
     true
 }
 
-// How many octets a common parameter takes, its transfer parameters aside.
+// How many octets a common parameter with this header, any at all, is laid out to, its transfer parameters aside.
 pub fn head_len(header: u8) -> usize
-    ensures { λ r. ⌜ Gives (headLength header) r ⌝ }
+    ensures { λ r. ⌜ Gives (length (layoutPart (valuePart header 0))) r ⌝ }
 {
     if is_call(header) { 4 } else { 2 }
 }

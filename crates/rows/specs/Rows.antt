@@ -11,11 +11,12 @@ use lib.Seq.{take-suc, take-all, length-take-le, drop-cons, set-at, append-snoc}
 use Rattle.annex.specs.Answers.{givenOf, roomAfter}
 use Rattle.annex.specs.Reading.{verdictOf}
 use Rattle.annex.specs.Spans.{rowsOf, spansOf, tableOf, spansBy}
+use Rattle.annex.specs.Walking.{noRow, rowHere}
 use Rattle.annex.specs.declared.Answer.{Answer}
 use Rattle.annex.specs.declared.Answer.the-variants.{Accepted, Refused}
 use Rattle.annex.specs.declared.Row.{Row}
-use Rattle.laws.specs.Listed.{noRow, listed, Within, spansAfter}
-use Rattle.walk.specs.Cursors.{rowHere, cursorAt}
+use Rattle.laws.specs.Listed.{listed, Within, spansAfter}
+use Rattle.walk.specs.Cursors.{cursorAt}
 use Rattle.walk.specs.Ahead.{row-behind}
 
 -- the table with the first i rows of m stored

@@ -4,20 +4,20 @@
 use Prim.Native.Nat.{ℕ, _+_, _*_, _/_, min}
 use native.Mathlib.Omega.{arith}
 use mathlib.Core.Path.{_≡_, refl, sym, ap, _∙_}
-use mathlib.Core.Bool.{Bool, true, false, not}
+use mathlib.Core.Bool.{Bool, true, false, not, _||_}
 use mathlib.Core.List.{List, [], _∷_, _++_}
 use borrow.Author.Tests.{eq-eqb}
 use lib.Dec.{eqb, leb}
-use lib.ListN.{length, getD, drop}
+use lib.ListN.{length, getD, take, drop}
 use Rattle.annex.specs.Answers.{numberOf, givenOf, faultNumberOf, stopOf, over-limits, refuse, soundThen, headerAt}
 use Rattle.annex.specs.Units.{octetsOf, afterOf, leadOf, commonExtentOf, extentOf}
 use Rattle.annex.specs.Heads.{clear, among, listedHeaders, isCall, nameUsed, pliRight, oftenOf, zeroesOf, formOf}
 use Rattle.annex.specs.Digits.{halves, joined, digitOf, codeOf, isCode, isDigit, halvesFault, digitsFault, digitsOf, packed}
 use Rattle.annex.specs.Contents.{formedThen, dialledFault, faultOf}
-use Rattle.annex.specs.Items.{plainItem, holdingOf, openBy, itemOf, contentsOf, ownOf}
+use Rattle.annex.specs.Items.{plainItem, valuePart, holdingOf, openBy, itemOf, contentsOf, ownOf}
 use Rattle.annex.specs.declared.Holding.{Holding}
 use Rattle.annex.specs.declared.Holding.the-variants.{AsContents, AsDigits, AsNumber, AsGeneric}
-use Rattle.annex.specs.Layout.{layoutItem, callOctets}
+use Rattle.annex.specs.Layout.{layoutItem, layoutPart, callOctets}
 use Rattle.annex.specs.Allowed.{every, lengthRight, faultIn}
 use Rattle.annex.specs.Walk.{walk}
 use Rattle.annex.specs.Reading.{
@@ -32,7 +32,7 @@ use Rattle.annex.specs.Reading.{
   commonsBy,
   callNumber,
 }
-use Rattle.annex.specs.Finding.{commonIn, commonFound, findAnswer}
+use Rattle.annex.specs.Finding.{commonIn, commonFound, findAnswer, foundBy}
 use Rattle.annex.specs.Records.{
   valueHead,
   dataHead,
@@ -53,21 +53,15 @@ use Rattle.annex.specs.Records.{
 use Rattle.annex.specs.Writing.{headWriting, itemWriting, overLimits}
 use Rattle.annex.specs.Promises.{Gives}
 use Rattle.annex.specs.Bench.{K, recordOfK, recordOfM}
+use Rattle.annex.specs.Walking.{pars, soughtIn, searchIn, commonPlain, stretchAt, cursorTo, stretchHere, rowHere, nextOf}
+use Rattle.annex.specs.Memory.{spliceFits}
+use Rattle.annex.specs.Opening.{headFor, openedHead}
 use Rattle.annex.specs.declared.Alphabet.the-variants.{Dialled, Numbered}
 use Rattle.annex.specs.declared.Answer.the-variants.{Accepted, Refused}
 use Rattle.annex.specs.declared.Extent.the-variants.{CountOctet, LengthOctet}
 use Rattle.annex.specs.declared.Fault.the-variants.{Sound, Bad}
 use Rattle.annex.specs.declared.Key.the-variants.{Header, Name}
-use Rattle.laws.specs.Plain.{pars}
-use Rattle.laws.specs.Finding.{soughtIn, searchIn, commonPlain, foundBy}
-use Rattle.octets.specs.Splice.{spliceFits}
-use Rattle.heads.specs.Asked.{askedOf}
-use Rattle.parameter.specs.Opening.{headFor, openedHead}
-use Rattle.walk.specs.Stretches.{stretchAt}
-use Rattle.walk.specs.Cursors.{cursorTo, stretchHere, rowHere, nextOf}
-use Rattle.limits.specs.Along.{usedAt}
-use Rattle.refusing.specs.Laying.{headLength}
-use Rattle.limits.specs.Limits.{isOver}
+use Rattle.annex.specs.declared.Record.{Record}
 use Rattle.tight.specs.Wrong.{short}
 
 -- whatever number tells two answers apart
@@ -87,6 +81,10 @@ heldNumber (AsDigits m) = 1
 heldNumber (AsNumber w) = 2
 heldNumber AsGeneric = 3
 
+-- what over_limits says
+abbrev overStruct : Record → Bool
+overStruct q = not (isWhole q) || overLimits (view q)
+
 -- a row to a function: what its definition gives at two inputs, told as numbers
 abbrev pub rows : List (ℕ × ℕ)
 rows =
@@ -101,7 +99,7 @@ rows =
     (afterOf CountOctet 4, afterOf LengthOctet 4) ∷  -- octets_after
     (leadOf CountOctet, leadOf LengthOctet) ∷  -- lead
     (numberOf (headWriting 0 0x90 (Accepted 0)), numberOf (headWriting 0 0xD0 (Accepted 0))) ∷  -- head_writing
-    (askedOf 0x41 .zeroes, askedOf 0x42 .zeroes) ∷  -- head_of
+    (zeroesOf 0x41, zeroesOf 0x42) ∷  -- head_of
     (faultNumberOf (formedThen (clear 0xFE 1) Sound), faultNumberOf (formedThen (clear 0xFE 2) Sound)) ∷  -- fault_under
     (getD (halves (0x21 ∷ [])) 0 0, getD (halves (0x21 ∷ [])) 1 0) ∷  -- half_at
     (digitOf Dialled 10, digitOf Numbered 10) ∷  -- digit_of
@@ -140,14 +138,14 @@ rows =
     (stopOf (commonPlain 0x01 K), stopOf (commonPlain 0x06 K)) ∷  -- common_plain
     (givenOf (findAnswer short (foundBy (Header 0x01) short)), givenOf (findAnswer short (foundBy (Header 0x06) short))) ∷  -- find_both
     (givenOf (Accepted 9), givenOf (Refused 15 0)) ∷  -- given
-    (usedAt (pack recordOfM) 0, usedAt (pack recordOfM) 1) ∷  -- values_before
-    (flag (isOver (pack recordOfK)), flag (isOver (pack (recordOfK ++ (recordOfK ++ (recordOfK ++ recordOfK)))))) ∷  -- over_limits
+    (lengthsOf (take 0 (pack recordOfM .transfer)), lengthsOf (take 1 (pack recordOfM .transfer))) ∷  -- values_before
+    (flag (overStruct (pack recordOfK)), flag (overStruct (pack (recordOfK ++ (recordOfK ++ (recordOfK ++ recordOfK)))))) ∷  -- over_limits
     (
       givenOf (refuse (not (isWhole (pack recordOfM))) over-limits 0 (Accepted (transfersSum (commonsIn (pack recordOfM))))),
       givenOf (refuse (not (isWhole (pack recordOfK))) over-limits 0 (Accepted (transfersSum (commonsIn (pack recordOfK))))),
     )
     ∷  -- transfers_held
-    (headLength 0x83, headLength 0x01) ∷  -- head_len
+    (length (layoutPart (valuePart 0x83 0)), length (layoutPart (valuePart 0x01 0))) ∷  -- head_len
     (flag (leb (0 + 1) 1), flag (leb (1 + 1) 1)) ∷  -- copy_in
     (flag (spliceFits (0x00 ∷ []) 1 0 0 []), flag (spliceFits (0x00 ∷ []) 2 0 0 [])) ∷ []  -- splice
 
@@ -155,5 +153,5 @@ pub rows-differ : every (λ (r : ℕ × ℕ). not (eqb (r .0) (r .1))) rows ≡ 
 unfolding afterOf extentOf commonExtentOf leadOf nameUsed pliRight oftenOf zeroesOf formOf halves joined digitOf codeOf isCode halvesFault
     digitsFault digitsOf packed dialledFault faultOf holdingOf itemOf contentsOf ownOf layoutItem lengthRight faultIn walk transferBy
     octetAllowed commonForm endOf commonBy messageVerdictBy verdictBy commonsBy commonIn commonFound pad valuesOf pack lengthsOf
-    transfersSum isWhole viewItems viewParts view overLimits itemWriting pars soughtIn stretchAt stretchHere rowHere nextOf
+    transfersSum isWhole viewItems viewParts view overLimits itemWriting layoutPart pars soughtIn stretchAt stretchHere rowHere nextOf
 rows-differ = refl

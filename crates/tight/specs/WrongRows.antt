@@ -26,10 +26,10 @@ use Rattle.annex.specs.Reading.{
 use Rattle.annex.specs.Spans.{rowsOf, spansOf, tableOf, commonRowsBy, rowsBy, spansBy}
 use Rattle.annex.specs.Promises.{SpansPromise}
 use Rattle.annex.specs.Bench.{K}
+use Rattle.annex.specs.Walking.{noRow}
 use Rattle.annex.specs.declared.Answer.{Answer}
 use Rattle.annex.specs.declared.Answer.the-variants.{Accepted}
 use Rattle.annex.specs.declared.Row.{Row}
-use Rattle.laws.specs.Listed.{noRow}
 use Rattle.theorems.specs.Listings.{row-count}
 
 -- the shortest accepted message, case 2 of the bench table

@@ -4,7 +4,7 @@ use mathlib.Core.Path.{_≡_, refl, sym}
 use mathlib.Core.List.{List, [], _++_, append-nil}
 use lib.ListN.{length, take, drop, length-append}
 use borrow.Rule.Slice.PartMut.{putMid}
-use Rattle.laws.specs.Written.{atFront}
+use Rattle.annex.specs.Memory.{atFront}
 use Rattle.laws.specs.Rooms.{Laid, laid-turn, laid-end}
 
 -- the room behind it, lent and written

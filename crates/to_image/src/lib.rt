@@ -16,11 +16,10 @@ ghost use mathlib.Core.List.{List};
 ghost use Prim.Native.Nat.{ℕ, _+_, _≤_};
 ghost use lib.ListN.{length};
 ghost use Rattle.annex.specs.Items.{ownMarks, ownFields};
-ghost use Rattle.annex.specs.Records.{headOf, rawItem, view};
+ghost use Rattle.annex.specs.Records.{headOf, rawItem, view, itemFrom};
 ghost use Rattle.annex.specs.Image.{imageHead, imageItem, imageItems, imageCommon, imageParts, imageOf};
 ghost use Rattle.annex.specs.Promises.{ToImagePromise};
-ghost use Rattle.laws.specs.Written.{atFront};
-ghost use Rattle.layout.specs.Laying.{itemFrom};
+ghost use Rattle.annex.specs.Memory.{atFront};
 ghost use Rattle.limits.specs.Along.{itemsAt, Within, Whole};
 ghost use Rattle.to_image.specs.Laying.{ownCommon, partOctets};
 

@@ -21,11 +21,12 @@ use Rattle.annex.specs.declared.Extent.{Extent}
 use Rattle.annex.specs.declared.Extent.the-variants.{Fixed, CountOctet, LengthOctet}
 use Rattle.annex.specs.declared.Found.the-variants.{At}
 use Rattle.annex.specs.Contents.{faultOf}
+use Rattle.annex.specs.Walking.{noRow, Size, pars, cursorTo, firstCursor, extentHere, stretchHere, rowHere, nextOf}
 use Rattle.laws.specs.Extents.{lead-within}
-use Rattle.laws.specs.Listed.{noRow, rowsAfter, listed}
+use Rattle.laws.specs.Listed.{rowsAfter, listed}
 use Rattle.laws.specs.Members.{sumOf}
 use Rattle.laws.specs.Parts.{from-to}
-use Rattle.laws.specs.Plain.{Size, commonSize, transferSize, pars, pars-end, octet-behind}
+use Rattle.laws.specs.Plain.{commonSize, transferSize, pars-end, octet-behind}
 use Rattle.laws.specs.Plain.{commons-plain, transfers-plain, InnerSound, commons-inner}
 use Rattle.laws.specs.Rows.{
   parAt,
@@ -42,8 +43,8 @@ use Rattle.laws.specs.Rows.{
   common-turn,
 }
 use Rattle.walk.specs.Stretches.{stretch-whole}
-use Rattle.walk.specs.Cursors.{cursorTo, firstCursor, extentHere, stretchHere, rowHere, nextOf, cursorAt, rowsFrom}
-use Rattle.walk.specs.declared.cursor.Cursor.{Cursor}
+use Rattle.walk.specs.Cursors.{cursorAt, rowsFrom}
+use Rattle.annex.specs.declared.Cursor.{Cursor}
 
 -- the parameters up to the end of C5 fill it, those behind it fill the message, and their transfer data is accepted
 pub record Ahead (m : List ℕ) (c : Cursor) : Type 0 where

@@ -1,4 +1,4 @@
--- Where a parameter stands by the length rule, and the rows from a cursor on.
+-- Laws of where a parameter stands by the length rule, and of the rows from a cursor on.
 pub mod Stretches
 pub mod Cursors
 pub mod Ahead

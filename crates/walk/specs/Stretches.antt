@@ -1,4 +1,4 @@
--- Where a parameter's contents stand by the length rule.
+-- Laws of where a parameter's contents stand by the length rule.
 use Prim.Native.Nat.{ℕ, _+_, _-_, _≤_, _<_}
 use mathlib.Core.Path.{_≡_, refl, sym}
 use native.Mathlib.Omega.{arith}
@@ -8,28 +8,19 @@ use borrow.Author.Tests.{lt-ltb, le-leb, ltb-true, ltb-false, leb-true, leb-fals
 use lib.Dec.{leb, ltb}
 use lib.ListN.{length, getD, take, drop, length-drop}
 use lib.Seq.{drop-drop, length-take-le}
-use Rattle.annex.specs.Units.{afterOf, leadOf, contentsIn}
+use Rattle.annex.specs.Units.{leadOf, contentsIn}
 use Rattle.annex.specs.Walk.{Par}
+use Rattle.annex.specs.Walking.{sizeBy, pars, afterAt, stretchAt}
 use Rattle.annex.specs.declared.Extent.{Extent}
 use Rattle.annex.specs.declared.Found.{Found}
 use Rattle.annex.specs.declared.Found.the-variants.{At, Nowhere}
 use Rattle.laws.specs.Extents.{lead-within}
 use Rattle.laws.specs.Parts.{from-to}
-use Rattle.laws.specs.Plain.{sizeBy, pars, pars-end, pars-short, pars-next}
+use Rattle.laws.specs.Plain.{pars-end, pars-short, pars-next}
 
 -- the parameter that ends at x, of the header at i
 abbrev pub parIn : List ℕ → ℕ → ℕ → Par
 parIn t i x = record { place = i; head = getD t i 0; own = take (x - (i + 1)) (drop (i + 1) t) }
-
--- how many octets after the header at i are its own, if its PLI says e
-abbrev pub afterAt : List ℕ → ℕ → Extent → ℕ
-afterAt t i e = afterOf e (getD t (i + 1) 0)
-
--- the header stands at i, and its PLI says e; nowhere where it is cut, or where the octets end before i
-unfoldable pub stretchAt : List ℕ → ℕ → Extent → Found
-stretchAt t i e =
-    let n = afterAt t i e in
-    cond (ltb i (length t)) (cond (leb n (length t - (i + 1))) (At (i + 1 + leadOf e) (i + 1 + n)) Nowhere) Nowhere
 
 -- one that is whole
 pub stretch-whole : (t : List ℕ) (i n : ℕ) (e : Extent) → i < length t → n ≡ afterAt t i e → n ≤ length t - (i + 1)

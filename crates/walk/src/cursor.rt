@@ -1,6 +1,8 @@
-// The rows of a listing, one after the other: one to a parameter, in order of offset, those of a C5 right after its own.
+// The rows of octets, any at all, by the length rule alone: one to a parameter, in order of offset, those of a C5 right after its own. Of
+// an accepted message they are the rows of its listing.
 use super::stretch::stretch_at;
 use annex::Common;
+use annex::Cursor;
 use annex::Found;
 use annex::Row;
 use octets::octet_at;
@@ -8,15 +10,9 @@ use units::common_extent_of;
 use units::extent_of;
 ghost use mathlib.Core.Path.{_≡_};
 ghost use Rattle.annex.specs.Promises.{Gives};
-ghost use Rattle.walk.specs.Cursors.{firstCursor, stretchHere, rowHere, nextOf};
+ghost use Rattle.annex.specs.Walking.{firstCursor, stretchHere, rowHere, nextOf};
 
-// Where a walk over a message stands. at: the next header. end: where the C5 ends that this header is in, and outside C5 `at` too.
-pub struct Cursor {
-    pub at: usize,
-    pub end: usize,
-}
-
-// At the first header.
+// At the first octet.
 pub fn first() -> Cursor
     ensures { λ r. ⌜ Gives firstCursor r ⌝ }
 {
@@ -35,7 +31,7 @@ fn stretch_here(m: &[u8], c: Cursor) -> Found
     stretch_at(m, at, common_extent_of(h))
 }
 
-// The row of the next parameter, or the empty row where there is none.
+// The row of the next parameter, or the empty row where it is cut or the octets end before it.
 pub fn row_here(m: &[u8], c: Cursor) -> Row
     ensures { λ r. ⌜ Gives (rowHere (now (m .entry)) c) r ⌝ }
 {
@@ -54,7 +50,7 @@ pub fn row_here(m: &[u8], c: Cursor) -> Row
     }
 }
 
-// Behind the next parameter, and behind a C5's header and length octet. Nothing comes after a parameter that is cut.
+// Behind the next parameter, and behind a C5's header and length octet; behind all octets where it is cut or they end before it.
 pub fn next(m: &[u8], c: Cursor) -> Cursor
     ensures { λ r. ⌜ Gives (nextOf (now (m .entry)) c) r ⌝ }
 {

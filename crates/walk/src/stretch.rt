@@ -5,7 +5,7 @@ use octets::octet_at;
 use units::lead;
 use units::octets_after;
 ghost use Rattle.annex.specs.Promises.{Gives};
-ghost use Rattle.walk.specs.Stretches.{stretchAt};
+ghost use Rattle.annex.specs.Walking.{stretchAt};
 
 // Where the contents of the parameter start and end whose header stands at i, if its PLI says e: nowhere where it is cut, or where the
 // octets end before i.

@@ -9,8 +9,8 @@ use lib.ListN.{length, take, drop, set}
 use lib.Seq.{take-length, drop-length}
 use Rattle.annex.specs.Heads.{transfer-data, isCall}
 use Rattle.annex.specs.Layout.{dataOctets}
+use Rattle.annex.specs.Memory.{lowOctets, atFront}
 use Rattle.annex.specs.declared.Common.{Common}
-use Rattle.laws.specs.Written.{lowOctets, atFront}
 use Rattle.refusing.specs.Laying.{headOctets}
 
 -- the octets of a head, each modulo 256: a call number's are its 24 bits, least octet first

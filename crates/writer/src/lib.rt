@@ -16,10 +16,9 @@ ghost use mathlib.Core.Path.{_≡_};
 ghost use Prim.Native.Nat.{_+_, _≤_};
 ghost use lib.ListN.{length};
 ghost use Rattle.annex.specs.Layout.{layoutItem, layoutItems, layout};
-ghost use Rattle.annex.specs.Records.{view};
+ghost use Rattle.annex.specs.Records.{view, itemFrom};
 ghost use Rattle.annex.specs.Promises.{WritePromise};
-ghost use Rattle.laws.specs.Written.{atFront};
-ghost use Rattle.layout.specs.Laying.{itemFrom};
+ghost use Rattle.annex.specs.Memory.{atFront};
 ghost use Rattle.limits.specs.Along.{itemsAt, Within, Whole};
 ghost use Rattle.refusing.specs.Laying.{headOctets, dataLaid};
 

@@ -1,16 +1,15 @@
 -- `class_of` meets its contract: the list decides, and then the bits that the look-up asks to be 0.
-use mathlib.Core.Path.{_≡_, ap}
+use mathlib.Core.Path.{_≡_}
 use borrow.Author.Needs.{needs}
 use borrow.Author.Tests.{eq-eqb, ne-eqb}
 use Rattle.annex.specs.Heads.{zeroesOf}
-use Rattle.heads.specs.declared.Asked.{Asked}
 use Rattle.classes.specs.Listed.{class-cleared}
 use Rattle.classes.proofs.class_of.Statement.{statement}
 use Rattle.classes.proofs.class_of.Tie as tie
 
 -- the bits of the look-up
 zeroes : (c : tie.After-head-of) → c .head-of .result .zeroes ≡ zeroesOf (c .before .before .before .before .args .header)
-zeroes c = ap (λ (r : Asked). r .zeroes) (c .head-of .ensures)
+zeroes c = c .head-of .ensures .2
 
 returns : tie.Need-returns
 returns c =

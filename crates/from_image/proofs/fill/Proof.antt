@@ -14,6 +14,7 @@ use Rattle.annex.specs.Heads.{most-transfers}
 use Rattle.annex.specs.Image.{itemsFront, commonFront, partsFront, noImage, imagedBy}
 use Rattle.annex.specs.declared.Answer.the-variants.{Accepted}
 use Rattle.laws.specs.Parts.{to-end}
+use Rattle.laws.specs.Filling.{empty-packed}
 use Rattle.from_image.specs.Filling.{
   filledBy,
   imagedFrom,
@@ -43,7 +44,8 @@ loop-holds : tie.Need-loop-holds Inv-loop μ-loop
 loop-holds c =
     let a = c .before .before .args in
     let s = now (a .s) in
-    rw (c .empty .ensures) (omega arith, omega arith, omega arith, omega arith, imaged-start (length s) (partsFront (a .count) s))
+    rw (c .empty .ensures, ← empty-packed)
+    (omega arith, omega arith, omega arith, omega arith, imaged-start (length s) (partsFront (a .count) s))
 
 -- the loop's place, and the octets
 abbrev At : Type 0

@@ -8,14 +8,14 @@ use Rattle.heads.proofs.head_of.Tie as tie
 returns : tie.Need-returns
 returns c =
     let l = c .before in
-    rw (← asks (l .before .args .header) (omega arith), ← l .layout-of .ensures, c .if1 .taken)
+    asks (l .before .args .header) (omega arith) _ (rw (← l .layout-of .ensures, c .if1 .taken))
 
 returns-2 : tie.Need-returns-2
 returns-2 c =
     let f = c .before in
     let e = f .before in
     let l = e .before in
-    rw (← asks (l .before .args .header) (omega arith), ← l .layout-of .ensures, e .if1 .left, ← f .is-free .ensures, c .if2 .taken)
+    asks (l .before .args .header) (omega arith) _ (rw (← l .layout-of .ensures, e .if1 .left, ← f .is-free .ensures, c .if2 .taken))
 
 returns-3 : tie.Need-returns-3
 returns-3 c =
@@ -24,15 +24,15 @@ returns-3 c =
     let f = g .before in
     let e = f .before in
     let l = e .before in
-    rw (
-      ← asks (l .before .args .header) (omega arith),
+    asks (l .before .args .header) (omega arith) _
+    (rw (
       ← l .layout-of .ensures,
       e .if1 .left,
       ← f .is-free .ensures,
       g .if2 .left,
       ← n .name-listed .ensures,
       ← c .unlisted .ensures,
-    )
+    ))
 
 pub head-of-spec : {M : Type 1} → statement M
 head-of-spec =

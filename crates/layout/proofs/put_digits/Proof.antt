@@ -9,8 +9,9 @@ use Rattle.annex.specs.Digits.{packed}
 use Rattle.annex.specs.Items.{upperMarks, contentsBy}
 use Rattle.annex.specs.declared.Holding.the-variants.{AsDigits}
 use Rattle.annex.specs.Records.{rawItem}
+use Rattle.annex.specs.Memory.{lowOctets}
 use Rattle.annex.specs.declared.Alphabet.the-variants.{Dialled}
-use Rattle.laws.specs.Written.{lowOctets, written-length, written-then}
+use Rattle.laws.specs.Written.{written-length, written-then}
 use Rattle.laws.specs.Parts.{to-end}
 use Rattle.parameter.specs.Stored.{stored}
 use Rattle.layout.proofs.put_digits.Statement.{statement}

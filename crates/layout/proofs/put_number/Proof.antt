@@ -8,8 +8,9 @@ use lib.ListN.{length, take, drop, set, length-set, length-drop}
 use Rattle.annex.specs.Digits.{packed}
 use Rattle.annex.specs.Items.{numberContents}
 use Rattle.annex.specs.Records.{rawItem}
+use Rattle.annex.specs.Memory.{lowOctets}
 use Rattle.annex.specs.declared.Alphabet.the-variants.{Numbered}
-use Rattle.laws.specs.Written.{lowOctets, written-length, written-then}
+use Rattle.laws.specs.Written.{written-length, written-then}
 use Rattle.laws.specs.Parts.{to-end}
 use Rattle.parameter.specs.Stored.{stored}
 use Rattle.layout.proofs.put_number.Statement.{statement}

@@ -9,7 +9,8 @@ use Rattle.annex.specs.Units.{leadOf}
 use Rattle.annex.specs.Items.{contentsBy, contentsOf}
 use Rattle.annex.specs.Layout.{layoutItem}
 use Rattle.annex.specs.Records.{rawItem}
-use Rattle.laws.specs.Written.{lowOctets, written-length, written-then}
+use Rattle.annex.specs.Memory.{lowOctets}
+use Rattle.laws.specs.Written.{written-length, written-then}
 use Rattle.laws.specs.Laid.{length-layout, layout-plain, layout-led}
 use Rattle.laws.specs.Parts.{to-end}
 use Rattle.layout.proofs.Holdings.{contents-as}

@@ -14,12 +14,11 @@ use Rattle.annex.specs.Units.{nameOf, leadOf}
 use Rattle.annex.specs.Heads.{oftenOf}
 use Rattle.annex.specs.Layout.{layoutItem}
 use Rattle.annex.specs.Allowed.{lengthRight, faultIn}
-use Rattle.annex.specs.Records.{rawItem}
+use Rattle.annex.specs.Records.{rawItem, itemFrom}
 use Rattle.annex.specs.Writing.{itemWriting}
 use Rattle.annex.specs.declared.Answer.the-variants.{Accepted}
 use Rattle.laws.specs.Steps.{head-passed, head-refused}
 use Rattle.laws.specs.Laid.{own-writing, length-layout, length-small, lead-small}
-use Rattle.layout.specs.Laying.{itemFrom}
 use Rattle.layout.proofs.Holdings.{contents-as, fault-as}
 use Rattle.layout.proofs.refusal.Statement.{statement}
 use Rattle.layout.proofs.refusal.Tie as tie

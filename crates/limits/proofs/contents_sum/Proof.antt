@@ -6,9 +6,8 @@ use borrow.Author.Needs.{needs}
 use lib.ListN.{length}
 use Rattle.annex.specs.Heads.{most-transfers}
 use Rattle.annex.specs.Allowed.{contentsSum}
-use Rattle.annex.specs.Records.{rawItem, lengthsOf}
+use Rattle.annex.specs.Records.{rawItem, lengthsOf, itemFrom}
 use Rattle.laws.specs.Laid.{own-values}
-use Rattle.layout.specs.Laying.{itemFrom}
 use Rattle.limits.specs.Along.{transferAt, ownAt, usedAt, itemsAt, Turn, turn, items-end, length-mapped}
 use Rattle.limits.specs.Limits.{contents-most}
 use Rattle.limits.proofs.contents_sum.Statement.{statement}

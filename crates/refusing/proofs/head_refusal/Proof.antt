@@ -5,7 +5,7 @@ use mathlib.Core.Bool.{true}
 use borrow.Author.Needs.{needs}
 use borrow.Author.Tests.{ne-eqb, lt-ltb, le-ltb, not-true, not-false}
 use Rattle.annex.specs.Heads.{among, commonHeaders}
-use Rattle.refusing.specs.Laying.{head-long}
+use Rattle.refusing.specs.Laying.{headLength, head-laid, head-long}
 use Rattle.refusing.proofs.head_refusal.Statement.{statement}
 use Rattle.refusing.proofs.head_refusal.Tie as tie
 
@@ -48,10 +48,13 @@ returns-5 c =
       not-true (f .value-fits .result) (c .if5 .taken),
     )
 
+head-is : (c : tie.After-head-len) →
+    c .head-len .result ≡ headLength (c .before .before .before .before .before .before .before .before .before .args .c .header)
+head-is c = c .head-len .ensures ∙ head-laid _
+
 add-end : tie.Need-add-end
 add-end c =
-    omega
-    (arith, c .head-len .ensures, head-long (c .before .before .before .before .before .before .before .before .before .args .c .header) .1)
+    omega (arith, head-is c, head-long (c .before .before .before .before .before .before .before .before .before .args .c .header) .1)
 
 returns-6 : tie.Need-returns-6
 returns-6 c =
@@ -65,7 +68,7 @@ returns-6 c =
       not-false (r .value-right .result) (f .before .if4 .left),
       ← f .value-fits .ensures,
       not-false (f .value-fits .result) (c .before .if5 .left),
-      c .head-len .ensures,
+      head-is c,
     )
 
 pub head-refusal-spec : {M : Type 1} → statement M

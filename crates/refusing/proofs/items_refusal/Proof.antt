@@ -8,13 +8,12 @@ use lib.ListN.{length}
 use Rattle.annex.specs.Heads.{most-transfers}
 use Rattle.annex.specs.Units.{nameOf}
 use Rattle.annex.specs.Items.{Item}
-use Rattle.annex.specs.Records.{rawItem}
+use Rattle.annex.specs.Records.{rawItem, itemFrom}
 use Rattle.annex.specs.Walk.{unseen, timesSeen}
 use Rattle.annex.specs.Writing.{itemsWriting}
 use Rattle.laws.specs.Often.{few-often}
 use Rattle.laws.specs.Laid.{own-header}
 use Rattle.theorems.specs.Writings.{ItemWritten, item-written}
-use Rattle.layout.specs.Laying.{itemFrom}
 use Rattle.limits.specs.Along.{transferAt, ownAt, usedAt, itemsAt, Turn, turn, items-end, length-mapped}
 use Rattle.refusing.specs.Refusing.{items-refused, items-accepted, items-over}
 use Rattle.refusing.proofs.items_refusal.Statement.{statement}

@@ -130,16 +130,17 @@ use denote.Triple.Walked.{says, Stays, stay-none-slice, stay-slice, walkOf, goes
 use denote.Exit.{yes}
 use Rattle.annex.specs.Answers.{givenOf}
 use Rattle.annex.specs.Spans.{spansOf}
+use Rattle.annex.specs.Walking.{noRow, firstCursor, rowHere, nextOf}
 use Rattle.annex.specs.declared.Row.{Row}
 use Rattle.annex.specs.declared.Answer.{Answer}
-use Rattle.laws.specs.Listed.{noRow, Within, given-within}
-use Rattle.walk.specs.Cursors.{firstCursor, rowHere, nextOf, cursorAt, cursor-none, cursor-more}
-use Rattle.walk.specs.declared.cursor.Cursor.{Cursor}
+use Rattle.laws.specs.Listed.{Within, given-within}
+use Rattle.walk.specs.Cursors.{cursorAt, cursor-none, cursor-more}
+use Rattle.annex.specs.declared.Cursor.{Cursor}
 use Rattle.rows.specs.Rows.{counts-from, counts-by, filled, filled-none, length-filled, filled-more, filled-all}
 use Rattle.annex.proofs.Row as R
 use Rattle.annex.proofs.Row.Laws as R′
-use Rattle.walk.proofs.cursor.Cursor as K
-use Rattle.walk.proofs.cursor.Cursor.Laws as K′
+use Rattle.annex.proofs.Cursor as K
+use Rattle.annex.proofs.Cursor.Laws as K′
 use Rattle.annex.proofs.Answer as S
 use Rattle.annex.proofs.Answer.Laws as S′
 use Rattle.reader.proofs.rows.check as check

@@ -7,7 +7,8 @@ use borrow.Author.Needs.{needs}
 use lib.ListN.{length, length-set, length-drop}
 use Rattle.annex.specs.Records.{view}
 use Rattle.annex.specs.Image.{imageParts, imageOf}
-use Rattle.laws.specs.Written.{lowOctets, written-length, written-then}
+use Rattle.annex.specs.Memory.{lowOctets}
+use Rattle.laws.specs.Written.{written-length, written-then}
 use Rattle.laws.specs.Parts.{to-end}
 use Rattle.limits.specs.Along.{length-mapped}
 use Rattle.to_image.specs.Laying.{parts-many}

@@ -5,11 +5,11 @@ use mathlib.Core.Path.{_≡_, ap, _∙_}
 use mathlib.Core.List.{List}
 use borrow.Author.Needs.{needs}
 use lib.ListN.{getD}
-use Rattle.annex.specs.Records.{rawItem}
+use Rattle.annex.specs.Records.{rawItem, itemFrom}
 use Rattle.annex.specs.Image.{imageHead}
-use Rattle.laws.specs.Written.{atFront, octets-every}
+use Rattle.annex.specs.Memory.{atFront}
+use Rattle.laws.specs.Written.{octets-every}
 use Rattle.laws.specs.Laid.{own-values}
-use Rattle.layout.specs.Laying.{itemFrom}
 use Rattle.octets.specs.Copied.{copied-behind}
 use Rattle.to_image.specs.Laying.{item-octets}
 use Rattle.to_image.proofs.put_item.Statement.{statement}

@@ -7,10 +7,9 @@ use borrow.Author.Needs.{needs}
 use lib.ListN.{length}
 use Rattle.annex.specs.Heads.{most-transfers}
 use Rattle.annex.specs.Items.{Item}
-use Rattle.annex.specs.Records.{rawItem}
+use Rattle.annex.specs.Records.{rawItem, itemFrom}
 use Rattle.annex.specs.Image.{imageItem, imageItems}
 use Rattle.laws.specs.Laid.{own-values}
-use Rattle.layout.specs.Laying.{itemFrom}
 use Rattle.limits.specs.Along.{transferAt, ownAt, usedAt, itemsAt, Turn, turn, items-end, length-mapped}
 use Rattle.laws.specs.Rooms.{Laid, laid-start, laid-length, laid-at, laid-count, laid-end, laid-fits, laid-room, laid-turn}
 use Rattle.to_image.specs.Laying.{own-long, length-item}

@@ -10,10 +10,11 @@ use mir.Syntax.{w8}
 use lib.ListN.{length, getD, drop}
 use Rattle.annex.specs.Records.{transfersSum, commonsIn, isWhole, view}
 use Rattle.annex.specs.Image.{imageOf}
+use Rattle.annex.specs.Memory.{atFront}
 use Rattle.annex.specs.declared.Answer.the-variants.{Accepted}
 use Rattle.annex.proofs.Common.{the-field as common-field}
 use Rattle.annex.proofs.Transfer.{the-field as transfer-field}
-use Rattle.laws.specs.Written.{atFront, low-octets, octets-every}
+use Rattle.laws.specs.Written.{low-octets, octets-every}
 use Rattle.limits.specs.Along.{usedAt, Whole, length-mapped}
 use Rattle.limits.specs.Limits.{told-whole}
 use Rattle.laws.specs.Fields.{each-element}

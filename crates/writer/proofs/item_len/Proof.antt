@@ -4,9 +4,8 @@ use mathlib.Core.Path.{_≡_, ap, _∙_}
 use borrow.Author.Needs.{needs}
 use lib.ListN.{length}
 use Rattle.annex.specs.Units.{leadOf, extentOf}
-use Rattle.annex.specs.Records.{rawItem}
+use Rattle.annex.specs.Records.{rawItem, itemFrom}
 use Rattle.laws.specs.Laid.{own-values, own-contents, own-layout, length-layout, lead-small}
-use Rattle.layout.specs.Laying.{itemFrom}
 use Rattle.limits.specs.Limits.{contents-most}
 use Rattle.writer.proofs.item_len.Statement.{statement}
 use Rattle.writer.proofs.item_len.Tie as tie

@@ -9,8 +9,8 @@ use lib.ListN.{length, take, drop}
 use Rattle.annex.specs.Heads.{most-transfers}
 use Rattle.annex.specs.Items.{Item}
 use Rattle.annex.specs.Layout.{layoutItem, layoutItems}
-use Rattle.laws.specs.Written.{atFront}
-use Rattle.layout.specs.Laying.{itemFrom}
+use Rattle.annex.specs.Memory.{atFront}
+use Rattle.annex.specs.Records.{itemFrom}
 use Rattle.limits.specs.Along.{transferAt, ownAt, usedAt, itemsAt, Turn, turn, items-end, length-mapped}
 use Rattle.laws.specs.Rooms.{Laid, laid-start, laid-length, laid-at, laid-count, laid-end, laid-fits, laid-room, laid-turn}
 use Rattle.writer.proofs.put_items.Statement.{statement}

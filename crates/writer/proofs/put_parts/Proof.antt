@@ -24,7 +24,7 @@ use Rattle.limits.specs.Along.{
   data-turn,
   length-mapped,
 }
-use Rattle.refusing.specs.Laying.{headOctets, dataLaid, length-head, plain-laid, data-laid}
+use Rattle.refusing.specs.Laying.{headOctets, dataLaid, length-head, head-laid, plain-laid, data-laid}
 use Rattle.laws.specs.Rooms.{Laid, laid-start, laid-length, laid-at, laid-fits, laid-room, laid-turn, laid-last}
 use Rattle.writer.proofs.put_parts.Statement.{statement}
 use Rattle.writer.proofs.put_parts.Tie as tie
@@ -134,7 +134,7 @@ head-is : (c : tie.After-head-len Inv-loop μ-loop) →
     c .head-len .result ≡ length (headOctets (commonAt (a .before .before .args .t1) (a .loop .k)))
 head-is c =
     let a = c .before .before .before .before .before .before .before .before .before in
-    c .head-len .ensures ∙ sym (length-head (commonAt (a .before .before .args .t1) (a .loop .k)))
+    c .head-len .ensures ∙ head-laid _ ∙ sym (length-head (commonAt (a .before .before .args .t1) (a .loop .k)))
 
 add-at : tie.Need-add-at Inv-loop μ-loop
 add-at c =

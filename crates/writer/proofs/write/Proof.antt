@@ -10,10 +10,11 @@ use lib.ListN.{length, getD, drop}
 use Rattle.annex.specs.Layout.{layout}
 use Rattle.annex.specs.Records.{view}
 use Rattle.annex.specs.Writing.{structWriting, writingOf, writtenOf}
+use Rattle.annex.specs.Memory.{atFront}
 use Rattle.annex.specs.declared.Answer.the-variants.{Accepted}
 use Rattle.annex.proofs.Common.{the-field as common-field}
 use Rattle.annex.proofs.Transfer.{the-field as transfer-field}
-use Rattle.laws.specs.Written.{atFront, low-octets, octets-every}
+use Rattle.laws.specs.Written.{low-octets, octets-every}
 use Rattle.theorems.specs.Writings.{StructWritten, struct-written, with-room, room-after}
 use Rattle.theorems.specs.Views.{FitsStruct, OctetCommon, OctetTransfer}
 use Rattle.limits.specs.Limits.{told-whole}

@@ -7,7 +7,8 @@ use borrow.Author.Needs.{needs}
 use lib.ListN.{length, getD, take, length-set}
 use lib.Seq.{sets}
 use Rattle.annex.specs.Digits.{packed}
-use Rattle.laws.specs.Written.{lowOctets, written-turn, written-end}
+use Rattle.annex.specs.Memory.{lowOctets}
+use Rattle.laws.specs.Written.{written-turn, written-end}
 use Rattle.laws.specs.Joined.{length-packed}
 use Rattle.digits.proofs.Pairs.{pair-octet, last-octet}
 use Rattle.digits.proofs.packing.pack_fitting.Statement.{statement}

@@ -12,21 +12,20 @@ use Rattle.annex.specs.Reading.{transferOf, transferBy}
 use Rattle.annex.specs.declared.Answer.the-variants.{Accepted}
 use Rattle.laws.specs.Extents.{lead-within}
 use Rattle.laws.specs.Parts.{from-to}
-use Rattle.heads.specs.Asked.{used-of, right-of}
 use Rattle.parameter.specs.Asked.{fault-of}
 use Rattle.parameter.proofs.transfer.judged.Statement.{statement}
 use Rattle.parameter.proofs.transfer.judged.Tie as tie
 
 returns : tie.Need-returns
 unfolding transferBy
-returns c = rw (← used-of _ _ (c .before .before .before .pre), c .if1 .taken)
+returns c = rw (← c .before .before .before .pre .0, c .if1 .taken)
 
 returns-2 : tie.Need-returns-2
 unfolding transferBy
 returns-2 c =
     let u = c .before .before in
     let a = u .before .before .before .pre in
-    rw (← used-of _ _ a, u .if1 .left, ← right-of _ _ a, c .if2 .taken)
+    rw (← a .0, u .if1 .left, ← a .1, c .if2 .taken)
 
 returns-3 : tie.Need-returns-3
 unfolding transferBy
@@ -35,7 +34,7 @@ returns-3 c =
     let p = o .before in
     let u = p .before .before in
     let a = u .before .before .before .pre in
-    rw (← used-of _ _ a, u .if1 .left, ← right-of _ _ a, p .if2 .left, ← o .often-of .ensures, le-leb _ _ (c .if3 .taken))
+    rw (← a .0, u .if1 .left, ← a .1, p .if2 .left, ← o .often-of .ensures, le-leb _ _ (c .if3 .taken))
 
 -- past 10: the length and the contents decide
 past-10 : (c : tie.After-octets-after) →
@@ -54,9 +53,9 @@ past-10 c =
     let u = p .before .before in
     let a = u .before .before .before .pre in
     rw (
-      ← used-of _ _ a,
+      ← a .0,
       u .if1 .left,
-      ← right-of _ _ a,
+      ← a .1,
       p .if2 .left,
       ← o .often-of .ensures,
       lt-leb _ _ (x .before .if3 .left),

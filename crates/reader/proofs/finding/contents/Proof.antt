@@ -4,8 +4,9 @@ use mathlib.Core.Path.{_≡_, sym, ap, _∙_}
 use denote.Ref.{now}
 use borrow.Author.Needs.{needs}
 use native.Mathlib.Omega.{arith}
+use Rattle.annex.specs.Walking.{contentsAt, contentsFound}
 use Rattle.annex.specs.declared.Found.the-variants.{At}
-use Rattle.laws.specs.Finding.{contentsAt, contentsFound, search-inside}
+use Rattle.laws.specs.Finding.{search-inside}
 use Rattle.reader.proofs.finding.contents.Statement.{statement}
 use Rattle.reader.proofs.finding.contents.Tie as tie
 
@@ -17,8 +18,8 @@ read c =
     let i = c .before .before in
     let s = i .before .before in
     let a = s .before .before .args in
-    omega
-    (arith, search-inside (a .k) (now (a .t)) .at _ _ (ap (contentsAt (a .k) (now (a .t))) (sym (s .search .ensures) ∙ i .i .given .1)))
+    let f = sym (s .search .ensures) ∙ i .i .given .1 in
+    omega (arith, search-inside (a .k) (now (a .t)) .at _ _ (ap (contentsAt (a .k) (now (a .t))) f))
 
 found : (c : tie.After-lead) →
     let i = c .before .before .before .before in

@@ -4,8 +4,9 @@ use denote.Ref.{now}
 use borrow.Author.Needs.{needs}
 use native.Mathlib.Omega.{arith}
 use Rattle.annex.specs.Reading.{verdictOf}
+use Rattle.annex.specs.Finding.{foundBy}
 use Rattle.annex.specs.declared.Answer.the-variants.{Accepted}
-use Rattle.laws.specs.Finding.{foundBy, plain-found, plain-inside}
+use Rattle.laws.specs.Finding.{plain-found, plain-inside}
 use Rattle.reader.proofs.finding.find.Statement.{statement}
 use Rattle.reader.proofs.finding.find.Tie as tie
 

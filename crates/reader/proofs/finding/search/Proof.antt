@@ -1,4 +1,4 @@
--- `search` meets its contract. The invariant: what is found in the whole is what is found from i on, with so many left to be passed over.
+-- `search` meets its contract. The invariant: what is found in the whole is found from i on, with so many left to be passed over.
 use Prim.Native.Nat.{ℕ, zero, suc, _-_}
 use native.Mathlib.Omega.{arith}
 use mathlib.Core.Path.{_≡_, refl, sym, ap, _∙_}
@@ -7,9 +7,9 @@ use denote.Ref.{now}
 use borrow.Author.Needs.{needs}
 use lib.ListN.{length, getD}
 use Rattle.annex.specs.Heads.{kth}
+use Rattle.annex.specs.Walking.{extentBy, searchFrom, searchIn, stretchAt}
 use Rattle.annex.specs.declared.Found.the-variants.{At}
-use Rattle.laws.specs.Finding.{extentBy, searchFrom, searchIn}
-use Rattle.walk.specs.Stretches.{stretchAt, Whole, stretch-told}
+use Rattle.walk.specs.Stretches.{Whole, stretch-told}
 use Rattle.reader.specs.Finding.{search-none, search-turn}
 use Rattle.reader.proofs.finding.search.Statement.{statement}
 use Rattle.reader.proofs.finding.search.Tie as tie

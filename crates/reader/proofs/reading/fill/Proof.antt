@@ -12,10 +12,11 @@ use Rattle.annex.specs.Units.{commonExtentOf}
 use Rattle.annex.specs.Items.{Part}
 use Rattle.annex.specs.Reading.{openCommon}
 use Rattle.annex.specs.Records.{valuesOf, commonHeadOf}
+use Rattle.annex.specs.Walking.{stretchAt}
 use Rattle.annex.specs.declared.Record.{Record}
 use Rattle.laws.specs.Written.{octets-every}
-use Rattle.laws.specs.Filling.{withItems, head-opened}
-use Rattle.walk.specs.Stretches.{stretchAt, parIn, Whole, stretch-told}
+use Rattle.laws.specs.Filling.{withItems, empty-packed, head-opened}
+use Rattle.walk.specs.Stretches.{parIn, Whole, stretch-told}
 use Rattle.reader.specs.Filling.{itemsFrom, partsLeft, filledWith, data-is, data-items, other-items}
 use Rattle.reader.specs.declared.reading.Filled.{Filled}
 use Rattle.reader.proofs.Turns.{Filling, filling-start, filling-end, filling-mark, Next, filling-next, filling-put}
@@ -32,7 +33,7 @@ loop-holds : tie.Need-loop-holds Inv-loop μ-loop
 loop-holds c =
     let m = now (c .before .before .args .m) in
     let o : (i : ℕ) → getD m i 0 < 256 = λ i. omega (arith, c .before .shared-slice-known .given i) in
-    filling-start m _ (octets-every m o) (c .before .before .pre) (c .empty .result) (c .empty .ensures)
+    filling-start m _ (octets-every m o) (c .before .before .pre) (c .empty .result) (c .empty .ensures ∙ sym empty-packed)
 
 -- the stretch at i
 stretch-is : (c : tie.After-stretch-at Inv-loop μ-loop) →

@@ -3,7 +3,6 @@ use mathlib.Core.Path.{sym, ap, _∙_}
 use borrow.Author.Needs.{needs}
 use Rattle.annex.specs.Records.{readingOf}
 use Rattle.annex.specs.declared.Answer.the-variants.{Accepted}
-use Rattle.laws.specs.Filling.{empty-packed}
 use Rattle.theorems.specs.Messages.{message-read}
 use Rattle.reader.proofs.reading.read.Statement.{statement}
 use Rattle.reader.proofs.reading.read.Tie as tie
@@ -12,7 +11,7 @@ returns : tie.Need-returns
 unfolding readingOf
 returns c =
     let v = c .before .before .before in
-    rw (← v .verdict .ensures, c .before .enum-told2 .given .1, c .empty .ensures, empty-packed)
+    rw (← v .verdict .ensures, c .before .enum-told2 .given .1, c .empty .ensures)
 
 -- an accepted message is accepted with its length
 fill-requires : tie.Need-fill-requires

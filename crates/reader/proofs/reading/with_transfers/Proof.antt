@@ -13,8 +13,9 @@ use Rattle.annex.specs.Units.{extentOf}
 use Rattle.annex.specs.Items.{Item, itemOf}
 use lib.Seq.{sets}
 use Rattle.annex.specs.Records.{headOf, valuesOf}
+use Rattle.annex.specs.Walking.{stretchAt}
 use Rattle.annex.specs.declared.Transfer.{Transfer}
-use Rattle.walk.specs.Stretches.{stretchAt, Whole, stretch-told}
+use Rattle.walk.specs.Stretches.{Whole, stretch-told}
 use Rattle.reader.specs.Filling.{itemsFrom, itemsLeft, filledWith, items-none, items-more, filled-turn, filled-end}
 use Rattle.reader.proofs.reading.with_transfers.Statement.{statement}
 use Rattle.reader.proofs.reading.with_transfers.Tie as tie

@@ -6,7 +6,8 @@ use borrow.Author.Needs.{needs}
 use native.Mathlib.Omega.{arith}
 use lib.ListN.{length}
 use Rattle.annex.specs.Spans.{rowsOf}
-use Rattle.walk.specs.Cursors.{rowHere, nextOf, rowsFrom}
+use Rattle.annex.specs.Walking.{rowHere, nextOf}
+use Rattle.walk.specs.Cursors.{rowsFrom}
 use Rattle.walk.specs.Ahead.{Ahead, Turn, ahead-first, rows-first, rows-none, ahead-turn}
 use Rattle.rows.specs.Tables.{Left, left-all, left-one, left-none, left-fits-one}
 use Rattle.rows.proofs.octets.put_rows.Statement.{statement}

@@ -1,7 +1,7 @@
 -- `next` meets its contract.
 use borrow.Author.Needs.{needs}
 use borrow.Author.Tests.{lt-ltb, le-ltb, ne-eqb}
-use Rattle.walk.specs.Cursors.{nextOf}
+use Rattle.annex.specs.Walking.{nextOf}
 use Rattle.walk.proofs.cursor.next.Statement.{statement}
 use Rattle.walk.proofs.cursor.next.Tie as tie
 

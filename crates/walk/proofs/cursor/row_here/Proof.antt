@@ -1,8 +1,8 @@
 -- `row_here` meets its contract.
 use mathlib.Core.Path.{sym, _∙_}
 use borrow.Author.Needs.{needs}
+use Rattle.annex.specs.Walking.{extentIn, stretchHere, rowHere}
 use Rattle.walk.specs.Stretches.{stretch-told}
-use Rattle.walk.specs.Cursors.{extentIn, stretchHere, rowHere}
 use Rattle.walk.proofs.cursor.row_here.Statement.{statement}
 use Rattle.walk.proofs.cursor.row_here.Tie as tie
 

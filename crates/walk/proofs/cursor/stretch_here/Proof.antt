@@ -1,7 +1,7 @@
 -- `stretch_here` meets its contract.
 use borrow.Author.Needs.{needs}
 use borrow.Author.Tests.{lt-ltb, le-ltb}
-use Rattle.walk.specs.Cursors.{stretchHere}
+use Rattle.annex.specs.Walking.{stretchHere}
 use Rattle.walk.proofs.cursor.stretch_here.Statement.{statement}
 use Rattle.walk.proofs.cursor.stretch_here.Tie as tie
 

@@ -2,8 +2,8 @@
 use native.Mathlib.Omega.{arith}
 use borrow.Author.Needs.{needs}
 use borrow.Author.Tests.{lt-ltb, le-ltb, le-leb, lt-leb}
+use Rattle.annex.specs.Walking.{stretchAt}
 use Rattle.laws.specs.Extents.{lead-within}
-use Rattle.walk.specs.Stretches.{stretchAt}
 use Rattle.walk.proofs.stretch.stretch_at.Statement.{statement}
 use Rattle.walk.proofs.stretch.stretch_at.Tie as tie
 

@@ -1,2 +1,0 @@
--- What the contracts of this crate's functions cite beside the definitions of `annex`.
-pub mod Laying
