@@ -30,7 +30,7 @@ fn zero_code(z: Alphabet) -> u8
     }
 }
 
-// The digit that a half-octet stands for. Codes 11 and 12 are * and #, which a record holds as 10 and 11.
+// The digit that a half-octet stands for. Codes 11 and 12 are * and #, which a record holds as 10 and 11; what is no code stays as it is.
 pub fn digit_of(z: Alphabet, h: u8) -> u8
     ensures { λ r. ⌜ Gives (digitOf z h) r ⌝ }
 {
@@ -43,7 +43,7 @@ pub fn digit_of(z: Alphabet, h: u8) -> u8
     if h == zero_code(z) { 0 } else { h }
 }
 
-// The half-octet that stands for a digit.
+// The half-octet that stands for a digit; what is no digit stays as it is.
 pub fn code_of(z: Alphabet, d: u8) -> u8
     ensures { λ r. ⌜ Gives (codeOf z d) r ⌝ }
 {

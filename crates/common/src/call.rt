@@ -6,7 +6,7 @@ ghost use Rattle.annex.specs.Layout.{callOctets};
 ghost use Rattle.annex.specs.Promises.{Gives};
 ghost use Rattle.annex.specs.Reading.{callNumber};
 
-// Whether a common parameter is a call number.
+// Whether the header is that of a call number: 82 or 83.
 pub fn is_call(header: u8) -> bool
     ensures { λ r. ⌜ Gives (isCall header) r ⌝ }
 {
@@ -16,7 +16,7 @@ pub fn is_call(header: u8) -> bool
     header == Common::OWN_CALL
 }
 
-// The number that these octets hold.
+// The number in the first three octets, least octet first; one that is not there is taken as 0.
 pub fn call_value(own: &[u8]) -> u32
     ensures { λ r. ⌜ Gives (callNumber (now (own .entry))) r ⌝ }
 {
@@ -26,7 +26,7 @@ pub fn call_value(own: &[u8]) -> u32
     low + 256 * middle + 65536 * high
 }
 
-// The octets that hold this number.
+// The octets of the number's lowest 24 bits, least octet first.
 pub fn call_octets(value: u32) -> [u8; 3]
     ensures { λ r. ⌜ Gives (callOctets value) r ⌝ }
 {

@@ -47,7 +47,7 @@ fn signal_kind(octet: u8) -> bool
     }
 }
 
-// Whether the octet right after the header is allowed: the user class, or a signal kind.
+// Whether the octet right after the header is allowed: of 01 the user class, of 06 a signal kind, of any other header every octet.
 pub fn octet_allowed(header: u8, octet: u8) -> bool
     ensures { λ r. ⌜ Gives (octetAllowed header octet) r ⌝ }
 {
@@ -58,7 +58,7 @@ pub fn octet_allowed(header: u8, octet: u8) -> bool
     }
 }
 
-// 2 to 5 of a common parameter whose name stood so many times before; xs are the octets after its header.
+// 2 to 5 of a common parameter whose name stood so many times before, or how many of the octets xs after its header are its own.
 pub fn common_form(times: u8, header: u8, xs: &[u8]) -> Answer
     ensures { λ r. ⌜ Gives (commonForm times header (now (xs .entry))) r ⌝ }
 {
@@ -79,7 +79,7 @@ pub fn common_form(times: u8, header: u8, xs: &[u8]) -> Answer
     Answer::Accepted(n)
 }
 
-// The end mark: 6, then 7 at the first octet after it. whole: 01 and 06 have been seen.
+// The end mark: 6, then 7 at the first octet after it, or that no octet is its own. whole: 01 and 06 have been seen.
 pub fn end_mark(whole: bool, xs: &[u8]) -> Answer
     ensures { λ r. ⌜ Gives (endOf whole (now (xs .entry))) r ⌝ }
 {

@@ -7,7 +7,7 @@ use annex::Common;
 use annex::Found;
 use annex::Transfer;
 use octets::splice;
-use reader::finding::common_plain;
+use reader::finding::common_by_length;
 use reader::verdict::verdict;
 use steps::Kind;
 use steps::contents_answer;
@@ -58,7 +58,7 @@ fn edit(buffer: &mut [u8], n: usize, kind: Kind, new: &[u8]) -> Answer
     let Answer::Accepted(_) = message else {
         return message;
     };
-    let Found::At(start, end) = common_plain(&buffer[..n], Common::TRANSFER_DATA) else {
+    let Found::At(start, end) = common_by_length(&buffer[..n], Common::TRANSFER_DATA) else {
         return Answer::Refused(Answer::ABSENT, 0);
     };
     let head = head_answer(kind, new);

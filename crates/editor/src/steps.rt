@@ -7,7 +7,7 @@ use heads::often_of;
 use octets::octet_at;
 use parameter::contents::at_header;
 use parameter::contents::contents_fault;
-use reader::finding::search;
+use reader::finding::search_by_length;
 use units::extent_of;
 use units::lead;
 use units::octets_after;
@@ -71,16 +71,16 @@ pub fn spot_in(t: &[u8], kind: Kind, new: &[u8]) -> Found
 {
     let name = octet_at(new, 0) % 64;
     match kind {
-        Kind::Replacing(which) => search(t, Key::Name(name, which)),
+        Kind::Replacing(which) => search_by_length(t, Key::Name(name, which)),
         Kind::Appending => {
             let last = (often_of(name) - 1) as usize;
-            let Found::Nowhere = search(t, Key::Name(name, last)) else {
+            let Found::Nowhere = search_by_length(t, Key::Name(name, last)) else {
                 return Found::Nowhere;
             };
             let end = t.len();
             Found::At(end, end)
         }
-        Kind::Removing(x, which) => search(t, Key::Name(x, which)),
+        Kind::Removing(x, which) => search_by_length(t, Key::Name(x, which)),
     }
 }
 

@@ -143,7 +143,7 @@ pub fn fault_under(zeroes: u8, form: Form, s: &[u8]) -> Fault
     form_fault(form, s)
 }
 
-// The contents s under a header.
+// What is wrong with the contents s under a header, any at all.
 pub fn contents_fault(header: u8, s: &[u8]) -> Fault
     ensures { λ r. ⌜ Gives (faultOf header (now (s .entry))) r ⌝ }
 {

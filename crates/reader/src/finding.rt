@@ -57,8 +57,8 @@ fn extent_by(k: Key, h: u8) -> Extent
     }
 }
 
-// The parameter sought among those of t, from its header to its end, by the length rule alone.
-pub fn search(t: &[u8], k: Key) -> Found
+// The parameter sought among those that the length rule alone finds in t, octets of any kind: from its header to its end.
+pub fn search_by_length(t: &[u8], k: Key) -> Found
     ensures { λ r. ⌜ Gives (searchIn k (now (t .entry))) r ⌝ }
 {
     let mut left = which_of(k);
@@ -83,7 +83,7 @@ pub fn search(t: &[u8], k: Key) -> Found
 fn contents(t: &[u8], k: Key) -> Found
     ensures { λ r. ⌜ r ≡ contentsFound k (now (t .entry)) ⌝ }
 {
-    let Found::At(i, end) = search(t, k) else {
+    let Found::At(i, end) = search_by_length(t, k) else {
         return Found::Nowhere;
     };
     let before = lead(extent_by(k, t[i]));
@@ -91,8 +91,9 @@ fn contents(t: &[u8], k: Key) -> Found
     Found::At(start, end)
 }
 
-// In a message that is accepted: where the contents of a common parameter stand. The end mark has none to be found.
-pub fn common_plain(m: &[u8], header: u8) -> Found
+// Where the contents of a common parameter stand by the length rule alone, in octets of any kind; the end mark has none to be found. In an
+// accepted message this is where finding finds them.
+pub fn common_by_length(m: &[u8], header: u8) -> Found
     ensures { λ r. ⌜ Gives (commonPlain header (now (m .entry))) r ⌝ }
 {
     if header == Common::END_MARK {
@@ -101,8 +102,8 @@ pub fn common_plain(m: &[u8], header: u8) -> Found
     contents(m, Key::Header(header))
 }
 
-// In a message that is accepted: where the contents of a transfer parameter stand, in those of its C5.
-fn transfer_plain(m: &[u8], name: u8, which: usize) -> Found
+// The same of a transfer parameter, in the contents of the first C5.
+fn transfer_by_length(m: &[u8], name: u8, which: usize) -> Found
     ensures { λ r. ⌜ r ≡ transferPlain name which (now (m .entry)) ⌝ }
 {
     let Found::At(s, e) = contents(m, Key::Header(Common::TRANSFER_DATA)) else {
@@ -116,13 +117,13 @@ fn transfer_plain(m: &[u8], name: u8, which: usize) -> Found
     Found::At(start, end)
 }
 
-// In a message that is accepted: where the contents stand of the parameter sought.
-fn plain(m: &[u8], k: Key) -> Found
+// The same of the parameter sought.
+fn found_by_length(m: &[u8], k: Key) -> Found
     ensures { λ r. ⌜ r ≡ plainBy k (now (m .entry)) ⌝ }
 {
     match k {
-        Key::Header(header) => common_plain(m, header),
-        Key::Name(name, which) => transfer_plain(m, name, which),
+        Key::Header(header) => common_by_length(m, header),
+        Key::Name(name, which) => transfer_by_length(m, name, which),
     }
 }
 
@@ -134,7 +135,7 @@ fn find(m: &[u8], k: Key) -> Finding
     let Answer::Accepted(_) = a else {
         return Finding(a, 0, 0);
     };
-    let Found::At(start, end) = plain(m, k) else {
+    let Found::At(start, end) = found_by_length(m, k) else {
         return Finding(Answer::Refused(Answer::ABSENT, 0), 0, 0);
     };
     Finding(Answer::Accepted(start), start, end)

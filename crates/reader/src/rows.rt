@@ -39,7 +39,7 @@ pub fn check(m: &[u8], room: usize) -> Answer
     Answer::Accepted(n)
 }
 
-// How many rows an answer gives.
+// How many rows an answer gives, none where it refuses.
 pub fn given(a: Answer) -> usize
     ensures { λ r. ⌜ Gives (givenOf a) r ⌝ }
 {

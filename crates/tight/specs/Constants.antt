@@ -134,8 +134,8 @@ rows =
     (stopOf (stretchAt K 0 LengthOctet), stopOf (stretchAt [] 0 LengthOctet)) ∷  -- stretch_at
     (rowHere K (cursorTo 0 0) .offset, rowHere K (cursorTo 2 2) .offset) ∷  -- row_here
     (nextOf K (cursorTo 0 0) .at, nextOf K (cursorTo 2 2) .at) ∷  -- next
-    (stopOf (searchIn (Name 0x01 0) (0x41 ∷ 0x01 ∷ [])), stopOf (searchIn (Name 0x01 1) (0x41 ∷ 0x01 ∷ []))) ∷  -- search
-    (stopOf (commonPlain 0x01 K), stopOf (commonPlain 0x06 K)) ∷  -- common_plain
+    (stopOf (searchIn (Name 0x01 0) (0x41 ∷ 0x01 ∷ [])), stopOf (searchIn (Name 0x01 1) (0x41 ∷ 0x01 ∷ []))) ∷  -- search_by_length
+    (stopOf (commonPlain 0x01 K), stopOf (commonPlain 0x06 K)) ∷  -- common_by_length
     (givenOf (findAnswer short (foundBy (Header 0x01) short)), givenOf (findAnswer short (foundBy (Header 0x06) short))) ∷  -- find_both
     (givenOf (Accepted 9), givenOf (Refused 15 0)) ∷  -- given
     (lengthsOf (take 0 (pack recordOfM .transfer)), lengthsOf (take 1 (pack recordOfM .transfer))) ∷  -- values_before

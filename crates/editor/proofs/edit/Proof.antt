@@ -43,7 +43,7 @@ returns-3 c =
     let e = v .before .before in
     let a = e .before .before .before in
     refused (a .args .kind) _ (a .pre) _ _ _ _ _ (octets (e .before)) refl
-    (rw (le-ltb _ _ (e .if1 .left), ← v .verdict .ensures, m .enum-told .given .1, ← d .common-plain .ensures, c .enum-told3 .given .1))
+    (rw (le-ltb _ _ (e .if1 .left), ← v .verdict .ensures, m .enum-told .given .1, ← d .common-by-length .ensures, c .enum-told3 .given .1))
 
 abbrev at-start : tie.After-known-told → tie.Start
 at-start c = c .before .before .before .before .before .before .before .before .before .before .before .before
@@ -60,7 +60,7 @@ found c =
       within = e .if1 .left;
       given = _;
       message = sym (v .verdict .ensures) ∙ m .enum-told .given .1;
-      found = sym (d .common-plain .ensures) ∙ c .before .start .given .1;
+      found = sym (d .common-by-length .ensures) ∙ c .before .start .given .1;
     }
 
 -- ---- the edit's own steps

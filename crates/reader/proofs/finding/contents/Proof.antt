@@ -11,14 +11,14 @@ use Rattle.reader.proofs.finding.contents.Statement.{statement}
 use Rattle.reader.proofs.finding.contents.Tie as tie
 
 returns : tie.Need-returns
-returns c = rw (← c .before .before .search .ensures, c .enum-told .given .1)
+returns c = rw (← c .before .before .search-by-length .ensures, c .enum-told .given .1)
 
 read : tie.Need-shared-slice-read-extent-by
 read c =
     let i = c .before .before in
     let s = i .before .before in
     let a = s .before .before .args in
-    let f = sym (s .search .ensures) ∙ i .i .given .1 in
+    let f = sym (s .search-by-length .ensures) ∙ i .i .given .1 in
     omega (arith, search-inside (a .k) (now (a .t)) .at _ _ (ap (contentsAt (a .k) (now (a .t))) f))
 
 found : (c : tie.After-lead) →
@@ -27,7 +27,7 @@ found : (c : tie.After-lead) →
     contentsFound (a .k) (now (a .t)) ≡ At (i .i .given .0 .0 + 1 + c .lead .result) (i .i .given .0 .1 .0)
 found c =
     let i = c .before .before .before .before in
-    rw (← i .before .before .search .ensures, i .i .given .1, c .lead .ensures, c .before .extent-by .ensures)
+    rw (← i .before .before .search-by-length .ensures, i .i .given .1, c .lead .ensures, c .before .extent-by .ensures)
 
 add-start : tie.Need-add-start
 add-start c = omega (arith, search-inside _ _ .at _ _ (found c))

@@ -16,16 +16,16 @@ returns c =
     let e = c .enum-told2 .given .1 in
     record { answer = rw (← v, e); order = omega arith; within = omega arith; part = rw (← v, e) }
 
-accepted : (c : tie.After-plain)
+accepted : (c : tie.After-found-by-length)
     → verdictOf (now (c .before .before .before .before .before .args .m)) ≡ Accepted (c .before .enum-told .given .0 .0)
 accepted c = sym (c .before .before .before .verdict .ensures) ∙ c .before .enum-told .given .1
 
-found : (c : tie.After-plain) →
+found : (c : tie.After-found-by-length) →
     let a = c .before .before .before .before .before .args in
-    foundBy (a .k) (now (a .m)) ≡ c .plain .result
+    foundBy (a .k) (now (a .m)) ≡ c .found-by-length .result
 found c =
     let a = c .before .before .before .before .before .args in
-    plain-found (a .k) _ _ (accepted c) ∙ sym (c .plain .ensures)
+    plain-found (a .k) _ _ (accepted c) ∙ sym (c .found-by-length .ensures)
 
 returns-2 : tie.Need-returns-2
 returns-2 c =
@@ -41,7 +41,7 @@ returns-3 c =
     let v = accepted p in
     let f = found p ∙ s .start .given .1 in
     let a = p .before .before .before .before .before .args in
-    let i = plain-inside (a .k) (now (a .m)) .at _ _ (sym (p .plain .ensures) ∙ s .start .given .1) in
+    let i = plain-inside (a .k) (now (a .m)) .at _ _ (sym (p .found-by-length .ensures) ∙ s .start .given .1) in
     record { answer = rw (v, f); order = i .0; within = i .1; part = rw (v, f) }
 
 pub find-spec : {M : Type 1} → statement M

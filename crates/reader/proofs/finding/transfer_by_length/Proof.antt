@@ -1,4 +1,4 @@
--- `transfer_plain` meets its contract: it searches the part that C5's contents are, and tells the place of the whole.
+-- `transfer_by_length` meets its contract: it searches the part that C5's contents are, and tells the place of the whole.
 use Prim.Native.Nat.{_≤_, _+_}
 use mathlib.Core.Path.{_≡_, sym, _∙_}
 use denote.Ref.{now}
@@ -9,8 +9,8 @@ use Rattle.annex.specs.Heads.{transfer-data}
 use Rattle.annex.specs.declared.Key.the-variants.{Header, Name}
 use Rattle.annex.specs.declared.Found.the-variants.{At}
 use Rattle.laws.specs.Finding.{search-inside, transferPlain, plain-inside}
-use Rattle.reader.proofs.finding.transfer_plain.Statement.{statement}
-use Rattle.reader.proofs.finding.transfer_plain.Tie as tie
+use Rattle.reader.proofs.finding.transfer_by_length.Statement.{statement}
+use Rattle.reader.proofs.finding.transfer_by_length.Tie as tie
 
 returns : tie.Need-returns
 returns c = rw (← c .before .before .contents .ensures, c .enum-told .given .1)
@@ -46,8 +46,8 @@ add-start c = omega (arith, plain-inside (Name _ _) _ .at _ _ (found c))
 add-end : tie.Need-add-end
 add-end c = omega (arith, plain-inside (Name _ _) _ .at _ _ (found c))
 
-pub transfer-plain-spec : {M : Type 1} → statement M
-transfer-plain-spec =
+pub transfer-by-length-spec : {M : Type 1} → statement M
+transfer-by-length-spec =
     tie.close
     (tie.spec
     (λ c κs. search needs)

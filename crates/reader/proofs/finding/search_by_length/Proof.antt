@@ -1,4 +1,4 @@
--- `search` meets its contract. The invariant: what is found in the whole is found from i on, with so many left to be passed over.
+-- `search_by_length` meets its contract. The invariant: what is found in the whole is found from i on, with so many left to be passed over.
 use Prim.Native.Nat.{ℕ, zero, suc, _-_}
 use native.Mathlib.Omega.{arith}
 use mathlib.Core.Path.{_≡_, refl, sym, ap, _∙_}
@@ -11,8 +11,8 @@ use Rattle.annex.specs.Walking.{extentBy, searchFrom, searchIn, stretchAt}
 use Rattle.annex.specs.declared.Found.the-variants.{At}
 use Rattle.walk.specs.Stretches.{Whole, stretch-told}
 use Rattle.reader.specs.Finding.{search-none, search-turn}
-use Rattle.reader.proofs.finding.search.Statement.{statement}
-use Rattle.reader.proofs.finding.search.Tie as tie
+use Rattle.reader.proofs.finding.search_by_length.Statement.{statement}
+use Rattle.reader.proofs.finding.search_by_length.Tie as tie
 
 abbrev Inv-loop : tie.InvT-loop
 Inv-loop t k left₀ i₀ left i = searchIn k t ≡ searchFrom k left i t
@@ -68,8 +68,8 @@ loop-again c = rw (turn (c .before .before), c .before .if1 .taken) (fewer _ _ _
 loop-again-2 : tie.Need-loop-again-2 Inv-loop μ-loop
 loop-again-2 c = rw (turn (c .before), c .if1 .left)
 
-pub search-spec : {M : Type 1} → statement M
-search-spec =
+pub search-by-length-spec : {M : Type 1} → statement M
+search-by-length-spec =
     tie.close
     (tie.spec
     Inv-loop
