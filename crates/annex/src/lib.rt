@@ -1,5 +1,5 @@
 // The types of document 01, with the constants and constructors of the common, transfer and signal kinds.
-// What they mean is said in specs/, which is all that a reader has to believe.
+// What they mean is said in specs/, which a reader has to believe; docs/TRUST.md says what else.
 ghost use Rattle.annex.specs.Promises.{Gives};
 ghost use Rattle.annex.specs.Units.{octetsOf};
 ghost use Rattle.annex.specs.Records.{valueHead, dataHead, carriedHead, dialledHead, numberHead, noCommon, noTransfer};
