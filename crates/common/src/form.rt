@@ -25,10 +25,11 @@ pub fn listed(header: u8) -> bool
     }
 }
 
-// Whether the octet is a signal kind.
-fn signal_kind(octet: u8) -> bool
-    ensures { λ r. ⌜ Gives (among octet signalKinds) r ⌝ }
+// Whether the kind is one of the listed.
+fn signal_listed(kind: Signal) -> bool
+    ensures { λ r. ⌜ Gives (among (kind .0) signalKinds) r ⌝ }
 {
+    let octet = kind.0;
     match octet {
         Signal::DATA_ENQUIRY
         | Signal::DATA_RESPONSE
@@ -53,7 +54,7 @@ pub fn octet_allowed(header: u8, octet: u8) -> bool
 {
     match header {
         Common::USER_CLASS => octet == Common::ADVANCED_TELEPHONY,
-        Common::SIGNAL_KIND => signal_kind(octet),
+        Common::SIGNAL_KIND => signal_listed(Signal(octet)),
         _ => true,
     }
 }
