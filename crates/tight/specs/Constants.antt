@@ -1,22 +1,23 @@
--- Two wrong programs for each function that serves the product's: one that always answers what is right at the first input of its row, one
--- that always answers what is right at the second. For `Common::none`, `Transfer::none`, `walk::cursor::first`, `reader::reading::empty`
--- and, in the base, where every name may stand once, for `often_of` a constant is right, and they have no row.
+-- Wrong programs for each function that serves the product's. A row of the table has two inputs of a function and what its own definition
+-- gives at each; `shut-out` says of every row: a program that answers the same at both inputs breaks the promise, and of a function that
+-- stores, so does one that says the same at both, and one that stores nothing. For `Common::none`, `Transfer::none`,
+-- `walk::cursor::first`, `reader::reading::empty` and, in the base, where every name may stand once, for `often_of` a constant is right,
+-- and they have no row.
 use Prim.Native.Nat.{ℕ, _+_, _*_, _/_, min}
 use native.Mathlib.Omega.{arith}
 use mathlib.Core.Path.{_≡_, refl, sym, ap, _∙_}
-use mathlib.Core.Bool.{Bool, true, false, not, _||_}
+use mathlib.Core.Bool.{Bool, true, false, not, _&&_, _||_}
 use mathlib.Core.List.{List, [], _∷_, _++_}
-use borrow.Author.Tests.{eq-eqb}
+use borrow.Author.Tests.{eq-eqb, not-true}
 use lib.Dec.{eqb, leb}
-use lib.ListN.{length, getD, take, drop}
+use lib.ListN.{length, getD, take, drop, replicate}
+use lib.Seq.{sets}
 use Rattle.annex.specs.Answers.{numberOf, givenOf, faultNumberOf, stopOf, over-limits, refuse, soundThen, headerAt}
 use Rattle.annex.specs.Units.{octetsOf, afterOf, leadOf, commonExtentOf, extentOf}
 use Rattle.annex.specs.Heads.{clear, among, listedHeaders, isCall, nameUsed, pliRight, oftenOf, zeroesOf, formOf}
 use Rattle.annex.specs.Digits.{halves, joined, digitOf, codeOf, isCode, isDigit, halvesFault, digitsFault, digitsOf, packed}
-use Rattle.annex.specs.Contents.{formedThen, dialledFault, faultOf}
-use Rattle.annex.specs.Items.{plainItem, valuePart, holdingOf, openBy, itemOf, contentsOf, ownOf}
-use Rattle.annex.specs.declared.Holding.{Holding}
-use Rattle.annex.specs.declared.Holding.the-variants.{AsContents, AsDigits, AsNumber, AsGeneric}
+use Rattle.annex.specs.Contents.{formedThen, dialledFault, faultBy, faultOf}
+use Rattle.annex.specs.Items.{valuePart, holdingOf, openBy, itemOf, contentsOf, ownOf}
 use Rattle.annex.specs.Layout.{layoutItem, layoutPart, callOctets}
 use Rattle.annex.specs.Allowed.{every, lengthRight, faultIn}
 use Rattle.annex.specs.Walk.{walk}
@@ -32,13 +33,14 @@ use Rattle.annex.specs.Reading.{
   commonsBy,
   callNumber,
 }
-use Rattle.annex.specs.Finding.{commonIn, commonFound, findAnswer, foundBy}
+use Rattle.annex.specs.Finding.{commonIn, commonFound, findAnswer, findPart, foundBy}
 use Rattle.annex.specs.Records.{
   valueHead,
   dataHead,
   carriedHead,
   dialledHead,
   numberHead,
+  itemFrom,
   pad,
   valuesOf,
   pack,
@@ -51,25 +53,108 @@ use Rattle.annex.specs.Records.{
   view,
 }
 use Rattle.annex.specs.Writing.{headWriting, itemWriting, overLimits}
-use Rattle.annex.specs.Promises.{Gives}
+use Rattle.annex.specs.Promises.{Gives, Stores}
 use Rattle.annex.specs.Bench.{K, recordOfK, recordOfM}
 use Rattle.annex.specs.Walking.{pars, soughtIn, searchIn, commonPlain, stretchAt, cursorTo, stretchHere, rowHere, nextOf}
-use Rattle.annex.specs.Memory.{spliceFits}
-use Rattle.annex.specs.Opening.{headFor, openedHead}
+use Rattle.annex.specs.Memory.{put, atFront, spliced, spliceFits}
+use Rattle.annex.specs.Opening.{headFor, valuesWith, openedHead, openedValues}
+use Rattle.annex.specs.declared.Alphabet.{Alphabet}
 use Rattle.annex.specs.declared.Alphabet.the-variants.{Dialled, Numbered}
+use Rattle.annex.specs.declared.Answer.{Answer}
 use Rattle.annex.specs.declared.Answer.the-variants.{Accepted, Refused}
+use Rattle.annex.specs.declared.Check.the-variants.{Nothing}
+use Rattle.annex.specs.declared.Common.{Common}
+use Rattle.annex.specs.declared.Cursor.{Cursor}
+use Rattle.annex.specs.declared.Extent.{Extent}
 use Rattle.annex.specs.declared.Extent.the-variants.{CountOctet, LengthOctet}
+use Rattle.annex.specs.declared.Fault.{Fault}
 use Rattle.annex.specs.declared.Fault.the-variants.{Sound, Bad}
+use Rattle.annex.specs.declared.Form.{Form}
+use Rattle.annex.specs.declared.Form.the-variants.{Checked, Digits, Number, Calling, Generic}
+use Rattle.annex.specs.declared.Found.{Found}
+use Rattle.annex.specs.declared.Holding.{Holding}
+use Rattle.annex.specs.declared.Holding.the-variants.{AsContents, AsDigits, AsNumber, AsGeneric}
 use Rattle.annex.specs.declared.Key.the-variants.{Header, Name}
+use Rattle.annex.specs.declared.Octets.{Octets}
 use Rattle.annex.specs.declared.Record.{Record}
+use Rattle.annex.specs.declared.Row.{Row}
+use Rattle.annex.specs.declared.Transfer.{Transfer}
+use Rattle.laws.specs.Bools.{and-left, and-right}
 use Rattle.tight.specs.Wrong.{short}
 
--- whatever number tells two answers apart
-pub no-constant : {A : Type 0} (number : A → ℕ) (x y c : A) → eqb (number x) (number y) ≡ false → Gives x c → Gives y c → ⊥
-no-constant number x y c apart p q =
-    let e : number x ≡ number y = ap number (sym p ∙ q) in
-    let t : true ≡ false = sym (eq-eqb (number x) (number y) e) ∙ apart in
-    absurd (let z : _≡_ {A = ℕ} 0 1 = cc in omega arith)
+-- ---- the rows, and the programs that each shuts out
+
+-- what a function that stores promises at one input: whether the request fits, lent memory with it stored, and as it was
+pub record Storing : Type 0 where
+  pub fits : Bool
+  pub stored : List ℕ
+  pub before : List ℕ
+
+abbrev storing : Bool → List ℕ → List ℕ → Storing
+storing f s b = record { fits = f; stored = s; before = b }
+
+abbrev pub Keeps : Storing → Bool → List ℕ → Type 0
+Keeps a r now = Stores (a .fits) (a .stored) (a .before) r now
+
+-- what a function gives at two inputs, and a number that tells the two apart; or what one that stores promises at two inputs, the first
+-- with room for the request, the second with none
+pub data AtTwo : Type 1 where
+  gives : (A : Type 0) → (A → ℕ) → A → A → AtTwo
+  stores : Storing → Storing → AtTwo
+
+-- one that says the same at both, whatever lent memory then holds; and at the first one that leaves lent memory as it was, whatever it says
+pub record NoStorer (a b : Storing) : Type 0 where
+  pub same-said : (r : Bool) (s t : List ℕ) → Keeps a r s → Keeps b r t → ⊥
+  pub nothing-stored : (r : Bool) → Keeps a r (a .before) → ⊥
+
+-- one that answers the same at both
+abbrev pub Shut : AtTwo → Type 0
+Shut (gives A number x y) = (c : A) → Gives x c → Gives y c → ⊥
+Shut (stores a b) = NoStorer a b
+
+abbrev pub AllShut : List AtTwo → Type 0
+AllShut [] = Unit {0}
+AllShut (r ∷ rs) = Shut r × AllShut rs
+
+-- ---- the test of a row
+
+abbrev first : List ℕ → ℕ
+first l = getD l 0 0
+
+-- the two numbers differ; or one fits, the other does not, and what is stored changes the first octet
+abbrev differ : AtTwo → Bool
+differ (gives A number x y) = not (eqb (number x) (number y))
+differ (stores a b) = a .fits && (not (b .fits) && not (eqb (first (a .stored)) (first (a .before))))
+
+abbrev allDiffer : List AtTwo → Bool
+allDiffer [] = true
+allDiffer (r ∷ rs) = differ r && allDiffer rs
+
+apart : {A : Type 0} (number : A → ℕ) (x y : A) → not (eqb (number x) (number y)) ≡ true → x ≡ y → ⊥
+apart number x y t e =
+    let same = eq-eqb (number x) (number y) (ap number e) in
+    let other = not-true (eqb (number x) (number y)) t in
+    let z : _≡_ {A = ℕ} 0 1 = cc in
+    omega arith
+
+-- a row that passes it shuts its programs out
+row-shut : (r : AtTwo) → differ r ≡ true → Shut r
+row-shut (gives A number x y) t = λ c p q. apart number x y t (sym p ∙ q)
+row-shut (stores a b) t =
+    let fit = and-left (a .fits) _ t in
+    let rest = and-right (a .fits) _ t in
+    let other = not-true (b .fits) (and-left (not (b .fits)) _ rest) in
+    record {
+      same-said = λ r s t p q. let e = sym (p .0) ∙ q .0 in let z : _≡_ {A = ℕ} 0 1 = cc in omega arith;
+      nothing-stored =
+          λ r p. apart first (a .stored) (a .before) (and-right (not (b .fits)) _ rest) (let said = p .0 ∙ fit in sym (p .1 ∙ rw said));
+    }
+
+all-shut : (rs : List AtTwo) → allDiffer rs ≡ true → AllShut rs
+all-shut [] t = record {}
+all-shut (r ∷ rs) t = (row-shut r (and-left (differ r) _ t), all-shut rs (and-right (differ r) _ t))
+
+-- ---- what tells answers apart
 
 abbrev flag : Bool → ℕ
 flag true = 1
@@ -81,77 +166,156 @@ heldNumber (AsDigits m) = 1
 heldNumber (AsNumber w) = 2
 heldNumber AsGeneric = 3
 
--- what over_limits says
+abbrev formNumber : Form → ℕ
+formNumber (Checked c) = 0
+formNumber (Digits m) = 1
+formNumber Number = 2
+formNumber Calling = 3
+formNumber Generic = 4
+
+abbrev counts : ℕ → ℕ → AtTwo
+counts = gives ℕ (λ n. n)
+
+abbrev tests : Bool → Bool → AtTwo
+tests = gives Bool flag
+
+abbrev answers : Answer → Answer → AtTwo
+answers = gives Answer numberOf
+
+abbrev faults : Fault → Fault → AtTwo
+faults = gives Fault faultNumberOf
+
+abbrev finds : Found → Found → AtTwo
+finds = gives Found stopOf
+
+abbrev lists : List ℕ → List ℕ → AtTwo
+lists = gives (List ℕ) first
+
+abbrev extents : Extent → Extent → AtTwo
+extents = gives Extent (λ e. afterOf e 0)
+
+abbrev commons : (Common → ℕ) → Common → Common → AtTwo
+commons = gives Common
+
+abbrev transfers : (Transfer → ℕ) → Transfer → Transfer → AtTwo
+transfers = gives Transfer
+
+-- ---- what contracts say and no definition of theirs names
+
+-- fault_under
+abbrev under : ℕ → Form → List ℕ → Fault
+under zeroes form s = formedThen (clear zeroes (getD s 0 0)) (faultBy form s)
+
+-- transfers_held
+abbrev transfersHeld : Record → Answer
+transfersHeld q = refuse (not (isWhole q)) over-limits 0 (Accepted (transfersSum (commonsIn q)))
+
+-- over_limits
 abbrev overStruct : Record → Bool
 overStruct q = not (isWhole q) || overLimits (view q)
 
--- a row to a function: what its definition gives at two inputs, told as numbers
-abbrev pub rows : List (ℕ × ℕ)
-rows =
-    (octetsOf (record { 0 = 3 }) .0, octetsOf (record { 0 = 5 }) .0) ∷  -- HalfOctets::octets
-    (valueHead 0x06 0x11 .value, valueHead 0x06 0x12 .value) ∷  -- Common::octet, Common::call_number
-    (dataHead 1 .transfers, dataHead 2 .transfers) ∷  -- Common::transfer_data
-    (carriedHead 0xCC 1 .len, carriedHead 0xCC 2 .len) ∷  -- Transfer::carried
-    (dialledHead 0x91 1 0 0 2 .notification, dialledHead 0x91 0 1 0 2 .notification) ∷  -- Transfer::dialled
-    (numberHead 0xD7 0x83 0x11 1 .plan, numberHead 0xD7 0x83 0x21 1 .plan) ∷  -- Transfer::number
-    (afterOf (extentOf 0x07) 0, afterOf (extentOf 0x41) 0) ∷  -- extent_of
-    (afterOf (commonExtentOf 0x01) 0, afterOf (commonExtentOf 0x83) 0) ∷  -- common_extent_of
-    (afterOf CountOctet 4, afterOf LengthOctet 4) ∷  -- octets_after
-    (leadOf CountOctet, leadOf LengthOctet) ∷  -- lead
-    (numberOf (headWriting 0 0x90 (Accepted 0)), numberOf (headWriting 0 0xD0 (Accepted 0))) ∷  -- head_writing
-    (zeroesOf 0x41, zeroesOf 0x42) ∷  -- head_of
-    (faultNumberOf (formedThen (clear 0xFE 1) Sound), faultNumberOf (formedThen (clear 0xFE 2) Sound)) ∷  -- fault_under
-    (getD (halves (0x21 ∷ [])) 0 0, getD (halves (0x21 ∷ [])) 1 0) ∷  -- half_at
-    (digitOf Dialled 10, digitOf Numbered 10) ∷  -- digit_of
-    (codeOf Dialled 0, codeOf Numbered 0) ∷  -- code_of
-    (flag (isCode Dialled 10), flag (isCode Numbered 10)) ∷  -- is_code
-    (faultNumberOf (digitsFault Numbered 1 0 (0x0A ∷ [])), faultNumberOf (digitsFault Dialled 1 0 (0x0A ∷ []))) ∷  -- digits_fault
-    (flag (every isDigit (11 ∷ [])), flag (every isDigit (12 ∷ []))) ∷  -- are_digits
-    ((2 + 1) / 2, (3 + 1) / 2) ∷  -- packed_len
-    (min 3 (length {A = ℕ} (0x21 ∷ []) * 2), min 1 (length {A = ℕ} (0x21 ∷ []) * 2)) ∷  -- digits_in
-    (flag (leb (511 + 1) 512), flag (leb (512 + 1) 512)) ∷  -- has_room
-    (flag (leb (length (packed Dialled (1 ∷ 2 ∷ []))) 1), flag (leb (length (packed Dialled (1 ∷ 2 ∷ []))) 0)) ∷  -- pack_digits
-    (flag (leb (511 + length (digitsOf Dialled 1 (0x21 ∷ []))) 512), flag (leb (511 + length (digitsOf Dialled 2 (0x21 ∷ []))) 512))
-    ∷  -- unpack_digits
-    (numberOf (soundThen (headerAt 0) Sound (Accepted 1)), numberOf (soundThen (headerAt 0) (Bad 13 2) (Accepted 1))) ∷  -- at_header
-    (getD (0x21 ∷ 0x43 ∷ []) 0 0, getD (0x21 ∷ 0x43 ∷ []) 1 0) ∷  -- octet_at
-    (length {A = ℕ} (drop 0 (0x21 ∷ [])), length {A = ℕ} (drop 1 (0x21 ∷ []))) ∷  -- octets_from
-    (faultNumberOf (faultOf 0x90 (0x01 ∷ 0x0A ∷ [])), faultNumberOf (faultOf 0x90 (0x01 ∷ 0x00 ∷ []))) ∷  -- contents_fault
-    (numberOf (transferOf 0 0x41 (0x01 ∷ [])), numberOf (transferOf 0 0x41 [])) ∷  -- transfer
-    (heldNumber (holdingOf 0xDA 0x06), heldNumber (holdingOf 0xDA 0x07)) ∷  -- holding_of
-    (headFor (openBy AsContents 0xCC (1 ∷ [])) 0 .len, headFor (openBy AsContents 0xCC []) 0 .len) ∷  -- open_contents
-    (openedHead 0x90 (0x02 ∷ 0x21 ∷ []) 0 .len, openedHead 0x90 (0x01 ∷ 0x01 ∷ []) 0 .len) ∷  -- open
-    (length (contentsOf (plainItem 0x41 (1 ∷ []))), length (contentsOf (plainItem 0xCC []))) ∷  -- contents_len
-    (numberOf (itemWriting 0 0 (plainItem 0x41 (1 ∷ []))), numberOf (itemWriting 0 0 (plainItem 0x08 []))) ∷  -- refusal
-    (flag (leb (length (layoutItem (plainItem 0x41 (1 ∷ [])))) 2), flag (leb (length (layoutItem (plainItem 0x41 (1 ∷ [])))) 1)) ∷  -- put
-    (flag (among 0xC5 listedHeaders), flag (among 0x44 listedHeaders)) ∷  -- listed
-    (flag (octetAllowed 0x01 0x01), flag (octetAllowed 0x01 0x02)) ∷  -- octet_allowed
-    (numberOf (commonForm 0 0x01 (0x01 ∷ [])), numberOf (commonForm 1 0x01 (0x01 ∷ []))) ∷  -- common_form
-    (numberOf (endOf true []), numberOf (endOf false [])) ∷  -- end_mark
-    (flag (isCall 0x83), flag (isCall 0x04)) ∷  -- is_call
-    (callNumber (0x01 ∷ []), callNumber (0x02 ∷ [])) ∷  -- call_value
-    (getD (callOctets 0x01) 0 0, getD (callOctets 0x02) 0 0) ∷  -- call_octets
-    (stopOf (stretchAt K 0 LengthOctet), stopOf (stretchAt [] 0 LengthOctet)) ∷  -- stretch_at
-    (rowHere K (cursorTo 0 0) .offset, rowHere K (cursorTo 2 2) .offset) ∷  -- row_here
-    (nextOf K (cursorTo 0 0) .at, nextOf K (cursorTo 2 2) .at) ∷  -- next
-    (stopOf (searchIn (Name 0x01 0) (0x41 ∷ 0x01 ∷ [])), stopOf (searchIn (Name 0x01 1) (0x41 ∷ 0x01 ∷ []))) ∷  -- search_by_length
-    (stopOf (commonPlain 0x01 K), stopOf (commonPlain 0x06 K)) ∷  -- common_by_length
-    (givenOf (findAnswer short (foundBy (Header 0x01) short)), givenOf (findAnswer short (foundBy (Header 0x06) short))) ∷  -- find_both
-    (givenOf (Accepted 9), givenOf (Refused 15 0)) ∷  -- given
-    (lengthsOf (take 0 (pack recordOfM .transfer)), lengthsOf (take 1 (pack recordOfM .transfer))) ∷  -- values_before
-    (flag (overStruct (pack recordOfK)), flag (overStruct (pack (recordOfK ++ (recordOfK ++ (recordOfK ++ recordOfK)))))) ∷  -- over_limits
-    (
-      givenOf (refuse (not (isWhole (pack recordOfM))) over-limits 0 (Accepted (transfersSum (commonsIn (pack recordOfM))))),
-      givenOf (refuse (not (isWhole (pack recordOfK))) over-limits 0 (Accepted (transfersSum (commonsIn (pack recordOfK))))),
-    )
-    ∷  -- transfers_held
-    (length (layoutPart (valuePart 0x83 0)), length (layoutPart (valuePart 0x01 0))) ∷  -- head_len
-    (flag (leb (0 + 1) 1), flag (leb (1 + 1) 1)) ∷  -- copy_in
-    (flag (spliceFits (0x00 ∷ []) 1 0 0 []), flag (spliceFits (0x00 ∷ []) 2 0 0 [])) ∷ []  -- splice
+-- pack_digits
+abbrev packing : Alphabet → List ℕ → List ℕ → Storing
+packing z ds room = storing (leb (length (packed z ds)) (length room)) (atFront (packed z ds) room) room
 
-pub rows-differ : every (λ (r : ℕ × ℕ). not (eqb (r .0) (r .1))) rows ≡ true
+-- unpack_digits
+abbrev unpacking : Alphabet → List ℕ → ℕ → List ℕ → ℕ → Storing
+unpacking z octets n values used =
+    storing (leb (used + length (digitsOf z n octets)) 512) (sets values used (digitsOf z n octets)) values
+
+-- layout::put
+abbrev laying : Transfer → List ℕ → List ℕ → Storing
+laying t vs room = storing (leb (length (layoutItem (itemFrom t vs))) (length room)) (atFront (layoutItem (itemFrom t vs)) room) room
+
+-- copy_in
+abbrev copying : List ℕ → ℕ → List ℕ → Storing
+copying d at s = storing (leb (at + length s) (length d)) (put d at s) d
+
+-- splice
+abbrev splicing : List ℕ → ℕ → ℕ → ℕ → List ℕ → Storing
+splicing d n from old new = storing (spliceFits d n from old new) (spliced d n from old new) d
+
+-- lent memory before a call
+abbrev lent : ℕ → List ℕ
+lent n = replicate n 0xEE
+
+-- ---- the table
+
+abbrev pub rows : List AtTwo
+rows =
+    gives Octets (λ n. n .0) (octetsOf (record { 0 = 3 })) (octetsOf (record { 0 = 5 })) ∷  -- HalfOctets::octets
+    commons (λ c. c .value) (valueHead 0x06 0x11) (valueHead 0x06 0x12) ∷  -- Common::octet, Common::call_number
+    commons (λ c. c .transfers) (dataHead 1) (dataHead 2) ∷  -- Common::transfer_data
+    transfers (λ t. t .len) (carriedHead 0xCC 1) (carriedHead 0xCC 2) ∷  -- Transfer::carried
+    transfers (λ t. t .notification) (dialledHead 0x91 1 0 0 2) (dialledHead 0x91 0 1 0 2) ∷  -- Transfer::dialled
+    transfers (λ t. t .plan) (numberHead 0xD7 0x83 0x11 1) (numberHead 0xD7 0x83 0x21 1) ∷  -- Transfer::number
+    extents (extentOf 0x07) (extentOf 0x41) ∷  -- extent_of
+    extents (commonExtentOf 0x01) (commonExtentOf 0x83) ∷  -- common_extent_of
+    counts (afterOf CountOctet 4) (afterOf LengthOctet 4) ∷  -- octets_after
+    counts (leadOf CountOctet) (leadOf LengthOctet) ∷  -- lead
+    answers (headWriting 0 0x90 (Accepted 0)) (headWriting 0 0xD0 (Accepted 0)) ∷  -- head_writing
+    tests (nameUsed 0x41) (nameUsed 0x08) ∷  -- head_of, used
+    tests (pliRight 0x41) (pliRight 0x81) ∷  -- head_of, right
+    counts (zeroesOf 0x41) (zeroesOf 0x42) ∷  -- head_of, zeroes
+    gives Form formNumber (formOf 0x41) (formOf 0x90) ∷  -- head_of, form
+    faults (under 0xFE (Checked Nothing) (1 ∷ [])) (under 0xFE (Checked Nothing) (2 ∷ [])) ∷  -- fault_under
+    counts (getD (halves (0x21 ∷ [])) 0 0) (getD (halves (0x21 ∷ [])) 1 0) ∷  -- half_at
+    counts (digitOf Dialled 10) (digitOf Numbered 10) ∷  -- digit_of
+    counts (codeOf Dialled 0) (codeOf Numbered 0) ∷  -- code_of
+    tests (isCode Dialled 10) (isCode Numbered 10) ∷  -- is_code
+    faults (digitsFault Numbered 1 0 (0x0A ∷ [])) (digitsFault Dialled 1 0 (0x0A ∷ [])) ∷  -- digits_fault
+    tests (every isDigit (11 ∷ [])) (every isDigit (12 ∷ [])) ∷  -- are_digits
+    counts ((2 + 1) / 2) ((3 + 1) / 2) ∷  -- packed_len
+    counts (min 3 (length {A = ℕ} (0x21 ∷ []) * 2)) (min 1 (length {A = ℕ} (0x21 ∷ []) * 2)) ∷  -- digits_in
+    tests (leb (511 + 1) 512) (leb (512 + 1) 512) ∷  -- has_room
+    stores (packing Dialled (1 ∷ 2 ∷ []) (lent 1)) (packing Dialled (1 ∷ 2 ∷ []) (lent 0)) ∷  -- pack_digits
+    stores (unpacking Dialled (0x21 ∷ []) 2 (lent 512) 0) (unpacking Dialled (0x21 ∷ []) 2 (lent 512) 511) ∷  -- unpack_digits
+    answers (soundThen (headerAt 0) Sound (Accepted 1)) (soundThen (headerAt 0) (Bad 13 2) (Accepted 1)) ∷  -- at_header
+    counts (getD (0x21 ∷ 0x43 ∷ []) 0 0) (getD (0x21 ∷ 0x43 ∷ []) 1 0) ∷  -- octet_at
+    lists (drop 0 (0x21 ∷ [])) (drop 1 (0x21 ∷ [])) ∷  -- octets_from
+    faults (faultOf 0x90 (0x01 ∷ 0x0A ∷ [])) (faultOf 0x90 (0x01 ∷ 0x00 ∷ [])) ∷  -- contents_fault
+    answers (transferOf 0 0x41 (0x01 ∷ [])) (transferOf 0 0x41 []) ∷  -- transfer
+    gives Holding heldNumber (holdingOf 0xDA 0x06) (holdingOf 0xDA 0x07) ∷  -- holding_of
+    transfers (λ t. t .len) (headFor (openBy AsContents 0xCC (1 ∷ [])) 0) (headFor (openBy AsContents 0xCC []) 0) ∷  -- open_contents, head
+    lists (valuesWith (openBy AsContents 0xCC (1 ∷ [])) 0 (lent 512)) (valuesWith (openBy AsContents 0xCC (1 ∷ [])) 512 (lent 512))
+    ∷  -- open_contents, values
+    transfers (λ t. t .len) (openedHead 0x90 (0x02 ∷ 0x21 ∷ []) 0) (openedHead 0x90 (0x01 ∷ 0x01 ∷ []) 0) ∷  -- open, head
+    lists (openedValues 0x90 (0x02 ∷ 0x21 ∷ []) 0 (lent 512)) (openedValues 0x90 (0x02 ∷ 0x21 ∷ []) 512 (lent 512)) ∷  -- open, values
+    counts (length (contentsOf (itemFrom (carriedHead 0x41 1) (1 ∷ [])))) (length (contentsOf (itemFrom (carriedHead 0xCC 0) [])))
+    ∷  -- contents_len
+    answers (itemWriting 0 0 (itemFrom (carriedHead 0x41 1) (1 ∷ []))) (itemWriting 0 0 (itemFrom (carriedHead 0x08 0) [])) ∷  -- refusal
+    stores (laying (carriedHead 0x41 1) (1 ∷ []) (lent 2)) (laying (carriedHead 0x41 1) (1 ∷ []) (lent 1)) ∷  -- put
+    tests (among 0xC5 listedHeaders) (among 0x44 listedHeaders) ∷  -- listed
+    tests (octetAllowed 0x01 0x01) (octetAllowed 0x01 0x02) ∷  -- octet_allowed
+    answers (commonForm 0 0x01 (0x01 ∷ [])) (commonForm 1 0x01 (0x01 ∷ [])) ∷  -- common_form
+    answers (endOf true []) (endOf false []) ∷  -- end_mark
+    tests (isCall 0x83) (isCall 0x04) ∷  -- is_call
+    counts (callNumber (0x01 ∷ [])) (callNumber (0x02 ∷ [])) ∷  -- call_value
+    lists (callOctets 0x01) (callOctets 0x02) ∷  -- call_octets
+    finds (stretchAt K 0 LengthOctet) (stretchAt [] 0 LengthOctet) ∷  -- stretch_at
+    gives Row (λ r. r .offset) (rowHere K (cursorTo 0 0)) (rowHere K (cursorTo 2 2)) ∷  -- row_here
+    gives Cursor (λ c. c .at) (nextOf K (cursorTo 0 0)) (nextOf K (cursorTo 2 2)) ∷  -- next
+    finds (searchIn (Name 0x01 0) (0x41 ∷ 0x01 ∷ [])) (searchIn (Name 0x01 1) (0x41 ∷ 0x01 ∷ [])) ∷  -- search_by_length
+    finds (commonPlain 0x01 K) (commonPlain 0x06 K) ∷  -- common_by_length
+    gives Answer givenOf (findAnswer short (foundBy (Header 0x01) short)) (findAnswer short (foundBy (Header 0x06) short))
+    ∷  -- find_both, answer
+    counts (length (findPart short (foundBy (Header 0x01) short))) (length (findPart short (foundBy (Header 0x00) short)))
+    ∷  -- find_both, len
+    counts (givenOf (Accepted 9)) (givenOf (Refused 15 0)) ∷  -- given
+    counts (lengthsOf (take 0 (pack recordOfM .transfer))) (lengthsOf (take 1 (pack recordOfM .transfer))) ∷  -- values_before
+    tests (overStruct (pack recordOfK)) (overStruct (pack (recordOfK ++ (recordOfK ++ (recordOfK ++ recordOfK))))) ∷  -- over_limits
+    gives Answer givenOf (transfersHeld (pack recordOfM)) (transfersHeld (pack recordOfK)) ∷  -- transfers_held
+    counts (length (layoutPart (valuePart 0x83 0))) (length (layoutPart (valuePart 0x01 0))) ∷  -- head_len
+    stores (copying (lent 1) 0 (0x21 ∷ [])) (copying (lent 1) 1 (0x21 ∷ [])) ∷  -- copy_in
+    stores (splicing (lent 1) 1 0 1 (0x21 ∷ [])) (splicing (lent 1) 2 0 1 (0x21 ∷ [])) ∷ []  -- splice
+
+rows-differ : allDiffer rows ≡ true
 unfolding afterOf extentOf commonExtentOf leadOf nameUsed pliRight oftenOf zeroesOf formOf halves joined digitOf codeOf isCode halvesFault
     digitsFault digitsOf packed dialledFault faultOf holdingOf itemOf contentsOf ownOf layoutItem lengthRight faultIn walk transferBy
     octetAllowed commonForm endOf commonBy messageVerdictBy verdictBy commonsBy commonIn commonFound pad valuesOf pack lengthsOf
-    transfersSum isWhole viewItems viewParts view overLimits itemWriting layoutPart pars soughtIn stretchAt stretchHere rowHere nextOf
+    transfersSum isWhole viewItems viewParts view overLimits itemWriting layoutPart pars soughtIn stretchAt stretchHere rowHere nextOf put spliced
 rows-differ = refl
+
+-- every row's programs are shut out
+pub shut-out : AllShut rows
+shut-out = all-shut rows rows-differ
