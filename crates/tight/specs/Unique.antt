@@ -1,9 +1,14 @@
 -- Two answers that keep a promise on the same input are equal: the result, and what lent memory holds after it. So no promise lets two
--- programs differ. There is no exception.
-use Prim.Native.Nat.{ℕ}
-use mathlib.Core.Path.{_≡_, sym, ap, _∙_}
+-- programs differ. A part of the message that finding hands back is equal by its octets; `common-where` and `transfer-where` say with the
+-- answer to the second question where in the message it is.
+use Prim.Native.Nat.{ℕ, zero, suc, _-_}
+use mathlib.Core.Path.{_≡_, refl, sym, ap, _∙_}
 use mathlib.Core.Bool.{Bool, cond}
-use mathlib.Core.List.{List}
+use mathlib.Core.List.{List, [], _∷_}
+use lib.ListN.{length, take, drop}
+use Rattle.annex.specs.Answers.{andThen}
+use Rattle.annex.specs.Reading.{verdictOf}
+use Rattle.annex.specs.Finding.{commonFound, transferFound, foundAnswer, partBy}
 use Rattle.annex.specs.Editing.{Edit}
 use Rattle.annex.specs.Promises.{
   VerdictPromise,
@@ -32,6 +37,9 @@ use Rattle.annex.specs.Promises.{
   Stores,
 }
 use Rattle.annex.specs.declared.Answer.{Answer}
+use Rattle.annex.specs.declared.Answer.the-variants.{Accepted, Refused}
+use Rattle.annex.specs.declared.Found.{Found}
+use Rattle.annex.specs.declared.Found.the-variants.{At, Nowhere}
 use Rattle.annex.specs.declared.Record.{Record}
 use Rattle.annex.specs.declared.Reading.{Reading}
 use Rattle.annex.specs.declared.Imaged.{Imaged}
@@ -63,6 +71,30 @@ one-transfer m x a b p q = same p q
 
 pub one-transfer-answer : (m : List ℕ) (x : ℕ) (a b : Answer) → FindTransferAnswerPromise m x a → FindTransferAnswerPromise m x b → a ≡ b
 one-transfer-answer m x a b p q = same p q
+
+-- the stretch of so many octets that starts where an answer tells; none where it refuses
+abbrev pub stretchFrom : Answer → ℕ → List ℕ → List ℕ
+stretchFrom (Accepted s) n m = take n (drop s m)
+stretchFrom (Refused k p) n m = []
+
+take-own : (n : ℕ) (l : List ℕ) → take n l ≡ take (length (take n l)) l
+take-own zero l = refl
+take-own (suc n) [] = refl
+take-own (suc n) (x ∷ l) = ap (λ (t : List ℕ). x ∷ t) (take-own n l)
+
+part-where : (v : Answer) (m : List ℕ) (f : Found) → partBy v m f ≡ stretchFrom (andThen v (λ _. foundAnswer f)) (length (partBy v m f)) m
+part-where (Accepted n) m (At s e) = take-own (e - s) (drop s m)
+part-where (Accepted n) m Nowhere = refl
+part-where (Refused k p) m f = refl
+
+-- a part that finding hands back, and the answer to the second question: where in the message the part is
+pub common-where : (m : List ℕ) (h : ℕ) (part : List ℕ) (a : Answer) → FindCommonPromise m h part → FindCommonAnswerPromise m h a
+    → part ≡ stretchFrom a (length part) m
+common-where m h part a p q = rw (p, q) (part-where (verdictOf m) m (commonFound h m))
+
+pub transfer-where : (m : List ℕ) (x : ℕ) (part : List ℕ) (a : Answer) → FindTransferPromise m x part → FindTransferAnswerPromise m x a
+    → part ≡ stretchFrom a (length part) m
+transfer-where m x part a p q = rw (p, q) (part-where (verdictOf m) m (transferFound x 0 m))
 
 pub one-check : (m : List ℕ) (room : ℕ) (a b : Answer) → SpansCheckPromise m room a → SpansCheckPromise m room b → a ≡ b
 one-check m room a b p q = same p q

@@ -1,14 +1,15 @@
 -- Wrong programs that the promises shut out, each with the input at which it breaks one: those that document 01 names under "How tight each
 -- promise is", and two for every other public function. Those about a record's image and about the functions for Rust and C stand in
--- WrongPacked, those of the tables of rows in WrongRows, the classes' in WrongClasses, those of what serves others in Constants.
+-- WrongPacked, the listing's in WrongRows, the classes' in WrongClasses, those of the functions that serve these in Constants.
 use Prim.Native.Nat.{ℕ}
 use native.Mathlib.Omega.{arith}
 use mathlib.Core.Path.{_≡_, refl, ap, _∙_}
+use mathlib.Core.Bool.{true, false}
 use mathlib.Core.List.{List, [], _∷_, _++_}
 use lib.ListN.{length, getD, replicate}
 use Rattle.annex.specs.Answers.{numberOf, placeOf, givenOf}
 use Rattle.annex.specs.Units.{afterOf, leadOf, commonExtentOf, extentOf}
-use Rattle.annex.specs.Heads.{nameUsed, pliRight, oftenOf, zeroesOf, formOf, most-rows}
+use Rattle.annex.specs.Heads.{among, nameUsed, pliRight, oftenOf, zeroesOf, formOf, most-rows}
 use Rattle.annex.specs.Digits.{halves, joined, digitOf, codeOf, isCode, halvesFault, digitsFault, digitsOf, packed}
 use Rattle.annex.specs.Contents.{numberFault, callingFault, genericFault, dialledFault, twoFault, faultOf}
 use Rattle.annex.specs.Items.{holdingOf, itemOf, contentsOf, ownOf}
@@ -162,13 +163,14 @@ always-case-2 a e =
     let w : _≡_ {A = ℕ} 2 5 = ap (λ (r : Record). r .commons) z in
     omega arith
 
--- by the digits 120 of M: they are three, and carried octets would be the count octet and two more, beginning with 3
-pub carries-the-rest : (a : Answer) (held : Record) → getD (held .values) 5 0 ≡ 0x03
-    → ReadPromise M (record { answer = a; «record» = held }) → ⊥
+-- by the digits 120 of M, which stand in the octets 21 0A: wherever and however a record carries them, one of its values is 21, and of M's
+-- record, its digits open, none is
+pub carries-the-rest : (r : Reading) → among 0x21 (r .«record» .values) ≡ true → ReadPromise M r → ⊥
 unfolding pack pad valuesOf
-carries-the-rest a held c e =
-    let z : held ≡ pack recordOfM = ap (λ (r : Reading). r .«record») e ∙ said .reading-M in
-    let w : getD (held .values) 5 0 ≡ 1 = ap (λ (r : Record). getD (r .values) 5 0) z in
+carries-the-rest r carried e =
+    let z : r .«record» ≡ pack recordOfM = ap (λ (q : Reading). q .«record») e ∙ said .reading-M in
+    let none : among 0x21 (r .«record» .values) ≡ false = ap (λ (q : Record). among 0x21 (q .values)) z in
+    let w : _≡_ {A = ℕ} 0 1 = cc in
     omega arith
 
 -- ---- finding: one that hands back nothing; one that hands back another stretch
