@@ -1,5 +1,7 @@
--- How tight each promise is: two answers that keep it are equal, and wrong programs do not keep it.
+-- How tight each promise is: two answers that keep it are equal, it is kept by the right numbers alone, and wrong programs break it.
 pub mod Unique
+pub mod Told
+pub mod Numbers
 pub mod Wrong
 pub mod WrongRows
 pub mod WrongClasses

@@ -1,0 +1,178 @@
+-- The promises by number, place and value. Where a function answers an enum, keeping its promise is the same as this: the number, the place
+-- and the value of its answer, which `Answers` states for every case, are those of the definition's, and a refusal has a number.
+use Prim.Native.Nat.{ℕ, _<_}
+use native.Mathlib.Omega.{arith}
+use mathlib.Core.Path.{_≡_, refl, sym, ap, _∙_}
+use mathlib.Core.List.{List}
+use mathlib.Core.Logic.{_↔_}
+use lib.ListN.{length}
+use Rattle.annex.specs.Answers.{numberOf, placeOf, givenOf, classValueOf, classNumberOf, classPlaceOf, classGivenOf}
+use Rattle.annex.specs.Items.{Part}
+use Rattle.annex.specs.Reading.{verdictOf, recordOf}
+use Rattle.annex.specs.Records.{pack, readBy, readingOf}
+use Rattle.annex.specs.Writing.{structWriting, writingOf, writtenOf}
+use Rattle.annex.specs.Image.{imagingOf, imagedIn, imagedOf}
+use Rattle.annex.specs.Finding.{commonFound, transferFound, findAnswer}
+use Rattle.annex.specs.Spans.{spansOf, tableOf}
+use Rattle.annex.specs.Editing.{Edit, editingOf, bufferOf}
+use Rattle.annex.specs.Classes.{classOf}
+use Rattle.annex.specs.Packed.{row-octets, octetSpans, octetTable}
+use Rattle.annex.specs.Promises.{
+  VerdictPromise,
+  ReadPromise,
+  FindCommonAnswerPromise,
+  FindTransferAnswerPromise,
+  SpansCheckPromise,
+  SpansPromise,
+  OctetSpansPromise,
+  WritePromise,
+  RecordRefusalPromise,
+  EditPromise,
+  ClassPromise,
+  ToImagePromise,
+  FromImagePromise,
+}
+use Rattle.annex.specs.declared.Answer.{Answer}
+use Rattle.annex.specs.declared.Answer.the-variants.{Accepted, Refused}
+use Rattle.annex.specs.declared.Class.{Class}
+use Rattle.annex.specs.declared.Class.the-variants.{Named, HeldBack, Spare}
+use Rattle.annex.specs.declared.ClassAnswer.{ClassAnswer}
+use Rattle.annex.specs.declared.ClassAnswer.the-variants as classes
+use Rattle.annex.specs.declared.Imaged.{Imaged}
+use Rattle.annex.specs.declared.Reading.{Reading}
+use Rattle.annex.specs.declared.Record.{Record}
+use Rattle.annex.specs.declared.Row.{Row}
+use Rattle.tight.specs.Told.{
+  Told,
+  ToldClass,
+  verdict-told,
+  find-told,
+  spans-told,
+  struct-told,
+  writing-told,
+  editing-told,
+  imaging-told,
+  imaged-told,
+  class-told,
+}
+
+-- ---- an answer by its number, place and value
+
+-- r is right by d, which a definition gives
+pub record Right (d r : Answer) : Type 0 where
+  pub told : Told r
+  pub number : numberOf r ≡ numberOf d
+  pub place : placeOf r ≡ placeOf d
+  pub value : givenOf r ≡ givenOf d
+
+same-answer : (d r : Answer) → Told d → Right d r → r ≡ d
+same-answer (Accepted n) (Accepted k) t e = ap Accepted (e .value)
+same-answer (Accepted n) (Refused k p) t e = absurd (omega (arith, e .told, e .number))
+same-answer (Refused j q) (Accepted k) t e = absurd (omega (arith, e .number))
+same-answer (Refused j q) (Refused k p) t e = rw (e .number, e .place)
+
+pub right : (d r : Answer) → Told d → (r ≡ d) ↔ Right d r
+right d r t =
+    (λ e. record { told = rw e t; number = ap numberOf e; place = ap placeOf e; value = ap givenOf e }, same-answer d r t)
+
+-- and lent memory, or a record, beside it
+right-with : {A : Type 0} (d r : Answer) (x y : A) → Told d → ((r ≡ d) × (y ≡ x)) ↔ (Right d r × (y ≡ x))
+right-with d r x y t = let e = right d r t in (λ p. (e .0 (p .0), p .1), λ p. (e .1 (p .0), p .1))
+
+-- ---- the promises
+
+pub verdict-numbers : (m : List ℕ) (r : Answer) → VerdictPromise m r ↔ Right (verdictOf m) r
+verdict-numbers m r = right (verdictOf m) r (verdict-told m)
+
+pub common-numbers : (m : List ℕ) (h : ℕ) (r : Answer) → FindCommonAnswerPromise m h r ↔ Right (findAnswer m (commonFound h m)) r
+common-numbers m h r = right (findAnswer m (commonFound h m)) r (find-told m (commonFound h m))
+
+pub transfer-numbers : (m : List ℕ) (x : ℕ) (r : Answer) → FindTransferAnswerPromise m x r ↔ Right (findAnswer m (transferFound x 0 m)) r
+transfer-numbers m x r = right (findAnswer m (transferFound x 0 m)) r (find-told m (transferFound x 0 m))
+
+pub check-numbers : (m : List ℕ) (room : ℕ) (r : Answer) → SpansCheckPromise m room r ↔ Right (spansOf m room) r
+check-numbers m room r = right (spansOf m room) r (spans-told m room)
+
+pub refusal-numbers : (held : Record) (r : Answer) → RecordRefusalPromise held r ↔ Right (structWriting held) r
+refusal-numbers held r = right (structWriting held) r (struct-told held)
+
+pub listing-numbers : (m : List ℕ) (table : List Row) (r : Answer) (now : List Row)
+    → SpansPromise m table r now ↔ (Right (spansOf m (length table)) r × (now ≡ tableOf m table))
+listing-numbers m table r now = right-with (spansOf m (length table)) r (tableOf m table) now (spans-told m (length table))
+
+pub octet-listing-numbers : (m table : List ℕ) (r : Answer) (now : List ℕ)
+    → OctetSpansPromise m table r now ↔ (Right (octetSpans m (length table)) r × (now ≡ octetTable m table))
+octet-listing-numbers m table r now = right-with (octetSpans m (length table)) r (octetTable m table) now (spans-told m _)
+
+pub writing-numbers : (held : Record) (room : List ℕ) (r : Answer) (now : List ℕ)
+    → WritePromise held room r now ↔ (Right (writingOf held (length room)) r × (now ≡ writtenOf held room))
+writing-numbers held room r now = right-with (writingOf held (length room)) r (writtenOf held room) now (writing-told held (length room))
+
+pub edit-numbers : (e : Edit) (buffer : List ℕ) (n : ℕ) (r : Answer) (now : List ℕ)
+    → EditPromise e buffer n r now ↔ (Right (editingOf e buffer n) r × (now ≡ bufferOf e buffer n))
+edit-numbers e buffer n r now = right-with (editingOf e buffer n) r (bufferOf e buffer n) now (editing-told e buffer n)
+
+pub imaging-numbers : (held : Record) (room : List ℕ) (r : Answer) (now : List ℕ)
+    → ToImagePromise held room r now ↔ (Right (imagingOf held (length room)) r × (now ≡ imagedIn held room))
+imaging-numbers held room r now = right-with (imagingOf held (length room)) r (imagedIn held room) now (imaging-told held (length room))
+
+-- an answer with a record beside it
+same-reading : (r d : Reading) → (r .answer ≡ d .answer) × (r .«record» ≡ d .«record») → r ≡ d
+same-reading r d e =
+    ap (λ a. record { answer = a; «record» = r .«record» }) (e .0) ∙ ap (λ q. record { answer = d .answer; «record» = q }) (e .1)
+
+same-imaged : (r d : Imaged) → (r .answer ≡ d .answer) × (r .held ≡ d .held) → r ≡ d
+same-imaged r d e = ap (λ a. record { answer = a; held = r .held }) (e .0) ∙ ap (λ q. record { answer = d .answer; held = q }) (e .1)
+
+read-answer : (a : Answer) (r : List Part) → readBy a r .answer ≡ a
+read-answer (Accepted n) r = refl
+read-answer (Refused k p) r = refl
+
+pub read-numbers : (m : List ℕ) (r : Reading)
+    → ReadPromise m r ↔ (Right (verdictOf m) (r .answer) × (r .«record» ≡ readingOf m .«record»))
+unfolding readingOf
+read-numbers m r =
+    let a = read-answer (verdictOf m) (recordOf m) in
+    let e = right-with (verdictOf m) (r .answer) (readingOf m .«record») (r .«record») (verdict-told m) in (
+      λ p. e .0 (ap (λ (q : Reading). q .answer) p ∙ a, ap (λ (q : Reading). q .«record») p),
+      λ p. let b = e .1 p in same-reading r (readingOf m) (b .0 ∙ sym a, b .1),
+    )
+
+pub imaged-numbers : (image : List ℕ) (r : Imaged)
+    → FromImagePromise image r ↔ (Right (imagedOf image .answer) (r .answer) × (r .held ≡ imagedOf image .held))
+imaged-numbers image r =
+    let e = right-with (imagedOf image .answer) (r .answer) (imagedOf image .held) (r .held) (imaged-told image) in (
+      λ p. e .0 (ap (λ (q : Imaged). q .answer) p, ap (λ (q : Imaged). q .held) p),
+      λ p. same-imaged r (imagedOf image) (e .1 p),
+    )
+
+-- ---- the class answer
+
+pub record RightClass (d r : ClassAnswer) : Type 0 where
+  pub told : ToldClass r
+  pub number : classNumberOf r ≡ classNumberOf d
+  pub place : classPlaceOf r ≡ classPlaceOf d
+  pub value : classGivenOf r ≡ classGivenOf d
+
+same-class : (c b : Class) → classValueOf c ≡ classValueOf b → c ≡ b
+same-class Named Named e = refl
+same-class Named HeldBack e = absurd (omega arith)
+same-class Named Spare e = absurd (omega arith)
+same-class HeldBack Named e = absurd (omega arith)
+same-class HeldBack HeldBack e = refl
+same-class HeldBack Spare e = absurd (omega arith)
+same-class Spare Named e = absurd (omega arith)
+same-class Spare HeldBack e = absurd (omega arith)
+same-class Spare Spare e = refl
+
+same-class-answer : (d r : ClassAnswer) → ToldClass d → RightClass d r → r ≡ d
+same-class-answer (classes.Is c) (classes.Is b) t e = ap classes.Is (same-class b c (e .value))
+same-class-answer (classes.Is c) (classes.Refused k p) t e = absurd (omega (arith, e .told, e .number))
+same-class-answer (classes.Refused j q) (classes.Is b) t e = absurd (omega (arith, e .number))
+same-class-answer (classes.Refused j q) (classes.Refused k p) t e = rw (e .number, e .place)
+
+pub class-numbers : (h x : ℕ) (r : ClassAnswer) → ClassPromise h x r ↔ RightClass (classOf h x) r
+class-numbers h x r = (
+  λ e. record { told = rw e (class-told h x); number = ap classNumberOf e; place = ap classPlaceOf e; value = ap classGivenOf e },
+  same-class-answer (classOf h x) r (class-told h x),
+)

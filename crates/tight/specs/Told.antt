@@ -1,0 +1,431 @@
+-- Every refusal has a number: by no definition is anything refused with 0, which stands for accepted.
+use Prim.Native.Nat.{ℕ, zero, suc, _+_, _-_, _/_, _<_}
+use native.Mathlib.Omega.{arith}
+use mathlib.Core.Bool.{Bool, true, false, cond, not, _&&_, _||_}
+use mathlib.Core.List.{List, [], _∷_}
+use lib.Dec.{eqb, leb, ltb}
+use lib.ListN.{length, getD, take, drop}
+use Rattle.annex.specs.Answers.{
+  over-limits,
+  unlisted,
+  repeated,
+  cut-short,
+  not-allowed,
+  missing,
+  left-over,
+  unused-name,
+  other-pli,
+  repeated-name,
+  cut-contents,
+  bad-form,
+  transfer-over,
+  no-room,
+  absent,
+  refuse,
+  soundThen,
+  headerAt,
+  readingAt,
+  andThen,
+  shifted,
+}
+use Rattle.annex.specs.Units.{nameOf, afterOf, leadOf, extentOf, commonExtentOf, contentsIn}
+use Rattle.annex.specs.Heads.{
+  among,
+  clear,
+  listedHeaders,
+  commonHeaders,
+  end-mark,
+  transfer-data,
+  added-calling-number,
+  withheld,
+  most-octets,
+  most-transfer-octets,
+  nameUsed,
+  pliRight,
+  oftenOf,
+  zeroesOf,
+  formOf,
+}
+use Rattle.annex.specs.Digits.{halves, isCode, isDigit, halvesFault, digitsFault}
+use Rattle.annex.specs.Contents.{
+  formedThen,
+  presentationOf,
+  countOf,
+  oddOf,
+  numberFault,
+  callingFault,
+  genericFault,
+  dialledFault,
+  twoFault,
+  checkFault,
+  faultBy,
+  faultOf,
+}
+use Rattle.annex.specs.Items.{Item, Part, heldAs}
+use Rattle.annex.specs.Layout.{layoutItem, layoutItems, layoutPart, layout}
+use Rattle.annex.specs.Allowed.{
+  every,
+  lengthRight,
+  marksRight,
+  fieldsRight,
+  numberRight,
+  faultAs,
+  faultIn,
+  valueRight,
+  valueFits,
+  headersOf,
+  itemsIn,
+  namesOf,
+  timesIn,
+}
+use Rattle.annex.specs.Walk.{Seen, unseen, timesSeen, counted, Step, walk, judging, byStep}
+use Rattle.annex.specs.Reading.{
+  octetAllowed,
+  commonForm,
+  endOf,
+  wholeIn,
+  commonClose,
+  transferBy,
+  transferStep,
+  transfersVerdict,
+  transfersVerdictBy,
+  dataOf,
+  dataBy,
+  commonOf,
+  commonBy,
+  commonStep,
+  messageVerdict,
+  messageVerdictBy,
+  verdictOf,
+  verdictBy,
+  recordOf,
+}
+use Rattle.annex.specs.Records.{pack, isWhole, view}
+use Rattle.annex.specs.Writing.{
+  headWriting,
+  itemWriting,
+  itemsWriting,
+  dataWriting,
+  partWriting,
+  partsWriting,
+  overLimits,
+  recordWriting,
+  structWriting,
+  writingOf,
+}
+use Rattle.annex.specs.Image.{Front, imageOf, imagingOf, partsFront, noImage, isWithin, imagedBy, imagedOf}
+use Rattle.annex.specs.Image.Front.{Taken, Short}
+use Rattle.annex.specs.Finding.{foundAnswer, findAnswer}
+use Rattle.annex.specs.Spans.{rowsOf, spansOf, spansBy}
+use Rattle.annex.specs.Editing.{Edit, newHeader, newAfter, newHead, newContents, editRefusal, edited, recordEditing, editingOf}
+use Rattle.annex.specs.Editing.Edit.{Replacing, Appending, Removing}
+use Rattle.annex.specs.Classes.{ClassList, classLists, classBy, classIn, classOf}
+use Rattle.annex.specs.declared.Alphabet.{Alphabet}
+use Rattle.annex.specs.declared.Alphabet.the-variants.{Dialled, Numbered}
+use Rattle.annex.specs.declared.Answer.{Answer}
+use Rattle.annex.specs.declared.Answer.the-variants.{Accepted, Refused}
+use Rattle.annex.specs.declared.Check.{Check}
+use Rattle.annex.specs.declared.Check.the-variants.{Nothing, Long, Two}
+use Rattle.annex.specs.declared.Class.{Class}
+use Rattle.annex.specs.declared.ClassAnswer.{ClassAnswer}
+use Rattle.annex.specs.declared.ClassAnswer.the-variants as classes
+use Rattle.annex.specs.declared.Fault.{Fault}
+use Rattle.annex.specs.declared.Fault.the-variants.{Sound, Bad}
+use Rattle.annex.specs.declared.Form.{Form}
+use Rattle.annex.specs.declared.Form.the-variants.{Checked, Digits, Number, Calling, Generic}
+use Rattle.annex.specs.declared.Found.{Found}
+use Rattle.annex.specs.declared.Found.the-variants.{At, Nowhere}
+use Rattle.annex.specs.declared.Holding.{Holding}
+use Rattle.annex.specs.declared.Holding.the-variants.{AsContents, AsDigits, AsNumber, AsGeneric}
+use Rattle.annex.specs.declared.Record.{Record}
+
+-- ---- answers
+
+abbrev pub Told : Answer → Type 0
+Told (Accepted n) = Unit {0}
+Told (Refused k p) = 0 < k
+
+abbrev ToldFault : Fault → Type 0
+ToldFault Sound = Unit {0}
+ToldFault (Bad k i) = 0 < k
+
+abbrev pub ToldClass : ClassAnswer → Type 0
+ToldClass (classes.Is c) = Unit {0}
+ToldClass (classes.Refused k p) = 0 < k
+
+refused : (b : Bool) (k p : ℕ) (a : Answer) → 0 < k → Told a → Told (refuse b k p a)
+refused true k p a h t = h
+refused false k p a h t = t
+
+followed : (a : Answer) (f : ℕ → Answer) → Told a → ((n : ℕ) → Told (f n)) → Told (andThen a f)
+followed (Accepted n) f t g = g n
+followed (Refused k p) f t g = t
+
+sounded : (place : ℕ → ℕ → ℕ) (f : Fault) (a : Answer) → ToldFault f → Told a → Told (soundThen place f a)
+sounded place Sound a h t = t
+sounded place (Bad k i) a h t = h
+
+moved : (s : ℕ) (a : Answer) → Told a → Told (shifted s a)
+moved s (Accepted n) t = record {}
+moved s (Refused k p) t = t
+
+either : (b : Bool) (a c : Answer) → Told a → Told c → Told (cond b a c)
+either true a c t u = t
+either false a c t u = u
+
+-- ---- faults of contents, and of what a record holds
+
+formed : (b : Bool) (f : Fault) → ToldFault f → ToldFault (formedThen b f)
+formed true f t = t
+formed false f t = omega arith
+
+one-of : (b : Bool) (f g : Fault) → ToldFault f → ToldFault g → ToldFault (cond b f g)
+one-of true f g t u = t
+one-of false f g t u = u
+
+halves-told : (z : Alphabet) (n i : ℕ) (hs : List ℕ) → ToldFault (halvesFault z n i hs)
+unfolding halvesFault
+halves-told z n i [] = record {}
+halves-told z zero i (h ∷ hs) = one-of (eqb h 0) (halvesFault z zero (i + 1) hs) _ (halves-told z zero (i + 1) hs) (omega arith)
+halves-told z (suc n) i (h ∷ hs) = one-of (isCode z h) (halvesFault z n (i + 1) hs) _ (halves-told z n (i + 1) hs) (omega arith)
+
+number-told : (at : ℕ) (s : List ℕ) → ToldFault (numberFault at s)
+unfolding numberFault digitsFault
+number-told at s =
+    formed (not (ltb (length s) 2)) _
+    (formed (not (eqb (oddOf s) 1 && eqb (length s) 2)) _
+    (halves-told Numbered (countOf s) _ (halves (drop 2 s))))
+
+check-told : (c : Check) (s : List ℕ) → ToldFault (checkFault c s)
+unfolding twoFault
+check-told Nothing s = record {}
+check-told (Long n) s = formed (eqb (length s) n) Sound (record {})
+check-told (Two mask) s = formed (eqb (length s) 2 && clear mask (getD s 1 0)) Sound (record {})
+
+form-told : (f : Form) (s : List ℕ) → ToldFault (faultBy f s)
+unfolding dialledFault digitsFault callingFault genericFault
+form-told (Checked c) s = check-told c s
+form-told (Digits m) s = halves-told Dialled _ _ (halves (drop 1 s))
+form-told Number s = number-told 0 s
+form-told Calling s =
+    one-of (eqb (presentationOf s) withheld) _ (numberFault 0 s)
+    (formed (eqb (length s) 2 && (eqb (getD s 0 0) 0 && ltb (getD s 1 0) 16)) Sound (record {})) (number-told 0 s)
+form-told Generic s =
+    formed (not (eqb (length s) 0)) _
+    (one-of (eqb (getD s 0 0) added-calling-number) (numberFault 1 (drop 1 s)) Sound (number-told 1 (drop 1 s)) (record {}))
+
+fault-told : (h : ℕ) (s : List ℕ) → ToldFault (faultOf h s)
+unfolding faultOf
+fault-told h s = formed (clear (zeroesOf h) (getD s 0 0)) (faultBy (formOf h) s) (form-told (formOf h) s)
+
+values-told : (b : Bool) (ds : List ℕ) → ToldFault (formedThen b (cond (every isDigit ds) Sound (Bad 13 0)))
+values-told b ds = formed b _ (one-of (every isDigit ds) Sound _ (record {}) (omega arith))
+
+held-told : (i : Item) → ToldFault (faultIn i)
+unfolding faultIn
+held-told i = go (heldAs i)
+  where
+    go : (a : Holding) → ToldFault (faultAs a i)
+    go AsContents = fault-told (i .header) (i .values)
+    go (AsDigits m) = values-told (marksRight m i) (i .values)
+    go (AsNumber w) = values-told (numberRight w i) (i .values)
+    go AsGeneric = values-told (fieldsRight i) (drop 1 (i .values))
+
+-- ---- reading
+
+module _ (step : Step) (close : Seen → ℕ → Answer) (each : (seen : Seen) (h : ℕ) (xs : List ℕ) → Told (step seen h xs))
+    (last : (seen : Seen) (p : ℕ) → Told (close seen p)) where
+  walked : (xs : List ℕ) (seen : Seen) (k p : ℕ) → Told (walk (judging step close) seen k p xs)
+  unfolding walk
+  walked [] seen k p = last seen p
+  walked (x ∷ xs) seen (suc k) p = walked xs seen k (p + 1)
+  walked (x ∷ xs) seen zero p = go (step seen x xs) (each seen x xs) (walked xs (counted seen x))
+    where
+      go : (a : Answer) → Told a → ((k p : ℕ) → Told (walk (judging step close) (counted seen x) k p xs))
+          → Told (byStep a (λ k q. Refused k (p + q)) (λ n. walk (judging step close) (counted seen x) n (p + 1) xs))
+      go (Accepted n) t rest = rest n (p + 1)
+      go (Refused k q) t rest = t
+
+transfer-told : (seen : Seen) (h : ℕ) (xs : List ℕ) → Told (transferStep seen h xs)
+unfolding transferBy
+transfer-told seen h xs =
+    let n = afterOf (extentOf h) (getD xs 0 0) in
+    let f = faultOf h (contentsIn (extentOf h) (take n xs)) in
+    refused (not (nameUsed h)) unused-name 0 _ (omega arith)
+    (refused (not (pliRight h)) other-pli 0 _ (omega arith)
+    (refused (leb (oftenOf (nameOf h)) (timesSeen seen h)) repeated-name 0 _ (omega arith)
+    (refused (ltb (length xs) n) cut-contents 0 _ (omega arith)
+    (sounded (readingAt (1 + leadOf (extentOf h))) f (Accepted n) (fault-told h (contentsIn (extentOf h) (take n xs))) (record {})))))
+
+data-told : (n : ℕ) (xs : List ℕ) → Told (dataOf n xs)
+unfolding dataBy transfersVerdictBy
+data-told n xs =
+    let t = contentsIn (commonExtentOf transfer-data) (take n xs) in
+    followed (shifted 2 (transfersVerdict t)) (λ _. Accepted n)
+    (moved 2 (transfersVerdict t) (walked transferStep (λ seen p. Accepted p) transfer-told (λ seen p. record {}) t unseen 0 0))
+    (λ _. record {})
+
+form-kept : (times h : ℕ) (xs : List ℕ) → Told (commonForm times h xs)
+unfolding commonForm
+form-kept times h xs =
+    let n = afterOf (commonExtentOf h) (getD xs 0 0) in
+    refused (not (among h listedHeaders)) unlisted 0 _ (omega arith)
+    (refused (ltb 0 times) repeated 0 _ (omega arith)
+    (refused (ltb (length xs) n) cut-short 0 _ (omega arith)
+    (refused (not (octetAllowed h (getD xs 0 0))) not-allowed 0 (Accepted n) (omega arith) (record {}))))
+
+end-told : (whole : Bool) (xs : List ℕ) → Told (endOf whole xs)
+unfolding endOf
+end-told whole xs =
+    refused (not whole) missing 0 _ (omega arith) (refused (ltb 0 (length xs)) left-over 1 (Accepted 0) (omega arith) (record {}))
+
+common-told : (seen : Seen) (h : ℕ) (xs : List ℕ) → Told (commonStep seen h xs)
+unfolding commonBy
+common-told seen h xs =
+    followed (commonForm (timesSeen seen h) h xs) _ (form-kept (timesSeen seen h) h xs)
+    (λ n. either (eqb h end-mark) (endOf (wholeIn seen) xs) _ (end-told (wholeIn seen) xs)
+    (either (eqb h transfer-data) (dataOf n xs) (Accepted n) (data-told n xs) (record {})))
+
+close-told : (seen : Seen) (p : ℕ) → Told (commonClose seen p)
+close-told seen p = refused (not (ltb 0 (timesSeen seen end-mark))) cut-short p (Accepted p) (omega arith) (record {})
+
+pub verdict-told : (m : List ℕ) → Told (verdictOf m)
+unfolding verdictBy messageVerdictBy
+verdict-told m =
+    refused (eqb (length m) 0 || ltb most-octets (length m)) over-limits 0 (messageVerdict m) (omega arith)
+    (walked commonStep commonClose common-told close-told m unseen 0 0)
+
+-- ---- finding and rows
+
+found-told : (f : Found) → Told (foundAnswer f)
+found-told (At s e) = record {}
+found-told Nowhere = omega arith
+
+pub find-told : (m : List ℕ) (f : Found) → Told (findAnswer m f)
+find-told m f = followed (verdictOf m) (λ _. foundAnswer f) (verdict-told m) (λ _. found-told f)
+
+pub spans-told : (m : List ℕ) (room : ℕ) → Told (spansOf m room)
+unfolding spansBy
+spans-told m room =
+    followed (verdictOf m) _ (verdict-told m)
+    (λ _. refused (ltb room (length (rowsOf m))) no-room 0 (Accepted (length (rowsOf m))) (omega arith) (record {}))
+
+-- ---- writing
+
+head-told : (p h : ℕ) (a : Answer) → Told a → Told (headWriting p h a)
+head-told p h a t =
+    refused (not (nameUsed h)) unused-name p _ (omega arith) (refused (not (pliRight h)) other-pli p a (omega arith) t)
+
+item-told : (times p : ℕ) (i : Item) → Told (itemWriting times p i)
+unfolding itemWriting
+item-told times p i =
+    head-told p (i .header) _
+    (refused (leb (oftenOf (nameOf (i .header))) times) repeated-name p _ (omega arith)
+    (refused (not (lengthRight i)) cut-contents p _ (omega arith)
+    (sounded (headerAt p) (faultIn i) (Accepted (p + length (layoutItem i))) (held-told i) (record {}))))
+
+items-told : (is : List Item) (seen : Seen) (p : ℕ) → Told (itemsWriting seen p is)
+unfolding itemsWriting
+items-told [] seen p = record {}
+items-told (i ∷ is) seen p =
+    followed (itemWriting (timesSeen seen (i .header)) p i) (λ q. itemsWriting (counted seen (i .header)) q is)
+    (item-told (timesSeen seen (i .header)) p i) (λ q. items-told is (counted seen (i .header)) q)
+
+part-told : (times p : ℕ) (q : Part) → Told (partWriting times p q)
+unfolding partWriting dataWriting
+part-told times p q =
+    refused (not (among (q .header) commonHeaders)) unlisted p _ (omega arith)
+    (refused (ltb 0 times) repeated p _ (omega arith)
+    (refused (not (valueRight q)) not-allowed p _ (omega arith)
+    (refused (not (valueFits q)) bad-form p _ (omega arith)
+    (either (eqb (q .header) transfer-data) (dataWriting p (q .items)) (Accepted (p + length (layoutPart q)))
+    (followed (itemsWriting unseen (p + 2) (q .items)) _ (items-told (q .items) unseen (p + 2))
+    (λ e. refused (ltb most-transfer-octets (e - (p + 2))) transfer-over p (Accepted e) (omega arith) (record {})))
+    (record {})))))
+
+parts-told : (r : List Part) (seen : Seen) (p : ℕ) → Told (partsWriting seen p r)
+unfolding partsWriting
+parts-told [] seen p = refused (not (wholeIn seen)) missing p (Accepted (p + 1)) (omega arith) (record {})
+parts-told (q ∷ qs) seen p =
+    followed (partWriting (timesSeen seen (q .header)) p q) (λ k. partsWriting (counted seen (q .header)) k qs)
+    (part-told (timesSeen seen (q .header)) p q) (λ k. parts-told qs (counted seen (q .header)) k)
+
+pub struct-told : (s : Record) → Told (structWriting s)
+unfolding structWriting recordWriting
+struct-told s =
+    refused (not (isWhole s)) over-limits 0 _ (omega arith)
+    (refused (overLimits (view s)) over-limits 0 _ (omega arith) (parts-told (view s) unseen 0))
+
+pub writing-told : (s : Record) (room : ℕ) → Told (writingOf s room)
+unfolding writingOf
+writing-told s room =
+    followed (structWriting s) _ (struct-told s) (λ n. refused (ltb room n) no-room 0 (Accepted n) (omega arith) (record {}))
+
+-- ---- editing
+
+new-told : (new : List ℕ) (b : Bool) (k : ℕ) → 0 < k → Told (newHead new (refuse b k 0 (newContents new)))
+new-told new b k h =
+    let x = newHeader new in
+    let xs = newAfter new in
+    refused (eqb (length new) 0) cut-contents 0 _ (omega arith)
+    (head-told 0 x _
+    (refused b k 0 _ h
+    (refused (not (eqb (length xs) (afterOf (extentOf x) (getD xs 0 0)))) cut-contents 0 _ (omega arith)
+    (sounded (headerAt 0) (faultOf x (contentsIn (extentOf x) xs)) (Accepted 0) (fault-told x (contentsIn (extentOf x) xs)) (record {})))))
+
+edit-told : (e : Edit) (is : List Item) → Told (editRefusal e is)
+unfolding editRefusal
+edit-told (Replacing new which) is = new-told new (leb (timesIn (nameOf (newHeader new)) (namesOf is)) which) absent (omega arith)
+edit-told (Appending new) is =
+    let x = nameOf (newHeader new) in
+    new-told new (leb (oftenOf x) (timesIn x (namesOf is))) repeated-name (omega arith)
+edit-told (Removing x which) is = refused (leb (timesIn x (namesOf is)) which) absent 0 (Accepted 0) (omega arith) (record {})
+
+pub editing-told : (e : Edit) (d : List ℕ) (n : ℕ) → Told (editingOf e d n)
+unfolding editingOf recordEditing
+editing-told e d n =
+    let r = recordOf (take n d) in
+    let k = length (layout (edited e r)) in
+    refused (ltb (length d) n) no-room 0 _ (omega arith)
+    (followed (verdictOf (take n d)) _ (verdict-told (take n d))
+    (λ _. refused (not (among transfer-data (headersOf r))) absent 0 _ (omega arith)
+    (followed (editRefusal e (itemsIn r)) _ (edit-told e (itemsIn r))
+    (λ _. refused (ltb most-transfer-octets (length (layoutItems (itemsIn (edited e r))))) transfer-over 0 _ (omega arith)
+    (refused (ltb (length d) k) no-room 0 (Accepted k) (omega arith) (record {}))))))
+
+-- ---- a record's image
+
+pub imaging-told : (q : Record) (room : ℕ) → Told (imagingOf q room)
+unfolding imagingOf
+imaging-told q room =
+    let k = length (imageOf (view q)) in
+    refused (not (isWhole q)) over-limits 0 _ (omega arith) (refused (ltb room k) no-room 0 (Accepted k) (omega arith) (record {}))
+
+pub imaged-told : (image : List ℕ) → Told (imagedOf image .answer)
+unfolding imagedOf
+imaged-told [] = omega arith
+imaged-told (n ∷ s) = go (partsFront n s)
+  where
+    told : (b : Bool) (r : List Part) → Told (cond b (record { answer = Accepted (length r); held = pack r }) noImage .answer)
+    told true r = record {}
+    told false r = omega arith
+
+    go : (f : Front Part) → Told (imagedBy (length s) f .answer)
+    go (Taken r k) = told (eqb k (length s) && isWithin r) r
+    go Short = omega arith
+
+-- ---- classes
+
+pub class-told : (h x : ℕ) → ToldClass (classOf h x)
+unfolding classOf
+class-told h x = among-told classLists
+  where
+    one : (b c : Bool) (k : Class) (rest : ClassAnswer) → ToldClass rest
+        → ToldClass (cond b (cond c (classes.Is k) (classes.Refused bad-form 0)) rest)
+    one true true k rest t = record {}
+    one true false k rest t = omega arith
+    one false c k rest t = t
+
+    among-told : (ls : List ClassList) → ToldClass (classIn ls h x)
+    among-told [] = omega arith
+    among-told (l ∷ ls) = one (eqb h (l .header)) (clear (zeroesOf h) x) (classBy l x) (classIn ls h x) (among-told ls)
