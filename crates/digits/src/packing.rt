@@ -76,7 +76,9 @@ fn pack_fitting(z: Alphabet, digits: &[u8], room: &mut [u8])
         return;
     }
     let last = 2 * n;
-    room[n] = code_of(z, digits[last]);
+    let low = code_of(z, digits[last]) as u16;
+    let filler = 0;
+    room[n] = ((low + 16 * filler) % 256) as u8;
 }
 
 // Writes digits at the front of the room, two to an octet, low half first.

@@ -64,13 +64,13 @@ module _ (d : List ℕ) (n start end from to : ℕ) (new : List ℕ) (p : Placed
       leb-false (messageLength n (to - from) new) (length d)
       (rw (le-leb (start + from + (to - from)) n a, le-leb n (length d) (p .whole)) at e)
 
-  pub length-stored : Fitting d n (start + from) (to - from) new
-      → set (spliced d n (start + from) (to - from) new) (start - 1) (dataLength start end (to - from) new)
-      ≡ holding d n (splicedWith d n start end from to new)
-  length-stored f =
+  pub length-stored : (x : ℕ) → x ≡ dataLength start end (to - from) new → Fitting d n (start + from) (to - from) new
+      → set (spliced d n (start + from) (to - from) new) (start - 1) x ≡ holding d n (splicedWith d n start end from to new)
+  length-stored x l f =
       let e : start + from + (to - from) ≡ start + to = omega (arith, p .order) in
-      rw e at
-      (set-spliced d n (start + from) (to - from) new f (start - 1) (dataLength start end (to - from) new) (omega (arith, p .counted)))
+      rw l
+      (rw e at
+      (set-spliced d n (start + from) (to - from) new f (start - 1) (dataLength start end (to - from) new) (omega (arith, p .counted))))
 
 -- ---- the numbers of an edit
 
@@ -147,3 +147,8 @@ module _ {e : Edit} {d : List ℕ} {n start end from to : ℕ} {new : List ℕ} 
   cut-edits r now p =
       let q : r ≡ editingOf e d n = p .0 ∙ rw (data-long, message-long) (sym (c .room)) in
       (q, p .1 ∙ rw (← q, message-is))
+
+-- the same of the numbers that the last step was handed, where they are those of the edit
+pub handed-edits : {e : Edit} {d : List ℕ} {n start end x y : ℕ} {new : List ℕ} {r : Answer} {now : List ℕ} (from to : ℕ)
+    → SplicePromise d n start end x y new r now → Cut e d n start end from to new → x ≡ from → y ≡ to → EditPromise e d n r now
+handed-edits from to p c f t = cut-edits c _ _ (rw (f, t) at p)

@@ -42,7 +42,7 @@ fn splice_in(
     if !splice(buffer, n, start + from, old, new) {
         return Answer::Refused(Answer::NO_ROOM, 0);
     }
-    buffer[start - 1] = length as u8;
+    buffer[start - 1] = (length % 256) as u8;
     Answer::Accepted(n - old + new.len())
 }
 

@@ -36,12 +36,12 @@ two-kept [] ys k x h = absurd (omega arith)
 two-kept (a ∷ []) ys k x h = absurd (omega arith)
 two-kept (a ∷ b ∷ w) ys k x h = omega arith
 
-pub data-stored : (room xs ys : List ℕ) (n : ℕ) → 2 + length xs ≤ length room → n ≡ length xs
+pub data-stored : (room xs ys : List ℕ) (x : ℕ) → 2 + length xs ≤ length room → x ≡ length xs % 256
     → ys ≡ atFront xs (take (length room - 2) (drop 2 room))
-    → set (set (putMid 2 (length room - 2) room ys) 0 transfer-data) 1 (n % 256) ≡ atFront (transfer-data ∷ dataOctets xs) room
-data-stored [] xs ys n h e f = absurd (omega arith)
-data-stored (a ∷ []) xs ys n h e f = absurd (omega arith)
-data-stored (a ∷ b ∷ w) xs ys n h e f =
+    → set (set (putMid 2 (length room - 2) room ys) 0 transfer-data) 1 x ≡ atFront (transfer-data ∷ dataOctets xs) room
+data-stored [] xs ys x h e f = absurd (omega arith)
+data-stored (a ∷ []) xs ys x h e f = absurd (omega arith)
+data-stored (a ∷ b ∷ w) xs ys x h e f =
     let k : suc (suc (length w)) - 2 ≡ length w = omega arith in
     let g : ys ≡ atFront xs w = rw (k, take-length w) at f in
     rw (k, drop-length w, append-nil ys, e, g)

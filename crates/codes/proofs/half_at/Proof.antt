@@ -20,10 +20,10 @@ shared-slice-read-result-2 : tie.Need-shared-slice-read-result-2
 shared-slice-read-result-2 c = search needs
 
 returns-2 : tie.Need-returns-2
-returns-2 c = sym (halves-even _ _ (c .before .if2 .taken))
+returns-2 c = let a = c .before .before .before .args in sym (halves-even (a .octets .now) (a .i) (omega arith))
 
 returns-3 : tie.Need-returns-3
-returns-3 c = sym (halves-odd _ _ (c .before .if2 .left))
+returns-3 c = let a = c .before .before .before .args in sym (halves-odd (a .octets .now) (a .i) (λ even. omega arith))
 
 pub half-at-spec : {M : Type 1} → statement M
 half-at-spec =

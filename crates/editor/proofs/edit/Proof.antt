@@ -12,7 +12,7 @@ use Rattle.annex.specs.Allowed.{every, isOctet}
 use Rattle.annex.specs.declared.Answer.{Answer}
 use Rattle.laws.specs.Written.{octets-every}
 use Rattle.editor.specs.Steps.{editOf, ownAnswer, data-inside, refused, Data, own-refused, own-left}
-use Rattle.editor.specs.Splicing.{Cut, cut-placed, cut-edits}
+use Rattle.editor.specs.Splicing.{Cut, cut-placed, handed-edits}
 use Rattle.editor.specs.Cuts.{cut}
 use Rattle.editor.proofs.edit.Statement.{statement}
 use Rattle.editor.proofs.edit.Tie as tie
@@ -123,10 +123,17 @@ placed c =
     cut (a .args .kind) _ _ _ _ _ _ _ _ (a .pre) o (found d) (sym (f .before .before .spot-in .ensures) ∙ f .from .given .1)
     (left n ∙ c .enum-told7 .given .1)
 
+-- what it asks, whatever part of the stretch it is handed
+splice-in-requires : tie.Need-splice-in-requires
+splice-in-requires c κs =
+    let p = cut-placed (placed (c .before)) in
+    record { counted = p .counted; order = omega arith; within = omega arith; message = p .message; whole = p .whole }
+
 returns-7 : tie.Need-returns-7
 returns-7 c =
     let s = c .before .before in
-    cut-edits (placed (s .before .before)) _ _ (s .splice-in .ensures)
+    let f = s .before .before .before .before .before .before .from .given .0 in
+    handed-edits (f .0) (f .1 .0) (s .splice-in .ensures) (placed (s .before .before)) (omega arith) (omega arith)
 
 pub edit-spec : {M : Type 1} → statement M
 edit-spec =
@@ -166,6 +173,6 @@ edit-spec =
     (λ c. search needs)
     (λ c. search needs)
     returns-6
-    (λ c κs. cut-placed (placed (c .before)))
+    splice-in-requires
     (λ c. search needs)
     returns-7)

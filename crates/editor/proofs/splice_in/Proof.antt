@@ -1,5 +1,6 @@
 -- `splice_in` meets its contract: its test is 14, the splice refuses for want of room alone, and the octet stored is C5's length octet.
 use Prim.Native.Nat.{_+_, _-_}
+use native.Mathlib.Omega.{arith}
 use mathlib.Core.Path.{refl, sym, _∙_}
 use borrow.Author.Needs.{needs}
 use borrow.Author.Tests.{lt-ltb, le-ltb, not-true, not-false}
@@ -31,7 +32,9 @@ returns-3 c =
     told-fitting (a .args .buffer .now) (a .args .n) (a .args .start + a .args .from) (a .args .to - a .args .from) (a .args .new .now)
     (sym (s .splice .ensures .0) ∙ t) in (
       rw (le-ltb _ _ (s .before .before .if1 .left), le-ltb _ _ (fit .room)),
-      rw (s .splice .ensures .1, t) (length-stored _ _ _ _ _ _ _ (a .pre) fit),
+      rw (s .splice .ensures .1, t)
+          (length-stored (a .args .buffer .now) (a .args .n) (a .args .start) (a .args .end) (a .args .from) (a .args .to)
+          (a .args .new .now) (a .pre) _ (omega (arith, s .before .before .if1 .left)) fit),
     )
 
 pub splice-in-spec : {M : Type 1} → statement M

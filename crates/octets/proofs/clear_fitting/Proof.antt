@@ -1,6 +1,5 @@
 -- `clear_fitting` meets its contract: each turn sets one octet more to 0.
-use mathlib.Core.Path.{sym}
-use Prim.Native.Nat.{_-_}
+use Prim.Native.Nat.{ℕ, _-_}
 use native.Mathlib.Omega.{arith}
 use lib.ListN.{replicate, length-replicate, getD-replicate}
 use Rattle.octets.proofs.Turns.{Forward, forward-start, forward-turn, forward-end}
@@ -32,9 +31,9 @@ loop-again : tie.Need-loop-again Inv-loop μ-loop
 loop-again c =
     let a = c .before .before .args in
     let l = c .before .loop in
-    forward-turn (a .d .now) (a .from) (replicate (a .k) 0) (a .k) (l .i) (l .d) 0 (length-replicate (a .k) 0) (omega arith) (omega arith)
+    forward-turn (a .d .now) (a .from) (replicate (a .k) 0) (a .k) (l .i) (l .d) _ (length-replicate (a .k) 0) (omega arith) (omega arith)
     (l .inv)
-    (sym (getD-replicate (a .k) (l .i) 0 0 (omega arith)))
+    (omega (arith, getD-replicate {A = ℕ} (a .k) (l .i) 0 0 (omega arith)))
 
 same-length : tie.Need-same-length Inv-loop μ-loop
 same-length c = omega arith

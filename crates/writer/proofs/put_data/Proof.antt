@@ -23,8 +23,8 @@ returns c =
     let st = p .before .before .before in
     let a = st .args in (
       omega (arith, p .put-items .ensures .0),
-      data-stored (a .room .now) (layoutItems (itemsAt (a .q) (a .first) (a .n))) (p .put-items .last .1 .1 .1 .0) (p .put-items .result)
-          (omega (arith, st .pre .1)) (p .put-items .ensures .0) (p .put-items .ensures .1),
+      data-stored (a .room .now) (layoutItems (itemsAt (a .q) (a .first) (a .n))) (p .put-items .last .1 .1 .1 .0) _
+          (omega (arith, st .pre .1)) (omega (arith, p .put-items .ensures .0)) (p .put-items .ensures .1),
     )
 
 pub put-data-spec : {M : Type 1} → statement M

@@ -36,12 +36,11 @@ loop-again c =
     let a = l .before .before .before .args in
     let i = l .loop .i in
     let ds = a .digits .now in
-    let x = (f .code-of .result + 16 * c .code-of2 .result) % 256 in
-    let e : x ≡ getD (packed (a .z) ds) i 0 % 256 =
+    let e : getD (packed (a .z) ds) i 0 ≡ f .code-of .result + 16 * c .code-of2 .result =
     rw (pair-octet (a .z) ds i (omega arith), ← c .code-of2 .ensures, ← f .code-of .ensures) in (
       omega arith,
       simp length-set (l .loop .inv .1),
-      rw (l .loop .inv .2) (written-turn (a .room .now) (packed (a .z) ds) i x (omega (arith, length-packed (a .z) ds)) e),
+      rw (l .loop .inv .2) (written-turn (a .room .now) (packed (a .z) ds) i _ (omega (arith, length-packed (a .z) ds)) (rw e)),
     )
 
 same-length : tie.Need-same-length Inv-loop μ-loop
@@ -73,10 +72,10 @@ returns-2 c =
     let z = st .args .z in
     let k = length ds / 2 in
     let i : l .loop .i ≡ k = omega arith in
-    let x = c .code-of3 .result in
-    let e : x ≡ getD (packed z ds) k 0 % 256 = rw (last-octet z ds k (omega arith), ← c .code-of3 .ensures) (omega arith) in
-    rw (l .loop .inv .2, i, written-turn (st .args .room .now) (packed z ds) k x (omega (arith, length-packed z ds)) e)
-    (written-end (st .args .room .now) (packed z ds) (k + 1) (omega (arith, length-packed z ds))
+    let e : getD (packed z ds) k 0 ≡ c .code-of3 .result = rw (last-octet z ds k (omega arith), ← c .code-of3 .ensures) in
+    rw (l .loop .inv .2, i)
+    (written-turn (st .args .room .now) (packed z ds) k _ (omega (arith, length-packed z ds)) (omega arith)
+    ∙ written-end (st .args .room .now) (packed z ds) (k + 1) (omega (arith, length-packed z ds))
     (omega (arith, length-packed z ds, st .pre)))
 
 pub pack-fitting-spec : {M : Type 1} → statement M
@@ -106,6 +105,10 @@ pack-fitting-spec =
     (λ c. omega arith)
     (λ c. omega arith)
     (λ c κs. search needs)
+    (λ c. omega arith)
+    (λ c. omega arith)
+    (λ c. omega arith)
+    (λ c. omega arith)
     slice-write-room-2
     same-length-2
     returns-2)

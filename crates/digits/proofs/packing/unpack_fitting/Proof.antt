@@ -34,8 +34,8 @@ loop-again c =
       rw (at .loop .inv .1, n)
           (sets-two (a .values .now) (a .used) (digitsOf (a .z) (a .count) s) (2 * i) (f .digit-of .result) (c .digit-of2 .result)
           (omega (arith, length-digitsOf (a .z) (a .count) s (omega arith)))
-          (f .digit-of .ensures ∙ low-digit (a .z) (a .count) s i (omega arith))
-          (c .digit-of2 .ensures ∙ high-digit (a .z) (a .count) s i (omega arith))),
+          (rw (f .digit-of .ensures, ← low-digit (a .z) (a .count) s i (omega arith)))
+          (rw (c .digit-of2 .ensures, ← high-digit (a .z) (a .count) s i (omega arith)))),
     )
 
 returns : tie.Need-returns Inv-loop μ-loop
