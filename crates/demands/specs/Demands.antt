@@ -1,5 +1,5 @@
 -- The three demands. Each is one statement, `Demand1` to `Demand3`, about what the functions promise (annex: Promises), and so about every
--- program that keeps the promises, ours among them; `demand-1` to `demand-3` prove them from what stands in `theorems`.
+-- program that keeps the promises, ours among them; `demand-1` to `demand-3` prove them from what stands in `theorems` and `tight`.
 --
 -- A function answers `r`; `now` is what it leaves in the memory it was lent. A slice of octets is a list of numbers, each below 256
 -- (`Octetwise`), and a struct has arrays of their lengths, with numbers that fit their fields (`FitsStruct`): that is what the types say.
@@ -23,12 +23,13 @@ use Rattle.annex.specs.Records.{pack, isWhole, view, readBy, readingOf}
 use Rattle.annex.specs.Writing.{structWriting, writingOf, writtenOf}
 use Rattle.annex.specs.Image.{imagingOf, imagedIn}
 use Rattle.annex.specs.Spans.{rowsOf, spansOf, tableOf, spansBy}
-use Rattle.annex.specs.Finding.{transferFound, foundAnswer}
+use Rattle.annex.specs.Finding.{commonFound, transferFound, foundAnswer}
 use Rattle.annex.specs.Editing.{Edit, edited, bufferOf}
 use Rattle.annex.specs.Packed.{packedAnswer, imageReading, imageRead, imageWriting, imageWritten, octetSpans, octetsBy, octetTable}
 use Rattle.annex.specs.Promises.{
   ReadPromise,
   FindCommonPromise,
+  FindCommonAnswerPromise,
   FindTransferPromise,
   FindTransferAnswerPromise,
   SpansPromise,
@@ -73,6 +74,7 @@ use Rattle.theorems.specs.InPlace.{InPlace, in-place}
 use Rattle.theorems.specs.Places.{isFound, name-there}
 use Rattle.theorems.specs.Listings.{partContents, partRows, rows-of-record, rows-counted}
 use Rattle.theorems.specs.Finds.{transfer-contents, common-contents}
+use Rattle.tight.specs.Told.{Told, verdict-told, find-told, spans-told, writing-told, editing-told}
 
 abbrev pub Octetwise : List ℕ → Type 0
 Octetwise m = every isOctet m ≡ true
@@ -84,8 +86,8 @@ IsAccepted a = (n : ℕ) × (a ≡ Accepted n)
 
 -- The software ends and does nothing undefined on whatever octets, records or lent memory it is handed: a public function has no
 -- `requires`, and that it keeps its promise is proved for all inputs. No call relies on an earlier check by the caller: a promise speaks of
--- what that call was handed and of nothing else. Each refusal's number and place are those that a definition gives. And it leaves lent
--- memory as it was:
+-- what that call was handed and of nothing else. Each refusal's number and place are those that a definition gives, and no other answer
+-- keeps the promise (tight: Unique, Numbers); the number is never 0, which stands for accepted. And it leaves lent memory as it was:
 
 -- where the answer refuses
 abbrev pub Kept : {A : Type 0} → Answer → List A → List A → Type 0
@@ -96,6 +98,12 @@ abbrev pub KeptPacked : ℕ → List ℕ → List ℕ → Type 0
 KeptPacked r before now = 0 < r / 4294967296 → now ≡ before
 
 pub record Demand1 : Type 0 where
+  pub read-numbered : (m : List ℕ) (r : Reading) → ReadPromise m r → Told (r .answer)
+  pub common-numbered : (m : List ℕ) (h : ℕ) (r : Answer) → FindCommonAnswerPromise m h r → Told r
+  pub transfer-numbered : (m : List ℕ) (x : ℕ) (r : Answer) → FindTransferAnswerPromise m x r → Told r
+  pub spans-numbered : (m : List ℕ) (table : List Row) (r : Answer) (now : List Row) → SpansPromise m table r now → Told r
+  pub write-numbered : (q : Record) (room : List ℕ) (r : Answer) (now : List ℕ) → WritePromise q room r now → Told r
+  pub edit-numbered : (e : Edit) (d : List ℕ) (n : ℕ) (r : Answer) (now : List ℕ) → EditPromise e d n r now → Told r
   pub spans : (m : List ℕ) (table : List Row) (r : Answer) (now : List Row) → SpansPromise m table r now → Kept r table now
   pub octet-spans : (m table : List ℕ) (r : Answer) (now : List ℕ) → OctetSpansPromise m table r now → Kept r table now
   pub write : (q : Record) (room : List ℕ) (r : Answer) (now : List ℕ) → WritePromise q room r now → Kept r room now
@@ -129,10 +137,25 @@ kept-packed {a} {r} {before} {left} {now} w p = go a refl
     go (Accepted n) e h = absurd (omega (arith, rw e at (p .0)))
     go (Refused k q) e h = p .1 ∙ w k q e
 
+-- reading answers with the verdict
+read-answer : (m : List ℕ) (r : Reading) → ReadPromise m r → r .answer ≡ verdictOf m
+unfolding readingOf
+read-answer m r p = ap (λ (x : Reading). x .answer) p ∙ by (verdictOf m)
+  where
+    by : (a : Answer) → readBy a (recordOf m) .answer ≡ a
+    by (Accepted n) = refl
+    by (Refused k q) = refl
+
 pub demand-1 : Demand1
 unfolding tableOf octetTable writtenOf bufferOf imagedIn imageRead imageWritten
 demand-1 =
     record {
+      read-numbered = λ m r p. rw (read-answer m r p) (verdict-told m);
+      common-numbered = λ m h r p. rw p (find-told m (commonFound h m));
+      transfer-numbered = λ m x r p. rw p (find-told m (transferFound x 0 m));
+      spans-numbered = λ m table r now p. rw (p .0) (spans-told m (length table));
+      write-numbered = λ q room r now p. rw (p .0) (writing-told q (length room));
+      edit-numbered = λ e d n r now p. rw (p .0) (editing-told e d n);
       spans = λ m table r now p. kept (after-refusal (spansOf m (length table)) (rowsOf m) table) p;
       octet-spans = λ m table r now p. kept (octets-kept (octetSpans m (length table)) _ table) p;
       write = λ q room r now p. kept (after-refusal (writingOf q (length room)) _ room) p;
@@ -182,15 +205,6 @@ pub record Demand2 : Type 0 where
       → (part : List ℕ) → FindTransferPromise (layout s) (nameOf (one .header)) part → part ≡ contentsOf one
   pub there : (s : List Part) → Allowed s → (x : ℕ) (r : Answer) → FindTransferAnswerPromise (layout s) x r
       → IsAccepted r ↔ (0 < timesIn x (namesOf (itemsIn s)))
-
--- reading answers with the verdict
-read-answer : (m : List ℕ) (r : Reading) → ReadPromise m r → r .answer ≡ verdictOf m
-unfolding readingOf
-read-answer m r p = ap (λ (x : Reading). x .answer) p ∙ by (verdictOf m)
-  where
-    by : (a : Answer) → readBy a (recordOf m) .answer ≡ a
-    by (Accepted n) = refl
-    by (Refused k q) = refl
 
 none-read : (m : List ℕ) (r : Reading) → ReadPromise m r → (k p : ℕ) → r .answer ≡ Refused k p → r .«record» ≡ pack []
 unfolding readingOf
