@@ -1,4 +1,5 @@
-//! The refusal numbers have the same names here and in the header for C.
+//! The refusal numbers have the same names here and in the header for C, and
+//! both lend as much room for an image as is proved to suffice.
 
 use std::collections::BTreeMap;
 
@@ -20,4 +21,31 @@ fn of_all_numbers() {
     assert_eq!(header.remove(&0), Some("ACCEPTED"));
     assert_eq!(here.len(), 17);
     assert_eq!(here, header);
+}
+
+/// What a line that starts with `before` goes on with, up to `after`.
+fn line<'t>(text: &'t str, before: &str, after: char) -> &'t str {
+    let rest = text.lines().find_map(|l| l.trim().strip_prefix(before));
+    rest.and_then(|r| r.split(after).next()).expect(before)
+}
+
+/// A sum of products.
+fn value(sum: &str) -> usize {
+    let number = |n: &str| n.trim().parse::<usize>().expect(n);
+    sum.split('+')
+        .map(|p| p.split('*').map(number).product::<usize>())
+        .sum()
+}
+
+#[test]
+fn of_the_longest_image() {
+    let proved = include_str!("../../../crates/boundary/specs/SmallImages.antt");
+    let proved = value(line(proved, "pub image-max : most-image ≡ ", '\n'));
+    let header = include_str!("../../../include/tsurakemobu.h");
+    let here = include_str!("../src/image.rs");
+    assert_eq!(value(line(header, "#define TK_IMAGE_MAX (", ')')), proved);
+    assert_eq!(
+        value(line(here, "pub(crate) const IMAGE_MAX: usize = ", ';')),
+        proved
+    );
 }
