@@ -1,12 +1,14 @@
 -- What is wrong with the contents of one transfer parameter: document 01, "Transfer data" and refusals 12 and 13.
 -- 12 comes before 13. The offset is that of the octet in the contents.
-use Prim.Native.Nat.{ℕ, _+_, _-_, _*_, _/_, _%_}
+use Prim.Native.Nat.{ℕ, _+_, _-_, _/_, _%_}
 use mathlib.Core.Bool.{Bool, true, false, cond, not, _&&_}
 use mathlib.Core.List.{List}
 use lib.Dec.{eqb, ltb}
 use lib.ListN.{length, getD, drop}
 use Rattle.annex.specs.Answers.{bad-form}
+use Rattle.annex.specs.Units.{countedBy, halvesIn}
 use Rattle.annex.specs.Heads.{added-calling-number, withheld, clear, zeroesOf, formOf}
+use Rattle.annex.specs.declared.HalfOctets.{HalfOctets}
 use Rattle.annex.specs.declared.Check.{Check}
 use Rattle.annex.specs.declared.Form.{Form}
 use Rattle.annex.specs.declared.Check.the-variants.{Nothing, Long, Two}
@@ -36,9 +38,9 @@ oddOf s = getD s 0 0 / 128
 abbrev pub presentationOf : List ℕ → ℕ
 presentationOf s = getD s 1 0 / 4 % 4
 
--- the digits of a number with these octets
-abbrev pub countOf : List ℕ → ℕ
-countOf s = (length s - 2) * 2 - oddOf s
+-- the digits of a number with these octets: those behind the first two, and one half less where the odd mark is set
+abbrev pub countOf : List ℕ → HalfOctets
+countOf s = record { 0 = halvesIn (drop 2 s) .0 - oddOf s }
 
 -- Transfer data, D7: a number whose first octet is at the offset `at`. Its two octets of fields must be there, and where the odd mark is
 -- set a digit octet too; then the digits, with filler after an odd count
@@ -61,7 +63,7 @@ genericFault s = formedThen (not (eqb (length s) 0)) (cond (eqb (getD s 0 0) add
 
 -- Transfer data, PLI 10: the count octet, then its digits
 unfoldable pub dialledFault : List ℕ → Fault
-dialledFault s = digitsFault Dialled (getD s 0 0 % 64) 1 (drop 1 s)
+dialledFault s = digitsFault Dialled (countedBy (getD s 0 0)) 1 (drop 1 s)
 
 -- Transfer data, DB and CF: two octets, with bits of the second that must be 0
 unfoldable pub twoFault : ℕ → List ℕ → Fault

@@ -3,8 +3,10 @@ use Prim.Native.Nat.{ℕ, zero, suc, _+_, _*_, _/_, _%_}
 use mathlib.Core.Bool.{Bool, cond, not, _&&_}
 use mathlib.Core.List.{List, [], _∷_, map}
 use lib.Dec.{eqb, leb}
-use lib.ListN.{take}
+use lib.ListN.{length, take}
 use Rattle.annex.specs.Answers.{bad-digit}
+use Rattle.annex.specs.Units.{halvesOf}
+use Rattle.annex.specs.declared.HalfOctets.{HalfOctets}
 use Rattle.annex.specs.declared.Alphabet.{Alphabet}
 use Rattle.annex.specs.declared.Alphabet.the-variants.{Dialled, Numbered}
 use Rattle.annex.specs.declared.Fault.{Fault}
@@ -56,12 +58,16 @@ halvesFault z zero i (h ∷ hs) = cond (eqb h 0) (halvesFault z zero (i + 1) hs)
 halvesFault z (suc n) i (h ∷ hs) = cond (isCode z h) (halvesFault z n (i + 1) hs) (Bad bad-digit (i / 2))
 
 -- the octets s, the first of them at the offset `at` of the contents, hold n digits and filler
-unfoldable pub digitsFault : Alphabet → ℕ → ℕ → List ℕ → Fault
-digitsFault z n at s = halvesFault z n (2 * at) (halves s)
+unfoldable pub digitsFault : Alphabet → HalfOctets → ℕ → List ℕ → Fault
+digitsFault z n at s = halvesFault z (n .0) (halvesOf (record { 0 = at }) .0) (halves s)
 
 -- the n digits that octets hold, first digit first, and the octets that hold digits
-unfoldable pub digitsOf : Alphabet → ℕ → List ℕ → List ℕ
-digitsOf z n s = map (digitOf z) (take n (halves s))
+unfoldable pub digitsOf : Alphabet → HalfOctets → List ℕ → List ℕ
+digitsOf z n s = map (digitOf z) (take (n .0) (halves s))
 
 unfoldable pub packed : Alphabet → List ℕ → List ℕ
 packed z ds = joined (map (codeOf z) ds)
+
+-- digits by their count: a half-octet each
+abbrev pub halvesFor : List ℕ → HalfOctets
+halvesFor ds = record { 0 = length ds }

@@ -4,6 +4,7 @@ use mathlib.Core.Bool.{true, false, cond}
 use mathlib.Core.List.{List, [], _∷_}
 use lib.Dec.{eqb}
 use lib.ListN.{length, getD, drop}
+use Rattle.annex.specs.Units.{countedBy}
 use Rattle.annex.specs.Heads.{added-calling-number, transfer-data, formOf}
 use Rattle.annex.specs.declared.Form.{Form}
 use Rattle.annex.specs.declared.Marks.{Marks}
@@ -107,7 +108,7 @@ openMarks Typed h u vs = markedItem h 0 0 u vs
 -- Writing: what a record holds of the contents s, held so
 abbrev pub openBy : Holding → ℕ → List ℕ → Item
 openBy AsContents h s = plainItem h s
-openBy (AsDigits m) h s = openMarks m h (getD s 0 0 / 64) (digitsOf Dialled (getD s 0 0 % 64) (drop 1 s))
+openBy (AsDigits m) h s = openMarks m h (getD s 0 0 / 64) (digitsOf Dialled (countedBy (getD s 0 0)) (drop 1 s))
 openBy (AsNumber w) h s = numberItem h (getD s 0 0) (getD s 1 0) (digitsOf Numbered (countOf s) (drop 2 s))
 openBy AsGeneric h s = numberItem h (getD s 1 0) (getD s 2 0) (added-calling-number ∷ digitsOf Numbered (countOf (drop 1 s)) (drop 3 s))
 

@@ -1,10 +1,10 @@
 -- The two counting units, the one conversion, and the length rules: document 01, "Common part" and "Transfer data", Common PLI and
 -- Transfer PLI.
-use Prim.Native.Nat.{ℕ, zero, suc, _+_, _/_, _%_}
+use Prim.Native.Nat.{ℕ, zero, suc, _+_, _*_, _/_, _%_}
 use mathlib.Core.Bool.{cond}
 use mathlib.Core.List.{List}
 use lib.Dec.{eqb}
-use lib.ListN.{drop}
+use lib.ListN.{length, drop}
 use Rattle.annex.specs.declared.HalfOctets.{HalfOctets}
 use Rattle.annex.specs.declared.Octets.{Octets}
 use Rattle.annex.specs.declared.Extent.{Extent}
@@ -17,14 +17,25 @@ pliOf h = h / 64
 abbrev pub nameOf : ℕ → ℕ
 nameOf h = h % 64
 
+-- what the count octet x counts, in bits 5-0
+abbrev pub countedBy : ℕ → HalfOctets
+countedBy x = record { 0 = x % 64 }
+
 -- the one conversion: two half-octets to an octet, an odd one taking an octet of its own
 abbrev pub octetsOf : HalfOctets → Octets
 octetsOf n = record { 0 = (n .0 + 1) / 2 }
 
+-- and what octets hold: two half-octets each
+abbrev pub halvesOf : Octets → HalfOctets
+halvesOf n = record { 0 = 2 * n .0 }
+
+abbrev pub halvesIn : List ℕ → HalfOctets
+halvesIn s = halvesOf (record { 0 = length s })
+
 -- how many octets follow a header; x is the octet right after it, or 0. Both counts are octets where they meet the sum
 unfoldable pub afterOf : Extent → ℕ → ℕ
 afterOf (Fixed n) x = n
-afterOf CountOctet x = 1 + octetsOf (record { 0 = x % 64 }) .0
+afterOf CountOctet x = 1 + octetsOf (countedBy x) .0
 afterOf LengthOctet x = 1 + x
 
 -- Transfer data: what stands between a header and its contents is a length octet alone; a count octet belongs to the contents

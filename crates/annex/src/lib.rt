@@ -1,7 +1,7 @@
 // The types of document 01, with the constants and constructors of the common, transfer and signal kinds.
 // What they mean is said in specs/, which a reader has to believe; docs/TRUST.md says what else.
 ghost use Rattle.annex.specs.Promises.{Gives};
-ghost use Rattle.annex.specs.Units.{octetsOf};
+ghost use Rattle.annex.specs.Units.{countedBy, octetsOf, halvesIn};
 ghost use Rattle.annex.specs.Records.{valueHead, dataHead, carriedHead, dialledHead, numberHead, noCommon, noTransfer};
 
 // What a call answers: accepted, with a count, or refused, with a number and a place.
@@ -59,6 +59,20 @@ pub struct HalfOctets(pub usize);
 pub struct Octets(pub usize);
 
 impl HalfOctets {
+    // What a count octet counts, in its bits 5-0.
+    pub fn counted_by(octet: u8) -> HalfOctets
+        ensures { λ r. ⌜ Gives (countedBy octet) r ⌝ }
+    {
+        HalfOctets((octet % 64) as usize)
+    }
+
+    // What octets hold: two half-octets each.
+    pub fn of(octets: &[u8]) -> HalfOctets
+        ensures { λ r. ⌜ Gives (halvesIn (now (octets .entry))) r ⌝ }
+    {
+        HalfOctets(2 * octets.len())
+    }
+
     // Two half-octets to an octet, rounded up.
     pub fn octets(self) -> Octets
         ensures { λ r. ⌜ Gives (octetsOf self) r ⌝ }

@@ -8,6 +8,7 @@ use lib.ListN.{length, getD, take, drop, set, drop-of-length-le}
 use lib.Seq.{sets, drop-cons}
 use Rattle.annex.specs.Digits.{halves, digitOf, codeOf, isCode, halvesFault, digitsFault, digitsOf, packed}
 use Rattle.annex.specs.Allowed.{every}
+use Rattle.annex.specs.declared.HalfOctets.{HalfOctets}
 use Rattle.annex.specs.declared.Alphabet.{Alphabet}
 use Rattle.annex.specs.declared.Fault.the-variants.{Sound}
 use Rattle.laws.specs.Bools.{and-left, and-right}
@@ -32,16 +33,16 @@ pairs-sound z (suc k) m (x ∷ s) e f p =
     (pairs-sound z k m s r f (p + 1 + 1))
 
 -- an even count of digits fills its octets
-pub even-sound : (z : Alphabet) (n k at : ℕ) (s : List ℕ) → n ≡ k * 2 → drop k s ≡ [] → every (isPair z) (take k s) ≡ true
+pub even-sound : (z : Alphabet) (n : HalfOctets) (k at : ℕ) (s : List ℕ) → n .0 ≡ k * 2 → drop k s ≡ [] → every (isPair z) (take k s) ≡ true
     → digitsFault z n at s ≡ Sound
 unfolding digitsFault halvesFault halves
 even-sound z n k at s e d t =
-    let g : n ≡ k * 2 + 0 = omega arith in
+    let g : n .0 ≡ k * 2 + 0 = omega arith in
     rw g (pairs-sound z k 0 s t (λ q. rw d) (2 * at))
 
 -- of an odd count the last octet is the last digit's code itself: the filler above it is 0
-pub odd-sound : (z : Alphabet) (n k at x : ℕ) (s : List ℕ) → n ≡ k * 2 + 1 → drop k s ≡ x ∷ [] → every (isPair z) (take k s) ≡ true
-    → isCode z x ≡ true → digitsFault z n at s ≡ Sound
+pub odd-sound : (z : Alphabet) (n : HalfOctets) (k at x : ℕ) (s : List ℕ) → n .0 ≡ k * 2 + 1 → drop k s ≡ x ∷ []
+    → every (isPair z) (take k s) ≡ true → isCode z x ≡ true → digitsFault z n at s ≡ Sound
 unfolding digitsFault halvesFault halves
 odd-sound z n k at x s e d t c =
     let l = code-small z x c in
@@ -65,12 +66,13 @@ sets-two l i vs j a b h e f =
     rw (e, f, sets-turn l i vs j 0 (omega arith), g, k) (sets-turn l i vs (j + 1) 0 h)
 
 -- the digits of octet i
-pub low-digit : (z : Alphabet) (n : ℕ) (s : List ℕ) (i : ℕ) → 2 * i < n → digitOf z (getD s i 0 % 16) ≡ getD (digitsOf z n s) (2 * i) 0
+pub low-digit : (z : Alphabet) (n : HalfOctets) (s : List ℕ) (i : ℕ) → 2 * i < n .0
+    → digitOf z (getD s i 0 % 16) ≡ getD (digitsOf z n s) (2 * i) 0
 low-digit z n s i h =
     let e : 2 * i / 2 ≡ i = omega arith in
     sym (digitsOf-at z n s (2 * i) h ∙ ap (digitOf z) (halves-even s (2 * i) (omega arith) ∙ rw e))
 
-pub high-digit : (z : Alphabet) (n : ℕ) (s : List ℕ) (i : ℕ) → 2 * i + 1 < n
+pub high-digit : (z : Alphabet) (n : HalfOctets) (s : List ℕ) (i : ℕ) → 2 * i + 1 < n .0
     → digitOf z (getD s i 0 / 16) ≡ getD (digitsOf z n s) (2 * i + 1) 0
 high-digit z n s i h =
     let e : (2 * i + 1) / 2 ≡ i = omega arith in

@@ -11,6 +11,7 @@ use lib.ListN.{length, getD, drop, drop-of-length-le}
 use lib.Seq.{drop-cons}
 use Rattle.annex.specs.Answers.{bad-digit}
 use Rattle.annex.specs.Digits.{halves, isCode, halvesFault, digitsFault}
+use Rattle.annex.specs.declared.HalfOctets.{HalfOctets}
 use Rattle.annex.specs.declared.Alphabet.{Alphabet}
 use Rattle.annex.specs.declared.Fault.the-variants.{Sound, Bad}
 
@@ -43,6 +44,6 @@ unfolding halvesFault
 halves-end z n i p hs l = rw (drop-of-length-le hs)
 
 -- past the end of the octets there is no half-octet
-pub digits-none : (z : Alphabet) (n at i : ℕ) (s : List ℕ) → length s ≤ i → digitsFault z n at (drop i s) ≡ Sound
+pub digits-none : (z : Alphabet) (n : HalfOctets) (at i : ℕ) (s : List ℕ) → length s ≤ i → digitsFault z n at (drop i s) ≡ Sound
 unfolding digitsFault halvesFault halves
 digits-none z n at i s l = rw (drop-of-length-le s)

@@ -2,6 +2,7 @@
 use annex::Alphabet;
 use annex::Answer;
 use annex::Fault;
+use annex::HalfOctets;
 use codes::half_at;
 use codes::is_code;
 ghost use mathlib.Core.Path.{_≡_};
@@ -43,17 +44,18 @@ fn are_pairs(z: Alphabet, s: &[u8]) -> bool
 }
 
 // True only where the octets hold n digits and filler: they are as many as n digits take, and nothing in them is wrong.
-fn are_sound(z: Alphabet, n: usize, s: &[u8]) -> bool
+fn are_sound(z: Alphabet, n: HalfOctets, s: &[u8]) -> bool
     ensures { λ r. ⌜ (r ≡ true → (at : ℕ) → digitsFault z n at (now (s .entry)) ≡ Sound) ⌝ }
 {
-    let k = n / 2;
-    if s.len() != k + n % 2 {
+    let octets = n.octets();
+    if s.len() != octets.0 {
         return false;
     }
+    let k = n.0 / 2;
     if !are_pairs(z, &s[..k]) {
         return false;
     }
-    if n % 2 == 0 {
+    if n.0 % 2 == 0 {
         return true;
     }
     // the last octet holds one digit, and no code is over 12: its high half is then the filler, 0
@@ -61,15 +63,16 @@ fn are_sound(z: Alphabet, n: usize, s: &[u8]) -> bool
 }
 
 // The place of the first half-octet that is not as it must be.
-fn first_fault(z: Alphabet, n: usize, at: usize, s: &[u8]) -> Fault
+fn first_fault(z: Alphabet, n: HalfOctets, at: usize, s: &[u8]) -> Fault
     requires { ⌜ at + length (now s) < 2 ^ 64 ⌝ }
     ensures { λ r. ⌜ r ≡ digitsFault z n at (now (s .entry)) ⌝ }
 {
-    let end = s.len() * 2;
+    let halves = HalfOctets::of(s);
+    let end = halves.0;
     let mut i: usize = 0;
     while i < end {
         let h = half_at(s, i);
-        if !half_right(z, i < n, h) {
+        if !half_right(z, i < n.0, h) {
             return Fault::Bad(Answer::BAD_DIGIT, at + i / 2);
         }
         i += 1;
@@ -78,7 +81,7 @@ fn first_fault(z: Alphabet, n: usize, at: usize, s: &[u8]) -> Fault
 }
 
 // The octets of the contents s from the offset `at` on hold n digits and filler. The place is looked for only where something is wrong.
-pub fn digits_fault(z: Alphabet, n: usize, s: &[u8], at: usize) -> Fault
+pub fn digits_fault(z: Alphabet, n: HalfOctets, s: &[u8], at: usize) -> Fault
     ensures { λ r. ⌜ Gives (digitsFault z n at (drop at (now (s .entry)))) r ⌝ }
 {
     if s.len() <= at {

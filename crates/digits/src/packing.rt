@@ -2,16 +2,18 @@
 // is false.
 use annex::Alphabet;
 use annex::HalfOctets;
+use annex::Octets;
 use annex::Transfer;
 use codes::code_of;
 use codes::digit_of;
 ghost use mathlib.Core.Path.{_≡_};
-ghost use Prim.Native.Nat.{_+_, _*_, _/_, _≤_, min};
+ghost use Prim.Native.Nat.{_+_, _≤_, min};
 ghost use lib.Dec.{leb};
 ghost use lib.ListN.{length};
 ghost use lib.Seq.{sets};
 ghost use Rattle.annex.specs.Promises.{Gives, Stores};
-ghost use Rattle.annex.specs.Digits.{isDigit, digitsOf, packed};
+ghost use Rattle.annex.specs.Units.{octetsOf, halvesIn};
+ghost use Rattle.annex.specs.Digits.{isDigit, digitsOf, packed, halvesFor};
 ghost use Rattle.annex.specs.Allowed.{every};
 ghost use Rattle.annex.specs.Memory.{atFront};
 
@@ -28,21 +30,20 @@ pub fn are_digits(values: &[u8]) -> bool
     good
 }
 
-// How many octets hold so many digits.
-pub fn packed_len(digits: usize) -> usize
-    ensures { λ r. ⌜ Gives ((digits + 1) / 2) r ⌝ }
+// How many octets hold these digits.
+pub fn packed_len(digits: &[u8]) -> Octets
+    ensures { λ r. ⌜ Gives (octetsOf (halvesFor (now (digits .entry)))) r ⌝ }
 {
-    let count = HalfOctets(digits);
-    let octets = count.octets();
-    octets.0
+    let count = HalfOctets(digits.len());
+    count.octets()
 }
 
-// How many of n digits so many octets have, which end before the last where they are too few.
-pub fn digits_in(n: usize, octets: &[u8]) -> usize
-    ensures { λ r. ⌜ Gives (min n (length (now (octets .entry)) * 2)) r ⌝ }
+// How many of n digits the octets have, which end before the last where they are too few.
+pub fn digits_in(n: HalfOctets, octets: &[u8]) -> HalfOctets
+    ensures { λ r. ⌜ Gives (min (n .0) (halvesIn (now (octets .entry)) .0)) (r .0) ⌝ }
 {
-    let most = octets.len() * 2;
-    if n < most { n } else { most }
+    let most = HalfOctets::of(octets);
+    if n.0 < most.0 { n } else { most }
 }
 
 // Whether so many more values fit after the used ones.
@@ -60,7 +61,7 @@ pub fn has_room(used: usize, count: usize) -> bool
 
 // Writes digits at the front of room that suffices.
 fn pack_fitting(z: Alphabet, digits: &[u8], room: &mut [u8])
-    requires { ⌜ (length (now digits) + 1) / 2 ≤ length (now room) ⌝ }
+    requires { ⌜ octetsOf (halvesFor (now digits)) .0 ≤ length (now room) ⌝ }
     ensures { λ r. ⌜ now (room .exit) ≡ atFront (packed z (now (digits .entry))) (now (room .entry)) ⌝ }
 {
     let n = digits.len() / 2;
@@ -86,7 +87,8 @@ pub fn pack_digits(z: Alphabet, digits: &[u8], room: &mut [u8]) -> bool
     ensures { λ r. ⌜ Stores (leb (length (packed z (now (digits .entry)))) (length (now (room .entry))))
         (atFront (packed z (now (digits .entry))) (now (room .entry))) (now (room .entry)) r (now (room .exit)) ⌝ }
 {
-    if room.len() < packed_len(digits.len()) {
+    let octets = packed_len(digits);
+    if room.len() < octets.0 {
         return false;
     }
     pack_fitting(z, digits, room);
@@ -97,14 +99,14 @@ pub fn pack_digits(z: Alphabet, digits: &[u8], room: &mut [u8]) -> bool
 fn unpack_fitting(
     z: Alphabet,
     octets: &[u8],
-    count: usize,
+    count: HalfOctets,
     values: &mut [u8; Transfer::MOST_VALUES],
     used: usize,
 )
-    requires { ⌜ (used + count ≤ 512) × (count ≤ length (now octets) * 2) ⌝ }
+    requires { ⌜ (used + count .0 ≤ 512) × (count .0 ≤ halvesIn (now octets) .0) ⌝ }
     ensures { λ r. ⌜ now (values .exit) ≡ sets (now (values .entry)) used (digitsOf z count (now (octets .entry))) ⌝ }
 {
-    let pairs = count / 2;
+    let pairs = count.0 / 2;
     let mut i: usize = 0;
     while i < pairs {
         let x = octets[i];
@@ -113,7 +115,7 @@ fn unpack_fitting(
         values[at + 1] = digit_of(z, x / 16);
         i += 1;
     }
-    if count % 2 == 0 {
+    if count.0 % 2 == 0 {
         return;
     }
     values[used + 2 * pairs] = digit_of(z, octets[pairs] % 16);
@@ -123,7 +125,7 @@ fn unpack_fitting(
 pub fn unpack_digits(
     z: Alphabet,
     octets: &[u8],
-    n: usize,
+    n: HalfOctets,
     values: &mut [u8; Transfer::MOST_VALUES],
     used: usize,
 ) -> bool
@@ -131,7 +133,7 @@ pub fn unpack_digits(
         (sets (now (values .entry)) used (digitsOf z n (now (octets .entry)))) (now (values .entry)) r (now (values .exit)) ⌝ }
 {
     let count = digits_in(n, octets);
-    if !has_room(used, count) {
+    if !has_room(used, count.0) {
         return false;
     }
     unpack_fitting(z, octets, count, values, used);

@@ -7,7 +7,7 @@ use mathlib.Core.Bool.{Bool, true}
 use lib.Dec.{eqb, leb}
 use lib.ListN.{length, getD}
 use borrow.Author.Tests.{eqb-true, leb-true, le-leb, ltb-true, lt-ltb, eq-eqb}
-use Rattle.annex.specs.Units.{afterOf}
+use Rattle.annex.specs.Units.{countedBy, octetsOf, afterOf}
 use Rattle.annex.specs.Heads.{clear, most-digits}
 use Rattle.annex.specs.declared.Marks.{Marks}
 use Rattle.annex.specs.declared.Marks.the-variants.{Unmarked, Notified, Verified, Typed}
@@ -103,11 +103,11 @@ unfolding afterOf dialledFault
 counted-open m h [] o l c f = absurd (let z : _≡_ {A = ℕ} 0 1 = cc in omega arith)
 counted-open m h (x ∷ s) o l c f =
     let b : x < 256 = ltb-true x 256 (and-left (isOctet x) (every isOctet s) o) in
-    let k : length s ≡ (x % 64 + 1) / 2 = omega (arith, eqb-true (suc (length s)) (1 + (x % 64 + 1) / 2) l) in
-    let vs = digitsOf Dialled (x % 64) s in
-    let p = unpacked Dialled (x % 64) 1 s k f in
+    let k : length s ≡ octetsOf (countedBy x) .0 = omega (arith, eqb-true (suc (length s)) (1 + octetsOf (countedBy x) .0) l) in
+    let vs = digitsOf Dialled (countedBy x) s in
+    let p = unpacked Dialled (countedBy x) 1 s k f in
     let v : openMarks m h (x / 64) vs .values ≡ vs = open-values m h (x / 64) vs in
-    let n : length vs ≡ x % 64 = length-digitsOf Dialled (x % 64) s (omega arith) in
+    let n : length vs ≡ x % 64 = length-digitsOf Dialled (countedBy x) s (omega arith) in
     let u : upperMarks m (openMarks m h (x / 64) vs) ≡ x / 64 = open-upper m h (x / 64) vs (rw (clear-upper m x b) at c) in
     let e : 64 * (x / 64) + x % 64 ≡ x = omega arith in
     record {
@@ -137,7 +137,9 @@ counted-closed m i l r d =
     let f : x / 64 ≡ upperMarks m i = omega arith in
     let b : x < 256 = omega arith in
     record {
-      fits = eq-eqb (suc (length (packed Dialled (i .values)))) (1 + (x % 64 + 1) / 2) (omega (arith, length-packed Dialled (i .values)));
+      fits =
+          eq-eqb (suc (length (packed Dialled (i .values)))) (1 + octetsOf (countedBy x) .0)
+          (omega (arith, length-packed Dialled (i .values)));
       clears = rw (clear-upper m x b, f) (upper-clear m i);
       sound = rw e (packed-sound Dialled 1 (i .values) d);
       opens = rw (e, f, packed-back Dialled (i .values) d) (upper-open m i r);

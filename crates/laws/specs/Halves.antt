@@ -1,15 +1,17 @@
 -- Laws of half-octets.
-use Prim.Native.Nat.{ℕ, zero, suc, _*_, _/_, _%_, _<_, _≤_}
+use Prim.Native.Nat.{ℕ, zero, suc, _/_, _%_, _<_, _≤_}
 use native.Mathlib.Omega.{arith}
 use mathlib.Core.Path.{_≡_, refl, ap, _∙_}
 use mathlib.Core.List.{List, [], _∷_, map}
 use lib.ListN.{length, getD, take, length-map, List·getD-map, length-take}
 use lib.Seq.{getD-take}
+use Rattle.annex.specs.Units.{halvesIn}
 use Rattle.annex.specs.Digits.{halves, digitOf, digitsOf}
+use Rattle.annex.specs.declared.HalfOctets.{HalfOctets}
 use Rattle.annex.specs.declared.Alphabet.{Alphabet}
 use Rattle.annex.specs.declared.Alphabet.the-variants.{Dialled, Numbered}
 
-pub length-halves : (s : List ℕ) → length (halves s) ≡ length s * 2
+pub length-halves : (s : List ℕ) → length (halves s) ≡ halvesIn s .0
 unfolding halves
 length-halves [] = refl
 length-halves (x ∷ s) = omega (arith, length-halves s)
@@ -33,7 +35,7 @@ halves-odd (x ∷ s) (suc (suc i)) h =
     rw e (halves-odd s i (λ z. h (omega arith)))
 
 -- the digits that octets hold: how many, and each
-pub length-digitsOf : (z : Alphabet) (n : ℕ) (s : List ℕ) → n ≤ length s * 2 → length (digitsOf z n s) ≡ n
+pub length-digitsOf : (z : Alphabet) (n : HalfOctets) (s : List ℕ) → n .0 ≤ halvesIn s .0 → length (digitsOf z n s) ≡ n .0
 unfolding digitsOf
 length-digitsOf z n s h = simp (length-map, length-take, length-halves) (omega arith)
 
@@ -45,6 +47,7 @@ digit-none Numbered = refl
 mapped : (g : ℕ → ℕ) (l : List ℕ) (i : ℕ) → g 0 ≡ 0 → getD (map g l) i 0 ≡ g (getD l i 0)
 mapped g l i e = rw e at (List·getD-map g l i 0)
 
-pub digitsOf-at : (z : Alphabet) (n : ℕ) (s : List ℕ) (i : ℕ) → i < n → getD (digitsOf z n s) i 0 ≡ digitOf z (getD (halves s) i 0)
+pub digitsOf-at : (z : Alphabet) (n : HalfOctets) (s : List ℕ) (i : ℕ) → i < n .0
+    → getD (digitsOf z n s) i 0 ≡ digitOf z (getD (halves s) i 0)
 unfolding digitsOf
-digitsOf-at z n s i h = mapped (digitOf z) (take n (halves s)) i (digit-none z) ∙ ap (digitOf z) (getD-take n (halves s) i 0 h)
+digitsOf-at z n s i h = mapped (digitOf z) (take (n .0) (halves s)) i (digit-none z) ∙ ap (digitOf z) (getD-take (n .0) (halves s) i 0 h)

@@ -9,7 +9,22 @@ use lib.Dec.{eqb, leb}
 use lib.ListN.{length, length-map}
 use borrow.Author.Tests.{eqb-true, leb-true, lt-ltb}
 use Rattle.annex.specs.Answers.{bad-digit}
-use Rattle.annex.specs.Digits.{halves, joined, digitOf, codeOf, isCode, spareUnder13, isDigit, halvesFault, digitsFault, digitsOf, packed}
+use Rattle.annex.specs.Units.{octetsOf}
+use Rattle.annex.specs.Digits.{
+  halves,
+  joined,
+  digitOf,
+  codeOf,
+  isCode,
+  spareUnder13,
+  isDigit,
+  halvesFault,
+  digitsFault,
+  digitsOf,
+  packed,
+  halvesFor,
+}
+use Rattle.annex.specs.declared.HalfOctets.{HalfOctets}
 use Rattle.annex.specs.Allowed.{every, isOctet}
 use Rattle.annex.specs.declared.Alphabet.{Alphabet}
 use Rattle.annex.specs.declared.Alphabet.the-variants.{Dialled, Numbered}
@@ -79,12 +94,12 @@ length-joined [] = refl
 length-joined (a ∷ []) = refl
 length-joined (a ∷ b ∷ hs) = omega (arith, length-joined hs)
 
-pub length-packed : (z : Alphabet) (ds : List ℕ) → length (packed z ds) ≡ (length ds + 1) / 2
+pub length-packed : (z : Alphabet) (ds : List ℕ) → length (packed z ds) ≡ octetsOf (halvesFor ds) .0
 unfolding packed
 length-packed z ds = rw (length-joined (map (codeOf z) ds), length-map ds (codeOf z))
 
 -- digits packed read back
-pub packed-back : (z : Alphabet) (ds : List ℕ) → every isDigit ds ≡ true → digitsOf z (length ds) (packed z ds) ≡ ds
+pub packed-back : (z : Alphabet) (ds : List ℕ) → every isDigit ds ≡ true → digitsOf z (halvesFor ds) (packed z ds) ≡ ds
 unfolding digitsOf packed joined halves
 packed-back z [] h = refl
 packed-back z (a ∷ []) h =
@@ -116,7 +131,7 @@ halves-sound z i (a ∷ b ∷ ds) h =
     rw (e, f, c .code, d .code) (halves-sound z (i + 1 + 1) ds (and-right (isDigit b) (every isDigit ds) h′))
 
 -- and are sound
-pub packed-sound : (z : Alphabet) (at : ℕ) (ds : List ℕ) → every isDigit ds ≡ true → digitsFault z (length ds) at (packed z ds) ≡ Sound
+pub packed-sound : (z : Alphabet) (at : ℕ) (ds : List ℕ) → every isDigit ds ≡ true → digitsFault z (halvesFor ds) at (packed z ds) ≡ Sound
 unfolding digitsFault
 packed-sound z at ds h = halves-sound z (2 * at) ds h
 
@@ -143,11 +158,12 @@ digits-octets (d ∷ ds) h =
 -- ---- octets that are sound
 
 -- they hold digits, and the digits pack to them
-pub record Unpacked (z : Alphabet) (n : ℕ) (s : List ℕ) : Type 0 where
+pub record Unpacked (z : Alphabet) (n : HalfOctets) (s : List ℕ) : Type 0 where
   pub back : packed z (digitsOf z n s) ≡ s
   pub digits : every isDigit (digitsOf z n s) ≡ true
 
-halves-back : (z : Alphabet) (n i : ℕ) (s : List ℕ) → length s ≡ (n + 1) / 2 → halvesFault z n i (halves s) ≡ Sound → Unpacked z n s
+halves-back : (z : Alphabet) (n i : ℕ) (s : List ℕ) → length s ≡ (n + 1) / 2 → halvesFault z n i (halves s) ≡ Sound
+    → Unpacked z (record { 0 = n }) s
 unfolding digitsOf packed joined halves halvesFault
 halves-back z zero i [] l g = record { back = refl; digits = refl }
 halves-back z zero i (x ∷ s) l g = absurd (omega arith)
@@ -170,6 +186,7 @@ halves-back z (suc (suc n)) i (x ∷ s) l g =
     let u = halves-back z n (i + 1 + 1) s k (q .1) in
     record { back = rw (c .back, d .back, e) (ap (λ l. x ∷ l) (u .back)); digits = rw (c .digit, d .digit) (u .digits) }
 
-pub unpacked : (z : Alphabet) (n at : ℕ) (s : List ℕ) → length s ≡ (n + 1) / 2 → digitsFault z n at s ≡ Sound → Unpacked z n s
+pub unpacked : (z : Alphabet) (n : HalfOctets) (at : ℕ) (s : List ℕ) → length s ≡ octetsOf n .0 → digitsFault z n at s ≡ Sound
+    → Unpacked z n s
 unfolding digitsFault
-unpacked z n at s l g = halves-back z n (2 * at) s l g
+unpacked z n at s l g = halves-back z (n .0) (2 * at) s l g

@@ -7,7 +7,8 @@ use mathlib.Core.Bool.{Bool, true, false, cond, not, _&&_}
 use lib.Dec.{eqb, leb, ltb}
 use lib.ListN.{length, getD, drop}
 use borrow.Author.Tests.{eqb-true, eqb-false, leb-true, le-leb, ltb-true, lt-ltb, le-ltb, eq-eqb, ne-eqb}
-use Rattle.annex.specs.Digits.{isDigit, halves, halvesFault, digitsFault, digitsOf, packed}
+use Rattle.annex.specs.Units.{octetsOf}
+use Rattle.annex.specs.Digits.{isDigit, halves, halvesFault, digitsFault, digitsOf, packed, halvesFor}
 use Rattle.annex.specs.Contents.{formed, formedThen, presentationOf, countOf, numberFault, callingFault}
 use Rattle.annex.specs.Items.{Item, numberItem, openBy, numberContents, ownFields}
 use Rattle.annex.specs.declared.Holding.the-variants.{AsNumber}
@@ -88,11 +89,11 @@ number-open at (x ∷ y ∷ t) o f =
     let w = digitsFault Numbered n (at + 2) t in
     let p = then-sound v w (then-sound (not (ltb (suc (suc (length t))) 2)) (formedThen v w) f .1) in
     let m : x / 128 ≤ length t * 2 = some-digit x (length t) a (p .0) in
-    let k : length t ≡ (n + 1) / 2 = omega arith in
+    let k : length t ≡ octetsOf n .0 = omega arith in
     let u = unpacked Numbered n (at + 2) t k (p .1) in
     let ds = digitsOf Numbered n t in
-    let c : length ds ≡ n = length-digitsOf Numbered n t (omega arith) in
-    let e : 128 * (n % 2) + x % 128 ≡ x = omega arith in
+    let c : length ds ≡ n .0 = length-digitsOf Numbered n t (omega arith) in
+    let e : 128 * (n .0 % 2) + x % 128 ≡ x = omega arith in
     let g : 128 * (y / 128) + 16 * (y / 16 % 8) + 4 * (y / 4 % 4) + y % 4 ≡ y = omega arith in
     record { digits = u .digits; right = λ h vs. open-fields h x y vs b; contents = λ h vs. rw (c, e, g, u .back) }
 
@@ -123,12 +124,13 @@ number-closed i ds r d =
     let f = right-fields i r in
     let n = length ds in
     let t = packed Numbered ds in
-    let l : length t ≡ (n + 1) / 2 = length-packed Numbered ds in
+    let l : length t ≡ octetsOf (halvesFor ds) .0 = length-packed Numbered ds in
     let x = 128 * (n % 2) + i .numberType in
     let y = 128 * i .incomplete + 16 * i .plan + 4 * i .presentation + i .screening in
     let a : x / 128 ≡ n % 2 = omega arith in
     let b : x % 128 ≡ i .numberType = omega arith in
-    let c : countOf (x ∷ y ∷ t) ≡ n = omega (arith, round-up n) in
+    let m : countOf (x ∷ y ∷ t) .0 ≡ n = omega (arith, round-up n) in
+    let c : countOf (x ∷ y ∷ t) ≡ halvesFor ds = ap (λ (k : ℕ). record { 0 = k }) m in
     let g : y / 128 ≡ i .incomplete = omega arith in
     let h : y / 16 % 8 ≡ i .plan = omega arith in
     let j : y / 4 % 4 ≡ i .presentation = omega arith in

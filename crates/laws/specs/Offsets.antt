@@ -9,6 +9,7 @@ use borrow.Author.Tests.{ltb-false, eqb-false, not-true}
 use lib.Dec.{eqb, ltb}
 use lib.ListN.{length, getD, drop, length-drop}
 use Rattle.annex.specs.Answers.{bad-form, bad-digit, readingAt}
+use Rattle.annex.specs.Units.{countedBy}
 use Rattle.annex.specs.Heads.{clear, added-calling-number, withheld, zeroesOf, formOf}
 use Rattle.annex.specs.declared.Check.{Check}
 use Rattle.annex.specs.declared.Form.{Form}
@@ -31,6 +32,7 @@ use Rattle.annex.specs.Contents.{
   faultBy,
   faultOf,
 }
+use Rattle.annex.specs.declared.HalfOctets.{HalfOctets}
 use Rattle.annex.specs.declared.Alphabet.{Alphabet}
 use Rattle.annex.specs.declared.Alphabet.the-variants.{Dialled, Numbered}
 use Rattle.annex.specs.declared.Fault.{Fault}
@@ -74,9 +76,9 @@ halves-within z (suc n) i (h ∷ hs) m l =
     cond-within m (isCode z h) (halvesFault z n (i + 1) hs) (Bad bad-digit (i / 2)) (halves-within z n (i + 1) hs m (omega arith))
     (bad-within m bad-digit (i / 2) (omega arith))
 
-digits-within : (z : Alphabet) (n at : ℕ) (s : List ℕ) (m : ℕ) → at + length s ≤ m → Within m (digitsFault z n at s)
+digits-within : (z : Alphabet) (n : HalfOctets) (at : ℕ) (s : List ℕ) (m : ℕ) → at + length s ≤ m → Within m (digitsFault z n at s)
 unfolding digitsFault
-digits-within z n at s m l = halves-within z n (2 * at) (halves s) m (omega (arith, length-halves s))
+digits-within z n at s m l = halves-within z (n .0) (2 * at) (halves s) m (omega (arith, length-halves s))
 
 number-within : (at : ℕ) (s : List ℕ) (m : ℕ) → at + length s ≤ m → Within m (numberFault at s)
 unfolding numberFault
@@ -104,7 +106,7 @@ generic-within s =
 dialled-within : (s : List ℕ) → Within (length s) (dialledFault s)
 unfolding dialledFault digitsFault halvesFault halves
 dialled-within [] = sound-within 0
-dialled-within (x ∷ s) = digits-within Dialled (x % 64) 1 s (length (x ∷ s)) (omega arith)
+dialled-within (x ∷ s) = digits-within Dialled (countedBy x) 1 s (length (x ∷ s)) (omega arith)
 
 -- the one law that each check owes
 check-within : (c : Check) (s : List ℕ) → Within (length s) (checkFault c s)

@@ -50,12 +50,9 @@ fn len_as(held: Holding, t: Transfer, values: &[u8]) -> usize
 {
     match held {
         Holding::AsContents => values.len(),
-        Holding::AsDigits(_) => 1 + packed_len(values.len()),
-        Holding::AsNumber(_) => 2 + packed_len(values.len()),
-        Holding::AsGeneric => {
-            let digits = octets_from(values, 1);
-            3 + packed_len(digits.len())
-        }
+        Holding::AsDigits(_) => 1 + packed_len(values).0,
+        Holding::AsNumber(_) => 2 + packed_len(values).0,
+        Holding::AsGeneric => 3 + packed_len(octets_from(values, 1)).0,
     }
 }
 

@@ -1,13 +1,14 @@
 -- Laws of opening a transfer parameter: the two cases of whether its values have room, and how many digits a number has.
-use Prim.Native.Nat.{ℕ, _+_, _*_, _≤_}
+use Prim.Native.Nat.{ℕ, _+_, _≤_}
 use native.Mathlib.Omega.{arith}
 use mathlib.Core.Path.{_≡_, sym, _∙_}
 use mathlib.Core.Bool.{Bool, true, false, not}
 use mathlib.Core.List.{List}
 use borrow.Author.Tests.{leb-true, not-true, not-false}
 use lib.Dec.{leb}
-use lib.ListN.{length, drop, length-drop}
+use lib.ListN.{length, drop}
 use lib.Seq.{sets}
+use Rattle.annex.specs.Units.{halvesIn}
 use Rattle.annex.specs.Digits.{digitsOf}
 use Rattle.annex.specs.Contents.{countOf}
 use Rattle.annex.specs.Items.{Item}
@@ -33,8 +34,8 @@ pub room-left : (used n : ℕ) (b : Bool) → b ≡ leb (used + n) 512 → not b
 room-left used n b f t = leb-true (used + n) 512 (sym f ∙ not-false b t)
 
 -- a number's octets hold as many digits as it counts
-pub count-within : (s : List ℕ) → countOf s ≤ length (drop 2 s) * 2
-count-within s = omega (arith, length-drop 2 s)
+pub count-within : (s : List ℕ) → countOf s .0 ≤ halvesIn (drop 2 s) .0
+count-within s = omega arith
 
-pub number-digits : (s : List ℕ) → length (digitsOf Numbered (countOf s) (drop 2 s)) ≡ countOf s
+pub number-digits : (s : List ℕ) → length (digitsOf Numbered (countOf s) (drop 2 s)) ≡ countOf s .0
 number-digits s = length-digitsOf Numbered (countOf s) (drop 2 s) (count-within s)

@@ -1,9 +1,11 @@
 // What is wrong with the contents of one transfer parameter: the refusal's number, and the offset of the octet in the contents.
+use crate::counting::count_of;
 use annex::Alphabet;
 use annex::Answer;
 use annex::Check;
 use annex::Fault;
 use annex::Form;
+use annex::HalfOctets;
 use annex::Transfer;
 use digits::judging::digits_fault;
 use heads::head_of;
@@ -44,8 +46,8 @@ fn formed(good: bool) -> Fault
 fn dialled_fault(s: &[u8]) -> Fault
     ensures { λ r. ⌜ r ≡ dialledFault (now (s .entry)) ⌝ }
 {
-    let count = octet_at(s, 0) % 64;
-    digits_fault(Alphabet::Dialled, count as usize, s, 1)
+    let count = HalfOctets::counted_by(octet_at(s, 0));
+    digits_fault(Alphabet::Dialled, count, s, 1)
 }
 
 // A number as in D7, which starts at the offset `at` of the contents.
@@ -62,8 +64,7 @@ fn number_fault(s: &[u8], at: usize) -> Fault
     if odd == 1 && n == 2 {
         return Fault::Bad(Answer::BAD_FORM, 0);
     }
-    let count = (n - 2) * 2 - odd as usize;
-    digits_fault(Alphabet::Numbered, count, s, at + 2)
+    digits_fault(Alphabet::Numbered, count_of(number), s, at + 2)
 }
 
 // DC: as D7, but with presentation 2 nothing is told.

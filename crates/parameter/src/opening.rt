@@ -1,6 +1,8 @@
 // Opening a transfer parameter: its contents become a head, and values stored in a record's array of values.
+use crate::counting::count_of;
 use annex::Alphabet;
 use annex::Form;
+use annex::HalfOctets;
 use annex::Holding;
 use annex::Marks;
 use annex::Transfer;
@@ -18,7 +20,6 @@ ghost use Prim.Native.Nat.{ℕ, _+_, _≤_};
 ghost use lib.ListN.{length};
 ghost use lib.Seq.{sets};
 ghost use Rattle.annex.specs.Promises.{Gives};
-ghost use Rattle.annex.specs.Contents.{countOf};
 ghost use Rattle.annex.specs.Items.{holdingOf, openBy, openMarks};
 ghost use Rattle.annex.specs.declared.Holding.the-variants.{AsContents, AsDigits, AsNumber, AsGeneric};
 ghost use Rattle.annex.specs.Records.{headOf};
@@ -65,16 +66,6 @@ fn marked(marks: Marks, header: u8, upper: u8, len: u16) -> Transfer
     }
 }
 
-// How many digits a number with these octets has.
-fn count_of(s: &[u8]) -> usize
-    ensures { λ r. ⌜ r ≡ countOf (now (s .entry)) ⌝ }
-{
-    if s.len() <= 2 {
-        return 0;
-    }
-    (s.len() - 2) * 2 - (s[0] / 128) as usize
-}
-
 // The head of a parameter that holds these octets as they are, whatever its header asks. They go into `values` after the used ones; where
 // they have no room, the head is empty and nothing is stored.
 pub fn open_contents(
@@ -107,11 +98,12 @@ fn open_digits(
 {
     let first = octet_at(s, 0);
     let octets = octets_from(s, 1);
-    let told = (first % 64) as usize;
+    let told = HalfOctets::counted_by(first);
     if !unpack_digits(Alphabet::Dialled, octets, told, values, used) {
         return Transfer::none();
     }
-    marked(marks, header, first / 64, digits_in(told, octets) as u16)
+    let count = digits_in(told, octets);
+    marked(marks, header, first / 64, count.0 as u16)
 }
 
 // A number, as in D7 and DC: whether it may be withheld is nothing to opening it.
@@ -128,7 +120,7 @@ fn open_number(
     if !unpack_digits(Alphabet::Numbered, octets_from(s, 2), count, values, used) {
         return Transfer::none();
     }
-    Transfer::number(header, octet_at(s, 0), octet_at(s, 1), count as u16)
+    Transfer::number(header, octet_at(s, 0), octet_at(s, 1), count.0 as u16)
 }
 
 // A number after its first octet 06, which is held before the digits.
@@ -143,7 +135,8 @@ fn open_generic(
 {
     let number = octets_from(s, 1);
     let count = count_of(number);
-    if !has_room(used, count + 1) {
+    let len = count.0 + 1;
+    if !has_room(used, len) {
         return Transfer::none();
     }
     values[used] = Transfer::ADDED_CALLING_NUMBER;
@@ -154,12 +147,7 @@ fn open_generic(
         values,
         used + 1,
     );
-    Transfer::number(
-        header,
-        octet_at(number, 0),
-        octet_at(number, 1),
-        (count + 1) as u16,
-    )
+    Transfer::number(header, octet_at(number, 0), octet_at(number, 1), len as u16)
 }
 
 // The head of the parameter with this header and contents. Its values go into `values` after the used ones; where they have no room, the

@@ -3,7 +3,7 @@
 -- stores, so does one that says the same at both, and one that stores nothing. For `Common::none`, `Transfer::none`,
 -- `walk::cursor::first`, `reader::reading::empty` and, in the base, where every name may stand once, for `often_of` a constant is right,
 -- and they have no row.
-use Prim.Native.Nat.{ℕ, _+_, _*_, _/_, min}
+use Prim.Native.Nat.{ℕ, _+_, min}
 use native.Mathlib.Omega.{arith}
 use mathlib.Core.Path.{_≡_, refl, sym, ap, _∙_}
 use mathlib.Core.Bool.{Bool, true, false, not, _&&_, _||_}
@@ -13,9 +13,9 @@ use lib.Dec.{eqb, leb}
 use lib.ListN.{length, getD, take, drop, replicate}
 use lib.Seq.{sets}
 use Rattle.annex.specs.Answers.{numberOf, givenOf, faultNumberOf, stopOf, over-limits, refuse, soundThen, headerAt}
-use Rattle.annex.specs.Units.{octetsOf, afterOf, leadOf, commonExtentOf, extentOf}
-use Rattle.annex.specs.Heads.{clear, among, listedHeaders, isCall, nameUsed, pliRight, oftenOf, zeroesOf, formOf}
-use Rattle.annex.specs.Digits.{halves, joined, digitOf, codeOf, isCode, isDigit, halvesFault, digitsFault, digitsOf, packed}
+use Rattle.annex.specs.Units.{countedBy, octetsOf, halvesIn, afterOf, leadOf, commonExtentOf, extentOf}
+use Rattle.annex.specs.Heads.{clear, among, listedHeaders, isCall, most-values, nameUsed, pliRight, oftenOf, zeroesOf, formOf}
+use Rattle.annex.specs.Digits.{halves, joined, digitOf, codeOf, isCode, isDigit, halvesFault, digitsFault, digitsOf, packed, halvesFor}
 use Rattle.annex.specs.Contents.{formedThen, dialledFault, faultBy, faultOf}
 use Rattle.annex.specs.Items.{valuePart, holdingOf, openBy, itemOf, contentsOf, ownOf}
 use Rattle.annex.specs.Layout.{layoutItem, layoutPart, callOctets}
@@ -72,6 +72,7 @@ use Rattle.annex.specs.declared.Fault.the-variants.{Sound, Bad}
 use Rattle.annex.specs.declared.Form.{Form}
 use Rattle.annex.specs.declared.Form.the-variants.{Checked, Digits, Number, Calling, Generic}
 use Rattle.annex.specs.declared.Found.{Found}
+use Rattle.annex.specs.declared.HalfOctets.{HalfOctets}
 use Rattle.annex.specs.declared.Holding.{Holding}
 use Rattle.annex.specs.declared.Holding.the-variants.{AsContents, AsDigits, AsNumber, AsGeneric}
 use Rattle.annex.specs.declared.Key.the-variants.{Header, Name}
@@ -219,9 +220,9 @@ abbrev packing : Alphabet → List ℕ → List ℕ → Storing
 packing z ds room = storing (leb (length (packed z ds)) (length room)) (atFront (packed z ds) room) room
 
 -- unpack_digits
-abbrev unpacking : Alphabet → List ℕ → ℕ → List ℕ → ℕ → Storing
+abbrev unpacking : Alphabet → List ℕ → HalfOctets → List ℕ → ℕ → Storing
 unpacking z octets n values used =
-    storing (leb (used + length (digitsOf z n octets)) 512) (sets values used (digitsOf z n octets)) values
+    storing (leb (used + length (digitsOf z n octets)) most-values) (sets values used (digitsOf z n octets)) values
 
 -- layout::put
 abbrev laying : Transfer → List ℕ → List ℕ → Storing
@@ -239,11 +240,16 @@ splicing d n from old new = storing (spliceFits d n from old new) (spliced d n f
 abbrev lent : ℕ → List ℕ
 lent n = replicate n 0xEE
 
+abbrev arrayLent : List ℕ
+arrayLent = lent most-values
+
 -- ---- the table
 
 abbrev pub rows : List AtTwo
 rows =
-    gives Octets (λ n. n .0) (octetsOf (record { 0 = 3 })) (octetsOf (record { 0 = 5 })) ∷  -- HalfOctets::octets
+    gives HalfOctets (λ n. n .0) (countedBy 0x42) (countedBy 0x43) ∷  -- HalfOctets::counted_by
+    gives HalfOctets (λ n. n .0) (halvesIn (0x21 ∷ [])) (halvesIn []) ∷  -- HalfOctets::of
+    gives Octets (λ n. n .0) (octetsOf (countedBy 3)) (octetsOf (countedBy 5)) ∷  -- HalfOctets::octets
     commons (λ c. c .value) (valueHead 0x06 0x11) (valueHead 0x06 0x12) ∷  -- Common::octet, Common::call_number
     commons (λ c. c .transfers) (dataHead 1) (dataHead 2) ∷  -- Common::transfer_data
     transfers (λ t. t .len) (carriedHead 0xCC 1) (carriedHead 0xCC 2) ∷  -- Transfer::carried
@@ -263,13 +269,14 @@ rows =
     counts (digitOf Dialled 10) (digitOf Numbered 10) ∷  -- digit_of
     counts (codeOf Dialled 0) (codeOf Numbered 0) ∷  -- code_of
     tests (isCode Dialled 10) (isCode Numbered 10) ∷  -- is_code
-    faults (digitsFault Numbered 1 0 (0x0A ∷ [])) (digitsFault Dialled 1 0 (0x0A ∷ [])) ∷  -- digits_fault
+    faults (digitsFault Numbered (countedBy 1) 0 (0x0A ∷ [])) (digitsFault Dialled (countedBy 1) 0 (0x0A ∷ [])) ∷  -- digits_fault
     tests (every isDigit (11 ∷ [])) (every isDigit (12 ∷ [])) ∷  -- are_digits
-    counts ((2 + 1) / 2) ((3 + 1) / 2) ∷  -- packed_len
-    counts (min 3 (length {A = ℕ} (0x21 ∷ []) * 2)) (min 1 (length {A = ℕ} (0x21 ∷ []) * 2)) ∷  -- digits_in
-    tests (leb (511 + 1) 512) (leb (512 + 1) 512) ∷  -- has_room
+    gives Octets (λ n. n .0) (octetsOf (halvesFor (1 ∷ 2 ∷ []))) (octetsOf (halvesFor (1 ∷ 2 ∷ 3 ∷ []))) ∷  -- packed_len
+    counts (min 3 (halvesIn (0x21 ∷ []) .0)) (min 1 (halvesIn (0x21 ∷ []) .0)) ∷  -- digits_in
+    tests (leb (511 + 1) most-values) (leb (most-values + 1) most-values) ∷  -- has_room
     stores (packing Dialled (1 ∷ 2 ∷ []) (lent 1)) (packing Dialled (1 ∷ 2 ∷ []) (lent 0)) ∷  -- pack_digits
-    stores (unpacking Dialled (0x21 ∷ []) 2 (lent 512) 0) (unpacking Dialled (0x21 ∷ []) 2 (lent 512) 511) ∷  -- unpack_digits
+    stores (unpacking Dialled (0x21 ∷ []) (countedBy 2) arrayLent 0) (unpacking Dialled (0x21 ∷ []) (countedBy 2) arrayLent 511)
+    ∷  -- unpack_digits
     answers (soundThen (headerAt 0) Sound (Accepted 1)) (soundThen (headerAt 0) (Bad 13 2) (Accepted 1)) ∷  -- at_header
     counts (getD (0x21 ∷ 0x43 ∷ []) 0 0) (getD (0x21 ∷ 0x43 ∷ []) 1 0) ∷  -- octet_at
     lists (drop 0 (0x21 ∷ [])) (drop 1 (0x21 ∷ [])) ∷  -- octets_from
@@ -277,10 +284,10 @@ rows =
     answers (transferOf 0 0x41 (0x01 ∷ [])) (transferOf 0 0x41 []) ∷  -- transfer
     gives Holding heldNumber (holdingOf 0xDA 0x06) (holdingOf 0xDA 0x07) ∷  -- holding_of
     transfers (λ t. t .len) (headFor (openBy AsContents 0xCC (1 ∷ [])) 0) (headFor (openBy AsContents 0xCC []) 0) ∷  -- open_contents, head
-    lists (valuesWith (openBy AsContents 0xCC (1 ∷ [])) 0 (lent 512)) (valuesWith (openBy AsContents 0xCC (1 ∷ [])) 512 (lent 512))
+    lists (valuesWith (openBy AsContents 0xCC (1 ∷ [])) 0 arrayLent) (valuesWith (openBy AsContents 0xCC (1 ∷ [])) most-values arrayLent)
     ∷  -- open_contents, values
     transfers (λ t. t .len) (openedHead 0x90 (0x02 ∷ 0x21 ∷ []) 0) (openedHead 0x90 (0x01 ∷ 0x01 ∷ []) 0) ∷  -- open, head
-    lists (openedValues 0x90 (0x02 ∷ 0x21 ∷ []) 0 (lent 512)) (openedValues 0x90 (0x02 ∷ 0x21 ∷ []) 512 (lent 512)) ∷  -- open, values
+    lists (openedValues 0x90 (0x02 ∷ 0x21 ∷ []) 0 arrayLent) (openedValues 0x90 (0x02 ∷ 0x21 ∷ []) most-values arrayLent) ∷  -- open, values
     counts (length (contentsOf (itemFrom (carriedHead 0x41 1) (1 ∷ [])))) (length (contentsOf (itemFrom (carriedHead 0xCC 0) [])))
     ∷  -- contents_len
     answers (itemWriting 0 0 (itemFrom (carriedHead 0x41 1) (1 ∷ []))) (itemWriting 0 0 (itemFrom (carriedHead 0x08 0) [])) ∷  -- refusal

@@ -42,7 +42,7 @@ pub fn octets_after(e: Extent, next: u8) -> usize
     match e {
         Extent::Fixed(n) => n,
         Extent::CountOctet => {
-            let count = HalfOctets((next % 64) as usize);
+            let count = HalfOctets::counted_by(next);
             let octets = count.octets();
             1 + octets.0
         }

@@ -1,4 +1,5 @@
 -- `octets_after` meets its contract: each arm is a case of the rule, and the half-octets come through the conversion.
+use Prim.Native.Nat.{_+_}
 use native.Mathlib.Omega.{arith}
 use mathlib.Core.Path.{ap}
 use borrow.Author.Needs.{needs}
@@ -17,7 +18,8 @@ returns c = rw (c .before .e .given .1)
 returns-2 : tie.Need-returns-2
 unfolding afterOf
 returns-2 c =
-    rw (c .before .before .enum-told .given .1) (omega (arith, ap (λ (n : Octets). n .0) (c .before .octets .ensures)))
+    let h = c .before .before in
+    rw (h .before .enum-told .given .1) (ap (λ (n : Octets). 1 + n .0) (rw (h .counted-by .ensures) at (c .before .octets .ensures)))
 
 returns-3 : tie.Need-returns-3
 unfolding afterOf

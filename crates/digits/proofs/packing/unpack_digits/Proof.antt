@@ -28,7 +28,7 @@ unpack-fitting-requires c κs =
     let r = e .before in
     let n = r .before in
     let a = n .before .before .args in (
-      leb-true (a .used + n .digits-in .result) 512 (sym (r .has-room .ensures) ∙ not-false (r .has-room .result) (e .if1 .left)),
+      leb-true (a .used + n .digits-in .result .0) 512 (sym (r .has-room .ensures) ∙ not-false (r .has-room .result) (e .if1 .left)),
       omega (arith, n .digits-in .ensures),
     )
 

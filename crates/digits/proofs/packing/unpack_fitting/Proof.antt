@@ -26,7 +26,7 @@ loop-again : tie.Need-loop-again Inv-loop μ-loop
 loop-again c =
     let f = c .before in
     let at = f .before .before .before in
-    let a = at .before .before .args in
+    let a = at .before .before .before .args in
     let s = a .octets .now in
     let i = at .loop .i in
     let n : 2 * (i + 1) ≡ 2 * i + 2 = omega arith in (
@@ -40,8 +40,8 @@ loop-again c =
 
 returns : tie.Need-returns Inv-loop μ-loop
 returns c =
-    let at = c .before .before in
-    let a = at .before .before .args in
+    let at = c .before .before .before in
+    let a = at .before .before .before .args in
     let ds = digitsOf (a .z) (a .count) (a .octets .now) in
     let e : take (2 * at .loop .i) ds ≡ ds =
     take-all (2 * at .loop .i) ds (omega (arith, length-digitsOf (a .z) (a .count) (a .octets .now) (omega arith))) in
@@ -49,13 +49,13 @@ returns c =
 
 returns-2 : tie.Need-returns-2 Inv-loop μ-loop
 returns-2 c =
-    let at = c .before .before .before .before in
-    let a = at .before .before .args in
+    let at = c .before .before .before .before .before in
+    let a = at .before .before .before .args in
     let s = a .octets .now in
     let ds = digitsOf (a .z) (a .count) s in
-    let k = a .count / 2 in
+    let k = a .count .0 / 2 in
     let i : at .loop .i ≡ k = omega arith in
-    let n : a .count ≡ 2 * k + 1 = omega arith in
+    let n : a .count .0 ≡ 2 * k + 1 = omega arith in
     let l = length-digitsOf (a .z) (a .count) s (omega arith) in
     let e : take (2 * k + 1) ds ≡ ds = take-all (2 * k + 1) ds (omega arith) in
     rw (

@@ -6,13 +6,13 @@ use Rattle.parameter.proofs.contents.dialled_fault.Tie as tie
 
 returns : tie.Need-returns
 unfolding dialledFault
-returns c = rw (← c .before .octet-at .ensures) (c .digits-fault .ensures)
+returns c = rw (c .before .counted-by .ensures, c .before .before .octet-at .ensures) at (c .digits-fault .ensures)
 
 pub dialled-fault-spec : {M : Type 1} → statement M
 dialled-fault-spec =
     tie.close
     (tie.spec
     (λ c κs. search needs)
-    (λ c. search needs)
+    (λ c κs. search needs)
     (λ c κs. search needs)
     returns)

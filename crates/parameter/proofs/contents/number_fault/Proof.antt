@@ -1,11 +1,10 @@
 -- `number_fault` meets its contract: its tests are those of the definition, in their order, and the digits are those behind two octets.
-use native.Mathlib.Omega.{arith}
 use Prim.Native.Nat.{_+_}
 use mathlib.Core.Path.{_≡_, ap, _∙_}
 use mathlib.Core.Bool.{false, _&&_}
 use mathlib.Core.Logic.{⊎-elim}
 use borrow.Author.Needs.{needs}
-use borrow.Author.Tests.{eq-eqb, ne-eqb, lt-ltb, le-ltb, eqb-false}
+use borrow.Author.Tests.{eq-eqb, ne-eqb, lt-ltb, le-ltb}
 use lib.Dec.{eqb}
 use lib.ListN.{length, drop}
 use lib.Seq.{drop-drop}
@@ -24,15 +23,6 @@ returns-2 c =
     let e = t .before .before in
     rw (← e .before .octets-from .ensures, le-ltb _ _ (e .if1 .left), eq-eqb _ _ (t .if2 .taken), c .if3 .taken)
 
-cast-count : tie.Need-cast-count
-cast-count c = omega (arith, c .before .shared-slice-known2 .given 0)
-
-sub-count : tie.Need-sub-count
-sub-count c =
-    let k = c .before .shared-slice-known2 .given 0 in
-    let s = c .before .before .before .octets-from .result .now in
-    ⊎-elim (λ w. omega (arith, eqb-false (length s) 2 (w .1 .left))) (λ w. omega arith) (c .if2 .came)
-
 -- past bad form: not odd with no digit octet
 digits-follow : (c : tie.Joined2) →
     let s = c .before .before .before .octets-from .result .now in
@@ -43,13 +33,14 @@ digits-follow c =
 returns-3 : tie.Need-returns-3
 unfolding numberFault
 returns-3 c =
-    let j = c .before in
+    let j = c .before .before in
     let e = j .before .before in
     let o = e .before in
     let a = o .before .before .args in
     let d : drop 2 (o .octets-from .result .now) ≡ drop (a .at + 2) (a .s .now) =
     ap (drop 2) (o .octets-from .ensures) ∙ drop-drop 2 (a .at) (a .s .now) in
-    rw (← o .octets-from .ensures, le-ltb _ _ (e .if1 .left), digits-follow j, d) (c .digits-fault .ensures)
+    rw (← o .octets-from .ensures, le-ltb _ _ (e .if1 .left), digits-follow j, d)
+    (rw (c .before .count-of .ensures, d) at (c .digits-fault .ensures))
 
 pub number-fault-spec : {M : Type 1} → statement M
 number-fault-spec =
@@ -59,9 +50,7 @@ number-fault-spec =
     returns
     (λ c. search needs)
     returns-2
-    (λ c. search needs)
-    cast-count
-    sub-count
+    (λ c κs. search needs)
     (λ c. search needs)
     (λ c κs. search needs)
     returns-3)

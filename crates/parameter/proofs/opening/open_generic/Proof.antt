@@ -4,11 +4,12 @@ use native.Mathlib.Numerals.{add-one}
 use mathlib.Core.Path.{_≡_, ap, _∙_}
 use Prim.Native.Nat.{ℕ, suc, _+_, _≤_}
 use mathlib.Core.List.{List}
-use lib.ListN.{length, getD, drop}
+use lib.ListN.{length, getD, drop, length-drop}
 use lib.Seq.{sets, drop-drop, getD-drop}
 use Rattle.annex.specs.Digits.{digitsOf}
 use Rattle.annex.specs.Contents.{countOf}
 use Rattle.annex.specs.Items.{openBy}
+use Rattle.annex.specs.declared.HalfOctets.{HalfOctets}
 use Rattle.annex.specs.declared.Holding.the-variants.{AsGeneric}
 use Rattle.annex.specs.Records.{headOf}
 use Rattle.annex.specs.declared.Alphabet.the-variants.{Numbered}
@@ -25,26 +26,33 @@ digits s = ap (digitsOf Numbered (countOf (drop 1 s))) (drop-drop 2 1 s)
 
 counted : (c : tie.After-count-of)
     → length (openBy AsGeneric (c .before .before .before .args .header) (c .before .before .before .args .s .now) .values)
-    ≡ c .count-of .result + 1
+    ≡ c .count-of .result .0 + 1
 counted c =
     let s = c .before .before .before .args .s .now in
     rw (c .count-of .ensures, c .before .octets-from .ensures, add-one, ← digits s) (ap suc (number-digits (drop 1 s)))
 
-fitting : (c : tie.Else1) → c .before .before .before .before .before .args .used + (c .before .before .count-of .result + 1) ≤ 512
+fitting : (c : tie.Else1) →
+    let n = c .before .before .before in
+    n .before .before .before .args .used + (n .count-of .result .0 + 1) ≤ 512
 fitting c =
-    let n = c .before .before in
-    room-left (n .before .before .before .args .used) (n .count-of .result + 1) (c .before .has-room .result) (c .before .has-room .ensures)
-    (c .if1 .left)
+    let n = c .before .before .before in
+    let f = c .before .has-room in
+    room-left (n .before .before .before .args .used) (n .count-of .result .0 + 1) (f .result) (f .ensures) (c .if1 .left)
 
 returns : tie.Need-returns
 returns c =
-    let n = c .before .before .before in
+    let n = c .before .before .before .before in
     let a = n .before .before .before .args in
     let f = c .before .before .has-room in
     let i = openBy AsGeneric (a .header) (a .s .now) in
     let w =
-    without-room i (a .used) (n .count-of .result + 1) (a .values .now) (f .result) (counted n) (f .ensures) (c .before .if1 .taken) in
+    without-room i (a .used) (n .count-of .result .0 + 1) (a .values .now) (f .result) (counted n) (f .ensures) (c .before .if1 .taken) in
     (c .none .ensures ∙ w .0, w .1)
+
+add-len : tie.Need-add-len
+add-len c =
+    let n = c .before in
+    omega (arith, ap (λ (k : HalfOctets). k .0) (n .count-of .ensures), length-drop 2 (n .before .octets-from .result .now))
 
 element-write-values : tie.Need-element-write-values
 element-write-values c = omega (arith, fitting c)
@@ -57,25 +65,26 @@ cast-number c = omega (arith, fitting (c .before .before .before .before .before
 
 returns-2 : tie.Need-returns-2
 returns-2 c =
-    let o = c .before .before .before .before .before in
+    let q = c .before in
+    let o = q .before .before .before .before in
     let r = o .before in
-    let n = r .before .before in
+    let n = r .before .before .before in
     let f = n .before in
     let a = f .before .before .args in
     let s = a .s .now in
     let i = openBy AsGeneric (a .header) s in
     let g = r .before .has-room in
-    let w = with-room i (a .used) (n .count-of .result + 1) (a .values .now) (g .result) (counted n) (g .ensures) (r .if1 .left) in
-    let x : c .before .before .octet-at .result ≡ getD s 1 0 =
-    rw (c .before .before .octet-at .ensures, f .octets-from .ensures) (getD-drop 1 s 0 0) in
-    let y : c .before .octet-at2 .result ≡ getD s 2 0 = rw (c .before .octet-at2 .ensures, f .octets-from .ensures) (getD-drop 1 s 1 0) in
+    let w = with-room i (a .used) (n .count-of .result .0 + 1) (a .values .now) (g .result) (counted n) (g .ensures) (r .if1 .left) in
+    let x : q .before .octet-at .result ≡ getD s 1 0 =
+    rw (q .before .octet-at .ensures, f .octets-from .ensures) (getD-drop 1 s 0 0) in
+    let y : q .octet-at2 .result ≡ getD s 2 0 = rw (q .octet-at2 .ensures, f .octets-from .ensures) (getD-drop 1 s 1 0) in
     let h : c .number .result ≡ headOf i = rw (c .number .ensures, x, y, counted n) in
     let ds = digitsOf Numbered (n .count-of .result) (o .octets-from2 .result .now) in
     let b : a .used + 1 + length ds ≤ 512 =
     (omega (arith, fitting r, length-there Numbered (n .count-of .result) (o .octets-from2 .result .now))) in
-    let v : c .before .before .before .unpack-digits .last .1 .1 .1 .0 ≡ sets (a .values .now) (a .used) (i .values) =
+    let v : q .before .before .unpack-digits .last .1 .1 .1 .0 ≡ sets (a .values .now) (a .used) (i .values) =
     rw (
-      stored _ _ _ _ _ _ (c .before .before .before .unpack-digits .ensures) b,
+      stored _ _ _ _ _ _ (q .before .before .unpack-digits .ensures) b,
       o .octets-from2 .ensures,
       n .count-of .ensures,
       f .octets-from .ensures,
@@ -90,7 +99,7 @@ open-generic-spec =
     (tie.spec
     (λ c κs. search needs)
     (λ c κs. search needs)
-    (λ c. search needs)
+    add-len
     (λ c κs. search needs)
     (λ c κs. search needs)
     returns
@@ -100,7 +109,6 @@ open-generic-spec =
     (λ c κs. search needs)
     (λ c κs. search needs)
     (λ c κs. search needs)
-    (λ c. search needs)
     cast-number
     (λ c κs. search needs)
     returns-2)

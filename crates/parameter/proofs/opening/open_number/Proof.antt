@@ -1,6 +1,6 @@
 -- `open_number` meets its contract: the octets behind the first two hold the digits that are counted.
 use native.Mathlib.Omega.{arith}
-use mathlib.Core.Path.{_≡_, refl, sym, _∙_}
+use mathlib.Core.Path.{_≡_, refl, sym, ap, _∙_}
 use Prim.Native.Nat.{ℕ, _+_}
 use mathlib.Core.Bool.{false}
 use mathlib.Core.List.{List}
@@ -12,6 +12,7 @@ use Rattle.annex.specs.Contents.{countOf}
 use Rattle.annex.specs.Items.{openBy}
 use Rattle.annex.specs.Promises.{Stores}
 use Rattle.annex.specs.Records.{headOf}
+use Rattle.annex.specs.declared.HalfOctets.{HalfOctets}
 use Rattle.annex.specs.declared.Holding.the-variants.{AsNumber}
 use Rattle.annex.specs.declared.Alphabet.the-variants.{Numbered}
 use Rattle.parameter.specs.Opening.{number-digits}
@@ -45,7 +46,7 @@ returns c =
 
 cast-number : tie.Need-cast-number
 cast-number c =
-    let e = c .before .before in
+    let e = c .before .before .before in
     let p = e .before in
     let n = p .before .before .before in
     let a = n .before .before .args in
@@ -54,21 +55,21 @@ cast-number c =
       arith,
       few-stored (openBy (AsNumber false) (a .header) s) (a .used) (digits s) (a .values .now) _ _ refl (unpacked p) (e .if1 .left),
       number-digits s,
-      n .count-of .ensures,
+      ap (λ (k : HalfOctets). k .0) (n .count-of .ensures),
     )
 
 returns-2 : tie.Need-returns-2
 returns-2 c =
-    let e = c .before .before .before in
+    let e = c .before .before .before .before in
     let p = e .before in
     let n = p .before .before .before in
     let a = n .before .before .args in
     let s = a .s .now in
     let i = openBy (AsNumber false) (a .header) s in
     let w = all-stored i (a .used) (digits s) (a .values .now) _ _ refl (unpacked p) (e .if1 .left) in
-    let l : length (digits s) ≡ n .count-of .result = number-digits s ∙ sym (n .count-of .ensures) in
+    let l : length (digits s) ≡ n .count-of .result .0 = number-digits s ∙ ap (λ (k : HalfOctets). k .0) (sym (n .count-of .ensures)) in
     let h : c .number .result ≡ headOf i =
-    rw (c .number .ensures, c .before .before .octet-at .ensures, c .before .octet-at2 .ensures, l) in
+    rw (c .number .ensures, c .before .before .before .octet-at .ensures, c .before .before .octet-at2 .ensures, l) in
     (h ∙ w .0, w .1)
 
 pub open-number-spec : {M : Type 1} → statement M
