@@ -194,7 +194,7 @@ unfolding numberFault digitsFault
 number-told at s =
     formed (not (ltb (length s) 2)) _
     (formed (not (eqb (oddOf s) 1 && eqb (length s) 2)) _
-    (halves-told Numbered (countOf s) _ (halves (drop 2 s))))
+    (halves-told Numbered (countOf s .0) _ (halves (drop 2 s))))
 
 check-told : (c : Check) (s : List ℕ) → ToldFault (checkFault c s)
 unfolding twoFault
