@@ -142,7 +142,7 @@ module _ {e : Edit} {d : List ℕ} {n start end from to : ℕ} {new : List ℕ} 
       let t : take (start + from) d ≡ take (start + from) (take n d) = sym (take-take (start + from) n d (omega (arith, f, whole))) in
       rw (data-long, p, t, f, g, c .new-is) (octets-become e (take n d) (editedIn e d n) (c .splice))
 
-  pub cut-edits : (r : Answer) (now : List ℕ) → SplicePromise d n start end from to new r now → EditPromise e d n r now
+  cut-edits : (r : Answer) (now : List ℕ) → SplicePromise d n start end from to new r now → EditPromise e d n r now
   unfolding spliceAnswer bufferOf
   cut-edits r now p =
       let q : r ≡ editingOf e d n = p .0 ∙ rw (data-long, message-long) (sym (c .room)) in

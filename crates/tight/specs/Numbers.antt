@@ -1,6 +1,6 @@
 -- The promises by number, place and value. Where a function answers an enum, keeping its promise is the same as this: the number, the place
 -- and the value of its answer, which `Answers` states for every case, are those of the definition's, and a refusal has a number.
-use Prim.Native.Nat.{ℕ, _<_}
+use Prim.Native.Nat.{ℕ}
 use native.Mathlib.Omega.{arith}
 use mathlib.Core.Path.{_≡_, refl, sym, ap, _∙_}
 use mathlib.Core.List.{List}
@@ -9,14 +9,14 @@ use lib.ListN.{length}
 use Rattle.annex.specs.Answers.{numberOf, placeOf, givenOf, classValueOf, classNumberOf, classPlaceOf, classGivenOf}
 use Rattle.annex.specs.Items.{Part}
 use Rattle.annex.specs.Reading.{verdictOf, recordOf}
-use Rattle.annex.specs.Records.{pack, readBy, readingOf}
+use Rattle.annex.specs.Records.{readBy, readingOf}
 use Rattle.annex.specs.Writing.{structWriting, writingOf, writtenOf}
 use Rattle.annex.specs.Image.{imagingOf, imagedIn, imagedOf}
 use Rattle.annex.specs.Finding.{commonFound, transferFound, findAnswer}
 use Rattle.annex.specs.Spans.{spansOf, tableOf}
 use Rattle.annex.specs.Editing.{Edit, editingOf, bufferOf}
 use Rattle.annex.specs.Classes.{classOf}
-use Rattle.annex.specs.Packed.{row-octets, octetSpans, octetTable}
+use Rattle.annex.specs.Packed.{octetSpans, octetTable}
 use Rattle.annex.specs.Promises.{
   VerdictPromise,
   ReadPromise,

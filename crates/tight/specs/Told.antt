@@ -1,5 +1,5 @@
 -- Every refusal has a number: by no definition is anything refused with 0, which stands for accepted.
-use Prim.Native.Nat.{ℕ, zero, suc, _+_, _-_, _/_, _<_}
+use Prim.Native.Nat.{ℕ, zero, suc, _+_, _-_, _<_}
 use native.Mathlib.Omega.{arith}
 use mathlib.Core.Bool.{Bool, true, false, cond, not, _&&_, _||_}
 use mathlib.Core.List.{List, [], _∷_}
@@ -91,7 +91,6 @@ use Rattle.annex.specs.Reading.{
   transfersVerdictBy,
   dataOf,
   dataBy,
-  commonOf,
   commonBy,
   commonStep,
   messageVerdict,

@@ -1,6 +1,6 @@
 -- `pack_fitting` meets its contract: before each turn the octets of the first 2 i digits stand at the front of the room; an odd last digit
 -- follows at the end.
-use Prim.Native.Nat.{_+_, _-_, _*_, _/_, _%_, _≤_}
+use Prim.Native.Nat.{_+_, _-_, _*_, _/_, _≤_}
 use native.Mathlib.Omega.{arith}
 use mathlib.Core.Path.{_≡_, refl, _∙_}
 use borrow.Author.Needs.{needs}
