@@ -1,2 +1,3 @@
--- The three demands over the promises of `annex`, for whoever reads one file.
+-- The three demands over the promises of `annex`, for whoever reads one file; and their proofs.
 pub mod Demands
+pub mod Proved
