@@ -11,6 +11,7 @@ ghost use Prim.Native.Nat.{_+_, _≤_, min};
 ghost use lib.Dec.{leb};
 ghost use lib.ListN.{length};
 ghost use lib.Seq.{sets};
+ghost use Rattle.annex.specs.Heads.{most-values};
 ghost use Rattle.annex.specs.Promises.{Gives, Stores};
 ghost use Rattle.annex.specs.Units.{octetsOf, halvesIn};
 ghost use Rattle.annex.specs.Digits.{isDigit, digitsOf, packed, halvesFor};
@@ -48,7 +49,7 @@ pub fn digits_in(n: HalfOctets, octets: &[u8]) -> HalfOctets
 
 // Whether so many more values fit after the used ones.
 pub fn has_room(used: usize, count: usize) -> bool
-    ensures { λ r. ⌜ Gives (leb (used + count) 512) r ⌝ }
+    ensures { λ r. ⌜ Gives (leb (used + count) most-values) r ⌝ }
 {
     if Transfer::MOST_VALUES < used {
         return false;
@@ -103,7 +104,7 @@ fn unpack_fitting(
     values: &mut [u8; Transfer::MOST_VALUES],
     used: usize,
 )
-    requires { ⌜ (used + count .0 ≤ 512) × (count .0 ≤ halvesIn (now octets) .0) ⌝ }
+    requires { ⌜ (used + count .0 ≤ most-values) × (count .0 ≤ halvesIn (now octets) .0) ⌝ }
     ensures { λ r. ⌜ now (values .exit) ≡ sets (now (values .entry)) used (digitsOf z count (now (octets .entry))) ⌝ }
 {
     let pairs = count.0 / 2;
@@ -129,7 +130,7 @@ pub fn unpack_digits(
     values: &mut [u8; Transfer::MOST_VALUES],
     used: usize,
 ) -> bool
-    ensures { λ r. ⌜ Stores (leb (used + length (digitsOf z n (now (octets .entry)))) 512)
+    ensures { λ r. ⌜ Stores (leb (used + length (digitsOf z n (now (octets .entry)))) most-values)
         (sets (now (values .entry)) used (digitsOf z n (now (octets .entry)))) (now (values .entry)) r (now (values .exit)) ⌝ }
 {
     let count = digits_in(n, octets);

@@ -8,7 +8,7 @@ use lib.ListN.{length, getD, set, take, drop, length-append, length-drop}
 use lib.Seq.{sets, length-take-le, drop-drop}
 use native.Mathlib.Omega.{arith}
 use borrow.Author.Tests.{leb-true, ltb-true, le-leb, lt-ltb, lt-leb}
-use Rattle.annex.specs.Heads.{most-commons, most-transfers}
+use Rattle.annex.specs.Heads.{most-commons, most-transfers, most-values}
 use Rattle.annex.specs.Items.{Item, Part}
 use Rattle.annex.specs.Allowed.{itemsIn}
 use Rattle.annex.specs.Records.{headOf, commonHeadOf, valuesOf, pack}
@@ -27,6 +27,8 @@ use Rattle.annex.specs.Image.{
   isWithin,
   imagedBy,
   imagedOf,
+  common-head,
+  transfer-head,
 }
 use Rattle.annex.specs.Image.Front.{Taken, Short}
 use Rattle.annex.specs.declared.Common.{Common}
@@ -39,7 +41,7 @@ use Rattle.from_image.specs.declared.Filled.{Filled}
 
 -- the transfer parameter at the front of octets is whole, and has a place after k others and room for its values after the used ones
 abbrev pub fitsAt : List ℕ → ℕ → ℕ → Bool
-fitsAt s k used = leb (itemSize s) (length s) && (ltb k most-transfers && leb (used + headFront s .len) 512)
+fitsAt s k used = leb (itemSize s) (length s) && (ltb k most-transfers && leb (used + headFront s .len) most-values)
 
 abbrev pub unfilled : Filled
 unfilled = record { whole = false; held = emptyRecord; transfers = 0; used = 0; octets = 0 }
@@ -48,7 +50,7 @@ unfilled = record { whole = false; held = emptyRecord; transfers = 0; used = 0; 
 -- them
 abbrev pub filledBy : Record → ℕ → ℕ → ℕ → Front Item → Filled
 filledBy q k used i (Taken is n) =
-    cond (leb (k + length is) most-transfers && leb (used + length (valuesOf is)) 512)
+    cond (leb (k + length is) most-transfers && leb (used + length (valuesOf is)) most-values)
     (record {
       whole = true;
       held = withItems q is k used;
@@ -64,23 +66,23 @@ filledBy q k used i Short = unfilled
 pub record Room (s : List ℕ) (k used : ℕ) : Type 0 where
   pub whole : itemSize s ≤ length s
   pub place : k < most-transfers
-  pub values : used + headFront s .len ≤ 512
+  pub values : used + headFront s .len ≤ most-values
 
 pub has-room : (s : List ℕ) (k used : ℕ) → fitsAt s k used ≡ true → Room s k used
 has-room s k used e =
     let w = leb (itemSize s) (length s) in
     let p = ltb k most-transfers in
-    let v = leb (used + headFront s .len) 512 in
+    let v = leb (used + headFront s .len) most-values in
     let r = and-right w (p && v) e in
     record {
       whole = leb-true (itemSize s) (length s) (and-left w (p && v) e);
       place = ltb-true k most-transfers (and-left p v r);
-      values = leb-true (used + headFront s .len) 512 (and-right p v r);
+      values = leb-true (used + headFront s .len) most-values (and-right p v r);
     }
 
 -- a whole parameter has the values that its head tells
 values-told : (s : List ℕ) → itemSize s ≤ length s → length (itemFront s .values) ≡ headFront s .len
-values-told s h = length-take-le (headFront s .len) (drop 11 s) (rw (length-drop 11 s) (omega arith))
+values-told s h = length-take-le (headFront s .len) (drop transfer-head s) (rw (length-drop transfer-head s) (omega arith))
 
 -- a parameter put in, the rest behind it
 filled-more : (q : Record) (x : Item) (k used i n : ℕ) (f : Front Item)
@@ -101,7 +103,7 @@ filled-more q x k used i n (Taken is m) =
     let eu : used + length (x .values ++ valuesOf is) ≡ used + length (x .values) + length (valuesOf is) =
     omega (arith, length-append (x .values) (valuesOf is)) in
     let en : i + (n + m) ≡ i + n + m = omega arith in
-    λ j. cond (leb (ek j) most-transfers && leb (eu j) 512)
+    λ j. cond (leb (ek j) most-transfers && leb (eu j) most-values)
     (record { whole = true; held = held j; transfers = ek j; used = eu j; octets = en j }) unfilled
 
 -- a parameter that has no room, whatever is behind it
@@ -110,28 +112,28 @@ neither true true x y h = absurd (h refl refl)
 neither true false x y h = refl
 neither false b x y h = refl
 
-filled-over : (q : Record) (x : Item) (k used i n : ℕ) (f : Front Item) → (k < most-transfers → used + length (x .values) ≤ 512 → ⊥)
+filled-over : (q : Record) (x : Item) (k used i n : ℕ) (f : Front Item) → (k < most-transfers → used + length (x .values) ≤ most-values → ⊥)
     → filledBy q k used i (more x n f) ≡ unfilled
 unfolding valuesOf
 filled-over q x k used i n Short h = refl
 filled-over q x k used i n (Taken is m) h =
-    neither (leb (k + suc (length is)) most-transfers) (leb (used + length (x .values ++ valuesOf is)) 512) _ unfilled
+    neither (leb (k + suc (length is)) most-transfers) (leb (used + length (x .values ++ valuesOf is)) most-values) _ unfilled
     (λ a b. h (omega (arith, leb-true (k + suc (length is)) most-transfers a))
-    (omega (arith, leb-true (used + length (x .values ++ valuesOf is)) 512 b, length-append (x .values) (valuesOf is))))
+    (omega (arith, leb-true (used + length (x .values ++ valuesOf is)) most-values b, length-append (x .values) (valuesOf is))))
 
 pub filled-stop : (q : Record) (s : List ℕ) (k used i n : ℕ) → fitsAt s k used ≡ false
     → filledBy q k used i (itemsFront (suc n) s) ≡ unfilled
 unfolding itemsFront
 filled-stop q s k used i n e = go (leb (itemSize s) (length s)) refl e
   where
-    go : (b : Bool) → leb (itemSize s) (length s) ≡ b → b && (ltb k most-transfers && leb (used + headFront s .len) 512) ≡ false
+    go : (b : Bool) → leb (itemSize s) (length s) ≡ b → b && (ltb k most-transfers && leb (used + headFront s .len) most-values) ≡ false
         → filledBy q k used i (cond b (more (itemFront s) (itemSize s) (itemsFront n (drop (itemSize s) s))) Short) ≡ unfilled
     go false w f = refl
     go true w f =
         filled-over q (itemFront s) k used i (itemSize s) (itemsFront n (drop (itemSize s) s))
         (λ p v.
-        let l : used + headFront s .len ≤ 512 = omega (arith, values-told s (leb-true (itemSize s) (length s) w)) in
-        let t = rw (lt-ltb k most-transfers p, le-leb (used + headFront s .len) 512 l) at f in
+        let l : used + headFront s .len ≤ most-values = omega (arith, values-told s (leb-true (itemSize s) (length s) w)) in
+        let t = rw (lt-ltb k most-transfers p, le-leb (used + headFront s .len) most-values l) at f in
         let z : _≡_ {A = ℕ} 0 1 = cc in omega arith)
 
 -- the parameter at i of the octets, with its values from there to its end
@@ -143,28 +145,28 @@ pub filled-turn : (q : Record) (s : List ℕ) (k used i n : ℕ) → fitsAt (dro
       commons = q .commons;
       common = q .common;
       transfer = set (q .transfer) k t;
-      values = sets (q .values) used (take (t .len) (drop (i + 11) s));
+      values = sets (q .values) used (take (t .len) (drop (i + transfer-head) s));
     })
-    (k + 1) (used + t .len) (i + 11 + t .len) (itemsFront n (drop (i + 11 + t .len) s))
+    (k + 1) (used + t .len) (i + transfer-head + t .len) (itemsFront n (drop (i + transfer-head + t .len) s))
 unfolding itemsFront
 filled-turn q s k used i n e =
     let d = drop i s in
     let r = has-room d k used e in
     let l = values-told d (r .whole) in
-    let a : i + (11 + headFront d .len) ≡ i + 11 + headFront d .len = omega arith in
-    let o : drop (itemSize d) d ≡ drop (i + 11 + headFront d .len) s = drop-drop (itemSize d) i s ∙ ap (λ (m : ℕ). drop m s) a in
+    let a : i + (transfer-head + headFront d .len) ≡ i + transfer-head + headFront d .len = omega arith in
+    let o : drop (itemSize d) d ≡ drop (i + transfer-head + headFront d .len) s = drop-drop (itemSize d) i s ∙ ap (λ (m : ℕ). drop m s) a in
     rw (le-leb (itemSize d) (length d) (r .whole))
-    (filled-more q (itemFront d) k used i (itemSize d) (itemsFront n (drop (itemSize d) d)) ∙ rw (l, a, o, drop-drop 11 i s))
+    (filled-more q (itemFront d) k used i (itemSize d) (itemsFront n (drop (itemSize d) d)) ∙ rw (l, a, o, drop-drop transfer-head i s))
 
 -- none left
-pub filled-end : (q : Record) (s : List ℕ) (k used i : ℕ) → k ≤ most-transfers → used ≤ 512
+pub filled-end : (q : Record) (s : List ℕ) (k used i : ℕ) → k ≤ most-transfers → used ≤ most-values
     → filledBy q k used i (itemsFront 0 s) ≡ record { whole = true; held = q; transfers = k; used = used; octets = i }
 unfolding itemsFront valuesOf
 filled-end q s k used i hk hu =
     let ek : k + 0 ≡ k = omega arith in
     let eu : used + 0 ≡ used = omega arith in
     let ei : i + 0 ≡ i = omega arith in
-    rw (ek, eu, ei, le-leb k most-transfers hk, le-leb used 512 hu)
+    rw (ek, eu, ei, le-leb k most-transfers hk, le-leb used most-values hu)
 
 -- ---- the common parameters
 
@@ -175,7 +177,7 @@ imagedFrom n q k used i (Taken ps j) =
     (eqb (i + j) n
     &&
     (leb (q .commons + length ps) most-commons
-    && (leb (k + length (itemsIn ps)) most-transfers && leb (used + length (valuesOf (itemsIn ps))) 512)))
+    && (leb (k + length (itemsIn ps)) most-transfers && leb (used + length (valuesOf (itemsIn ps))) most-values)))
     (record { answer = Accepted (q .commons + length ps); held = withParts q ps k used })
     noImage
 imagedFrom n q k used i Short = noImage
@@ -190,14 +192,17 @@ imaged-start n (Taken r k) =
     let et : length (itemsIn r) ≡ 0 + length (itemsIn r) = omega arith in
     let ev : length (valuesOf (itemsIn r)) ≡ 0 + length (valuesOf (itemsIn r)) = omega arith in
     go
-    (eqb k n && (leb (length r) most-commons && (leb (length (itemsIn r)) most-transfers && leb (length (valuesOf (itemsIn r))) 512))) refl
+    (eqb k n
+    && (leb (length r) most-commons && (leb (length (itemsIn r)) most-transfers && leb (length (valuesOf (itemsIn r))) most-values)))
+    refl
     ∙ (λ j.
-    cond (eqb (ek j) n && (leb (ec j) most-commons && (leb (et j) most-transfers && leb (ev j) 512)))
+    cond (eqb (ek j) n && (leb (ec j) most-commons && (leb (et j) most-transfers && leb (ev j) most-values)))
     (record { answer = Accepted (ec j); held = withParts emptyRecord r 0 0 })
     noImage)
   where
     go : (t : Bool)
-        → eqb k n && (leb (length r) most-commons && (leb (length (itemsIn r)) most-transfers && leb (length (valuesOf (itemsIn r))) 512))
+        → eqb k n
+        && (leb (length r) most-commons && (leb (length (itemsIn r)) most-transfers && leb (length (valuesOf (itemsIn r))) most-values))
         ≡ t
         → cond {A = Imaged} t (record { answer = Accepted (length r); held = pack r }) noImage
         ≡ cond t (record { answer = Accepted (length r); held = withParts emptyRecord r 0 0 }) noImage
@@ -205,14 +210,14 @@ imaged-start n (Taken r k) =
     go true e =
         let c = leb (length r) most-commons in
         let t = leb (length (itemsIn r)) most-transfers in
-        let v = leb (length (valuesOf (itemsIn r))) 512 in
+        let v = leb (length (valuesOf (itemsIn r))) most-values in
         let e′ = and-right (eqb k n) (c && (t && v)) e in
         let e″ = and-right c (t && v) e′ in
         let p : pack r ≡ withParts emptyRecord r 0 0 =
         sym
         (filled-whole r (leb-true (length r) most-commons (and-left c (t && v) e′))
         (leb-true (length (itemsIn r)) most-transfers (and-left t v e″))
-        (leb-true (length (valuesOf (itemsIn r))) 512 (and-right t v e″))) in
+        (leb-true (length (valuesOf (itemsIn r))) most-values (and-right t v e″))) in
         λ j. record { answer = Accepted (length r); held = p j }
 
 -- a common parameter put in, the rest behind it
@@ -227,7 +232,7 @@ imaged-more n q q′ k k′ used used′ i m p c t v h (Taken ps x) =
     let eu : used + length (valuesOf (p .items ++ itemsIn ps)) ≡ used′ + length (valuesOf (itemsIn ps)) =
     rw (values-append (p .items) (itemsIn ps)) (omega (arith, length-append (valuesOf (p .items)) (valuesOf (itemsIn ps)))) in
     λ j.
-    cond (eqb (ei j) n && (leb (ec j) most-commons && (leb (ek j) most-transfers && leb (eu j) 512)))
+    cond (eqb (ei j) n && (leb (ec j) most-commons && (leb (ek j) most-transfers && leb (eu j) most-values)))
     (record { answer = Accepted (ec j); held = h ps j })
     noImage
 
@@ -240,7 +245,7 @@ none-of true false c d x y h = refl
 none-of false b c d x y h = refl
 
 imaged-over : (n : ℕ) (q : Record) (k used i m : ℕ) (p : Part) (f : Front Part)
-    → (q .commons < most-commons → k + length (p .items) ≤ most-transfers → used + length (valuesOf (p .items)) ≤ 512 → ⊥)
+    → (q .commons < most-commons → k + length (p .items) ≤ most-transfers → used + length (valuesOf (p .items)) ≤ most-values → ⊥)
     → imagedFrom n q k used i (more p m f) ≡ noImage
 imaged-over n q k used i m p Short h = refl
 imaged-over n q k used i m p (Taken ps x) h =
@@ -249,11 +254,12 @@ imaged-over n q k used i m p (Taken ps x) h =
     ap (λ (l : List ℕ). length l) (values-append (p .items) (itemsIn ps))
     ∙ length-append (valuesOf (p .items)) (valuesOf (itemsIn ps)) in
     none-of (eqb (i + (m + x)) n) (leb (q .commons + suc (length ps)) most-commons)
-    (leb (k + length (p .items ++ itemsIn ps)) most-transfers) (leb (used + length (valuesOf (p .items ++ itemsIn ps))) 512) _ noImage
+    (leb (k + length (p .items ++ itemsIn ps)) most-transfers)
+    (leb (used + length (valuesOf (p .items ++ itemsIn ps))) most-values) _ noImage
     (λ c t v.
     h (omega (arith, leb-true (q .commons + suc (length ps)) most-commons c))
     (omega (arith, leb-true (k + length (p .items ++ itemsIn ps)) most-transfers t))
-    (omega (arith, leb-true (used + length (valuesOf (p .items ++ itemsIn ps))) 512 v)))
+    (omega (arith, leb-true (used + length (valuesOf (p .items ++ itemsIn ps))) most-values v)))
 
 -- ---- one turn
 
@@ -284,13 +290,14 @@ record Put (q : Record) (k used : ℕ) (is : List Item) (m : ℕ) (f : Filled) :
   used-up : f .used ≡ used + length (valuesOf is)
   octets : f .octets ≡ m
   places : k + length is ≤ most-transfers
-  values : used + length (valuesOf is) ≤ 512
+  values : used + length (valuesOf is) ≤ most-values
 
 filled-put : (q : Record) (k used : ℕ) (is : List Item) (m : ℕ) (f : Filled) → f ≡ filledBy q k used 0 (Taken is m) → f .whole ≡ true
     → Put q k used is m f
-filled-put q k used is m f e w = go (leb (k + length is) most-transfers) refl (leb (used + length (valuesOf is)) 512) refl
+filled-put q k used is m f e w = go (leb (k + length is) most-transfers) refl (leb (used + length (valuesOf is)) most-values) refl
   where
-    go : (a : Bool) → leb (k + length is) most-transfers ≡ a → (b : Bool) → leb (used + length (valuesOf is)) 512 ≡ b → Put q k used is m f
+    go : (a : Bool) → leb (k + length is) most-transfers ≡ a → (b : Bool) → leb (used + length (valuesOf is)) most-values ≡ b
+        → Put q k used is m f
     go true a true b =
         let g : f
         ≡ record {
@@ -307,7 +314,7 @@ filled-put q k used is m f e w = go (leb (k + length is) most-transfers) refl (l
           used-up = ap (λ (x : Filled). x .used) g;
           octets = omega (arith, ap (λ (x : Filled). x .octets) g);
           places = leb-true (k + length is) most-transfers a;
-          values = leb-true (used + length (valuesOf is)) 512 b;
+          values = leb-true (used + length (valuesOf is)) most-values b;
         }
     go true a false b =
         absurd (let g : f ≡ unfilled = e ∙ rw (a, b) in let z : _≡_ {A = ℕ} 0 1 = cc (ap (λ (x : Filled). x .whole) g) in omega arith)
@@ -318,16 +325,18 @@ filled-put q k used is m f e w = go (leb (k + length is) most-transfers) refl (l
 part-over : (n : ℕ) (q : Record) (k used i : ℕ) (s : List ℕ) (j : Front Item) (rest : ℕ → Front Part) → most-commons ≤ q .commons
     → imagedFrom n q k used i (partThen s j rest) ≡ noImage
 part-over n q k used i s Short rest h = refl
-part-over n q k used i s (Taken is m) rest h = imaged-over n q k used i (6 + m) (partFront s is) (rest (6 + m)) (λ c t v. omega arith)
+part-over n q k used i s (Taken is m) rest h =
+    imaged-over n q k used i (common-head + m) (partFront s is) (rest (common-head + m))
+    (λ c t v. omega arith)
 
 part-stop : (n : ℕ) (q : Record) (k used i : ℕ) (s : List ℕ) (j : Front Item) (rest : ℕ → Front Part) (f : Filled)
     → f ≡ filledBy q k used 0 j → f .whole ≡ false → imagedFrom n q k used i (partThen s j rest) ≡ noImage
 part-stop n q k used i s Short rest f e w = refl
 part-stop n q k used i s (Taken is m) rest f e w =
-    imaged-over n q k used i (6 + m) (partFront s is) (rest (6 + m))
+    imaged-over n q k used i (common-head + m) (partFront s is) (rest (common-head + m))
     (λ c t v.
     let g : filledBy q k used 0 (Taken is m) .whole ≡ true =
-    rw (le-leb (k + length is) most-transfers t, le-leb (used + length (valuesOf is)) 512 v) in
+    rw (le-leb (k + length is) most-transfers t, le-leb (used + length (valuesOf is)) most-values v) in
     let g′ : f .whole ≡ true = ap (λ (x : Filled). x .whole) e ∙ g in
     let z : _≡_ {A = ℕ} 0 1 = cc in omega arith)
 
@@ -338,7 +347,8 @@ withHead q k c = record { commons = k + 1; common = set (q .common) k c; transfe
 part-put-in : (n : ℕ) (q : Record) (k used i : ℕ) (s : List ℕ) (is : List Item) (m : ℕ) (rest : ℕ → Front Part) (f : Filled) (c : Common)
     → c ≡ commonHeadOf (partFront s is) → Put q k used is m f
     → imagedFrom n q k used i (partThen s (Taken is m) rest)
-    ≡ imagedFrom n (withHead (f .held) (q .commons) c) (f .transfers) (f .used) (i + 6 + f .octets) (rest (6 + f .octets))
+    ≡ imagedFrom n (withHead (f .held) (q .commons) c) (f .transfers) (f .used) (i + common-head + f .octets)
+    (rest (common-head + f .octets))
 part-put-in n q k used i s is m rest f c hc u =
     let p = partFront s is in
     let same : f .held .commons ≡ q .commons = ap (λ (r : Record). r .commons) (u .held) in
@@ -347,23 +357,23 @@ part-put-in n q k used i s is m rest f c hc u =
     part-put q (f .held) k used p ps c (u .held) hc
     ∙ rw (u .transfers, u .used-up)
     (ap (λ (x : ℕ). withParts (withHead (f .held) x c) ps (k + length is) (used + length (valuesOf is))) same) in
-    let a : i + (6 + f .octets) ≡ i + 6 + f .octets = omega arith in
+    let a : i + (common-head + f .octets) ≡ i + common-head + f .octets = omega arith in
     rw (← u .octets)
-    (imaged-more n q (withHead (f .held) (q .commons) c) k (f .transfers) used (f .used) i (6 + f .octets) p refl (u .transfers)
-    (u .used-up) h (rest (6 + f .octets))
+    (imaged-more n q (withHead (f .held) (q .commons) c) k (f .transfers) used (f .used) i (common-head + f .octets) p refl (u .transfers)
+    (u .used-up) h (rest (common-head + f .octets))
     ∙ rw a)
 
 -- a part that is put in
 pub record Next (n : ℕ) (q : Record) (k used i l : ℕ) (whole rest : Front Part) (f : Filled) (c : Common) : Type 0 where
   pub becomes : imagedFrom n q k used i whole
-      ≡ imagedFrom n (withHead (f .held) (q .commons) c) (f .transfers) (f .used) (i + 6 + f .octets) rest
+      ≡ imagedFrom n (withHead (f .held) (q .commons) c) (f .transfers) (f .used) (i + common-head + f .octets) rest
   pub places : f .transfers ≤ most-transfers
-  pub values : f .used ≤ 512
+  pub values : f .used ≤ most-values
   pub octets : f .octets ≤ l
 
 part-next : (n : ℕ) (q : Record) (k used i l : ℕ) (s : List ℕ) (j : Front Item) (rest : ℕ → Front Part) (f : Filled) (c : Common)
     → Counted (c .transfers) l j → c ≡ commonFront s → f ≡ filledBy q k used 0 j → f .whole ≡ true
-    → Next n q k used i l (partThen s j rest) (rest (6 + f .octets)) f c
+    → Next n q k used i l (partThen s j rest) (rest (common-head + f .octets)) f c
 part-next n q k used i l s Short rest f c d ec e w =
     absurd (let z : _≡_ {A = ℕ} 0 1 = cc (ap (λ (x : Filled). x .whole) e) in omega arith)
 part-next n q k used i l s (Taken is m) rest f c d ec e w =
@@ -380,52 +390,56 @@ part-next n q k used i l s (Taken is m) rest f c d ec e w =
 
 module _ (n : ℕ) (q : Record) (k used i m : ℕ) (s : List ℕ) where
   -- octets that are too short for a head
-  pub parts-short : length (drop i s) < 6 → imagedFrom n q k used i (partsFront (suc m) (drop i s)) ≡ noImage
+  pub parts-short : length (drop i s) < common-head → imagedFrom n q k used i (partsFront (suc m) (drop i s)) ≡ noImage
   unfolding partsFront
-  parts-short h = rw (lt-leb 6 (length (drop i s)) h)
+  parts-short h = rw (lt-leb common-head (length (drop i s)) h)
 
   pub parts-over : most-commons ≤ q .commons → imagedFrom n q k used i (partsFront (suc m) (drop i s)) ≡ noImage
   unfolding partsFront
-  parts-over h = go (leb 6 (length (drop i s)))
+  parts-over h = go (leb common-head (length (drop i s)))
     where
       go : (b : Bool)
           → imagedFrom n q k used i
           (cond b
-          (partThen (drop i s) (itemsFront (commonFront (drop i s) .transfers) (drop 6 (drop i s)))
+          (partThen (drop i s) (itemsFront (commonFront (drop i s) .transfers) (drop common-head (drop i s)))
           (λ x. partsFront m (drop x (drop i s)))) Short)
           ≡ noImage
       go true =
-          part-over n q k used i (drop i s) (itemsFront (commonFront (drop i s) .transfers) (drop 6 (drop i s)))
+          part-over n q k used i (drop i s) (itemsFront (commonFront (drop i s) .transfers) (drop common-head (drop i s)))
           (λ x. partsFront m (drop x (drop i s))) h
       go false = refl
 
   -- a head, and the transfer parameters behind it
-  module _ (c : Common) (f : Filled) (h : 6 ≤ length (drop i s)) (ec : c ≡ commonFront (drop i s))
-      (e : f ≡ filledBy q k used 0 (itemsFront (c .transfers) (drop (i + 6) s))) where
+  module _ (c : Common) (f : Filled) (h : common-head ≤ length (drop i s)) (ec : c ≡ commonFront (drop i s))
+      (e : f ≡ filledBy q k used 0 (itemsFront (c .transfers) (drop (i + common-head) s))) where
     opened : partsFront (suc m) (drop i s)
-        ≡ partThen (drop i s) (itemsFront (c .transfers) (drop (i + 6) s)) (λ x. partsFront m (drop x (drop i s)))
+        ≡ partThen (drop i s) (itemsFront (c .transfers) (drop (i + common-head) s))
+        (λ x. partsFront m (drop x (drop i s)))
     unfolding partsFront
     opened =
         let t : c .transfers ≡ commonFront (drop i s) .transfers = ap (λ (x : Common). x .transfers) ec in
-        rw (le-leb 6 (length (drop i s)) h, drop-drop 6 i s, t)
+        rw (le-leb common-head (length (drop i s)) h, drop-drop common-head i s, t)
 
     pub parts-stop : f .whole ≡ false → imagedFrom n q k used i (partsFront (suc m) (drop i s)) ≡ noImage
     parts-stop w =
         ap (λ x. imagedFrom n q k used i x) opened
-        ∙ part-stop n q k used i (drop i s) (itemsFront (c .transfers) (drop (i + 6) s)) (λ x. partsFront m (drop x (drop i s))) f e w
+        ∙ part-stop n q k used i (drop i s) (itemsFront (c .transfers) (drop (i + common-head) s))
+        (λ x. partsFront m (drop x (drop i s))) f e w
 
     pub parts-next : f .whole ≡ true
-        → Next n q k used i (length (drop (i + 6) s)) (partsFront (suc m) (drop i s)) (partsFront m (drop (i + 6 + f .octets) s)) f c
+        → Next n q k used i (length (drop (i + common-head) s)) (partsFront (suc m) (drop i s))
+        (partsFront m (drop (i + common-head + f .octets) s)) f c
     parts-next w =
-        let a : i + (6 + f .octets) ≡ i + 6 + f .octets = omega arith in
-        let o : drop (6 + f .octets) (drop i s) ≡ drop (i + 6 + f .octets) s = drop-drop (6 + f .octets) i s ∙ ap (λ (x : ℕ). drop x s) a in
+        let a : i + (common-head + f .octets) ≡ i + common-head + f .octets = omega arith in
+        let o : drop (common-head + f .octets) (drop i s) ≡ drop (i + common-head + f .octets) s =
+        drop-drop (common-head + f .octets) i s ∙ ap (λ (x : ℕ). drop x s) a in
         rw (opened, ← o)
-        (part-next n q k used i (length (drop (i + 6) s)) (drop i s) (itemsFront (c .transfers) (drop (i + 6) s))
-        (λ x. partsFront m (drop x (drop i s))) f c (items-counted (c .transfers) (drop (i + 6) s)) ec e w)
+        (part-next n q k used i (length (drop (i + common-head) s)) (drop i s) (itemsFront (c .transfers) (drop (i + common-head) s))
+        (λ x. partsFront m (drop x (drop i s))) f c (items-counted (c .transfers) (drop (i + common-head) s)) ec e w)
 
 -- none left: all octets are taken, or there are some left over
 module _ (n : ℕ) (q : Record) (k used i : ℕ) (s : List ℕ) where
-  pub parts-end : q .commons ≤ most-commons → k ≤ most-transfers → used ≤ 512
+  pub parts-end : q .commons ≤ most-commons → k ≤ most-transfers → used ≤ most-values
       → imagedFrom n q k used i (partsFront 0 s) ≡ cond (eqb i n) (record { answer = Accepted (q .commons); held = q }) noImage
   unfolding partsFront valuesOf
   parts-end c t v =
@@ -435,10 +449,10 @@ module _ (n : ℕ) (q : Record) (k used i : ℕ) (s : List ℕ) where
       let ev : used + 0 ≡ used = omega arith in
       let h = filled-none q k used in
       (λ j.
-      cond (eqb (ei j) n && (leb (ec j) most-commons && (leb (et j) most-transfers && leb (ev j) 512)))
+      cond (eqb (ei j) n && (leb (ec j) most-commons && (leb (et j) most-transfers && leb (ev j) most-values)))
       (record { answer = Accepted (ec j); held = h j })
       noImage)
-      ∙ rw (le-leb (q .commons) most-commons c, le-leb k most-transfers t, le-leb used 512 v) (and-true (eqb i n))
+      ∙ rw (le-leb (q .commons) most-commons c, le-leb k most-transfers t, le-leb used most-values v) (and-true (eqb i n))
     where
       and-true : (b : Bool)
           → cond {A = Imaged} (b && true) (record { answer = Accepted (q .commons); held = q }) noImage

@@ -9,8 +9,8 @@ use reader::reading::empty;
 ghost use mathlib.Core.Path.{_≡_};
 ghost use Prim.Native.Nat.{_≤_};
 ghost use lib.ListN.{length};
-ghost use Rattle.annex.specs.Heads.{most-transfers};
-ghost use Rattle.annex.specs.Image.{headFront, itemsFront, commonFront, partsFront, noImage, imagedBy};
+ghost use Rattle.annex.specs.Heads.{most-transfers, most-values};
+ghost use Rattle.annex.specs.Image.{headFront, itemsFront, commonFront, partsFront, noImage, imagedBy, common-head, transfer-head};
 ghost use Rattle.annex.specs.Promises.{FromImagePromise};
 ghost use Rattle.from_image.specs.Filling.{fitsAt, unfilled, filledBy};
 
@@ -51,7 +51,7 @@ fn refused() -> Imaged
 
 // The head of the transfer parameter at the front.
 fn transfer_head(s: &[u8]) -> Transfer
-    requires { ⌜ 11 ≤ length (now s) ⌝ }
+    requires { ⌜ transfer-head ≤ length (now s) ⌝ }
     ensures { λ r. ⌜ r ≡ headFront (now (s .entry)) ⌝ }
 {
     let low = s[9] as u16;
@@ -74,7 +74,7 @@ fn transfer_head(s: &[u8]) -> Transfer
 // Whether the transfer parameter at the front is whole, and has room in the array after k others, and room for its values after the used
 // ones.
 fn takes(s: &[u8], k: usize, used: usize) -> bool
-    requires { ⌜ used ≤ 512 ⌝ }
+    requires { ⌜ used ≤ most-values ⌝ }
     ensures { λ r. ⌜ r ≡ fitsAt (now (s .entry)) k used ⌝ }
 {
     if s.len() < Imaged::TRANSFER_HEAD {
@@ -95,7 +95,7 @@ fn takes(s: &[u8], k: usize, used: usize) -> bool
 
 // So many transfer parameters at the front, put into the struct behind those that it has.
 fn with_transfers(begun: Record, s: &[u8], count: usize, transfers: usize, taken: usize) -> Filled
-    requires { ⌜ (transfers ≤ most-transfers) × (taken ≤ 512) ⌝ }
+    requires { ⌜ (transfers ≤ most-transfers) × (taken ≤ most-values) ⌝ }
     ensures { λ r. ⌜ r ≡ filledBy begun transfers taken 0 (itemsFront count (now (s .entry))) ⌝ }
 {
     let mut q = begun;
@@ -128,7 +128,7 @@ fn with_transfers(begun: Record, s: &[u8], count: usize, transfers: usize, taken
 
 // The head of the common parameter at the front.
 fn common_head(s: &[u8]) -> Common
-    requires { ⌜ 6 ≤ length (now s) ⌝ }
+    requires { ⌜ common-head ≤ length (now s) ⌝ }
     ensures { λ r. ⌜ r ≡ commonFront (now (s .entry)) ⌝ }
 {
     let header = s[0];

@@ -9,7 +9,7 @@ use lib.Dec.{eqb}
 use borrow.Author.Tests.{eqb-true}
 use lib.ListN.{length, getD, drop, set, replicate, length-map, length-replicate}
 use lib.Seq.{sets, sets-eq}
-use Rattle.annex.specs.Heads.{transfer-data, isCall, most-transfers}
+use Rattle.annex.specs.Heads.{transfer-data, isCall, most-transfers, most-commons, most-values}
 use Rattle.annex.specs.Items.{Item, Part, part, valuePart}
 use Rattle.annex.specs.Allowed.{itemsIn}
 use Rattle.annex.specs.Walk.{Par}
@@ -63,22 +63,29 @@ sets-pad n z xs h =
 
 abbrev pub emptyRecord : Record
 emptyRecord =
-    record { commons = 0; common = replicate 6 noCommon; transfer = replicate most-transfers noTransfer; values = replicate 512 0 }
+    record {
+      commons = 0;
+      common = replicate most-commons noCommon;
+      transfer = replicate most-transfers noTransfer;
+      values = replicate most-values 0;
+    }
 
 pub empty-packed : emptyRecord ≡ pack []
 unfolding pack pad valuesOf
 empty-packed = refl
 
-pub filled-whole : (r : List Part) → length r ≤ 6 → length (itemsIn r) ≤ most-transfers → length (valuesOf (itemsIn r)) ≤ 512
+pub filled-whole : (r : List Part) → length r ≤ most-commons → length (itemsIn r) ≤ most-transfers
+    → length (valuesOf (itemsIn r)) ≤ most-values
     → withParts emptyRecord r 0 0 ≡ pack r
 unfolding pack
 filled-whole r c t v =
-    let ec : sets (replicate 6 noCommon) 0 (map commonHeadOf r) ≡ pad 6 noCommon (map commonHeadOf r) =
-    sets-pad 6 noCommon (map commonHeadOf r) (omega (arith, length-map r commonHeadOf)) in
+    let ec : sets (replicate most-commons noCommon) 0 (map commonHeadOf r) ≡ pad most-commons noCommon (map commonHeadOf r) =
+    sets-pad most-commons noCommon (map commonHeadOf r) (omega (arith, length-map r commonHeadOf)) in
     let hs = map headOf (itemsIn r) in
     let et : sets (replicate most-transfers noTransfer) 0 hs ≡ pad most-transfers noTransfer hs =
     sets-pad most-transfers noTransfer hs (omega (arith, length-map (itemsIn r) headOf)) in
-    let ev : sets (replicate 512 0) 0 (valuesOf (itemsIn r)) ≡ pad 512 0 (valuesOf (itemsIn r)) = sets-pad 512 0 (valuesOf (itemsIn r)) v in
+    let ev : sets (replicate most-values 0) 0 (valuesOf (itemsIn r)) ≡ pad most-values 0 (valuesOf (itemsIn r)) =
+    sets-pad most-values 0 (valuesOf (itemsIn r)) v in
     let en : 0 + length r ≡ length r = omega arith in
     λ i. record { commons = en i; common = ec i; transfer = et i; values = ev i }
 

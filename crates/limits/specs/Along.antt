@@ -8,7 +8,7 @@ use borrow.Author.Tests.{eq-eqb, ne-eqb}
 use lib.Dec.{eqb}
 use lib.ListN.{length, getD, take, drop, length-take, length-map, drop-of-length-le}
 use lib.Seq.{take-all, take-suc, drop-cons, drop-drop, take-add, getD-take, length-take-le}
-use Rattle.annex.specs.Heads.{transfer-data, most-commons, most-transfers}
+use Rattle.annex.specs.Heads.{transfer-data, most-commons, most-transfers, most-values}
 use Rattle.annex.specs.Items.{Item, Part}
 use Rattle.annex.specs.Allowed.{ownPart, itemsIn}
 use Rattle.annex.specs.Records.{
@@ -62,7 +62,7 @@ transfersAt q k = transfersSum (drop k (commonsIn q))
 -- the first n transfer parameters, and their values, lie within the arrays
 pub record Within (q : Record) (n : ℕ) : Type 0 where
   pub places : n ≤ most-transfers
-  pub values : usedAt q n ≤ 512
+  pub values : usedAt q n ≤ most-values
 
 -- a struct whose counts and lengths stay within its arrays, as facts
 pub record Whole (q : Record) : Type 0 where
@@ -149,9 +149,9 @@ module _ (q : Record) where
   pub record Turn (k used : ℕ) : Type 0 where
     pub place : k < most-transfers
     pub end : used + transferAt q k .len ≤ length (q .values)
-    pub small : used + transferAt q k .len ≤ 512
+    pub small : used + transferAt q k .len ≤ most-values
     pub next : used + transferAt q k .len ≡ usedAt q (k + 1)
-    pub few : length (ownAt q k used) ≤ 512
+    pub few : length (ownAt q k used) ≤ most-values
     pub items : (end : ℕ) → k < end → itemsAt q k (end - k) ≡ itemFrom (transferAt q k) (ownAt q k used) ∷ itemsAt q (k + 1) (end - (k + 1))
 
   -- fewer of them lie within the arrays too
@@ -161,12 +161,13 @@ module _ (q : Record) where
       let l = rw e at (lengths-add m (n - m) (q .transfer)) in
       record { places = omega (arith, w .places); values = omega (arith, l, w .values) }
 
-  pub turn : (k n used : ℕ) → length (q .transfer) ≡ most-transfers → length (q .values) ≡ 512 → Within q n → k < n → used ≡ usedAt q k
+  pub turn : (k n used : ℕ) → length (q .transfer) ≡ most-transfers → length (q .values) ≡ most-values → Within q n → k < n
+      → used ≡ usedAt q k
       → Turn k used
   turn k n used l v w h e =
       let t = transferAt q k in
       let next : used + t .len ≡ usedAt q (k + 1) = omega (arith, used-next k (omega (arith, w .places))) in
-      let few : used + t .len ≤ 512 = omega (arith, within-less (k + 1) n (omega arith) w .values) in
+      let few : used + t .len ≤ most-values = omega (arith, within-less (k + 1) n (omega arith) w .values) in
       let same : used + t .len - used ≡ t .len = omega arith in
       record {
         place = omega (arith, w .places);

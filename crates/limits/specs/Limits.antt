@@ -8,7 +8,7 @@ use borrow.Author.Tests.{leb-true, le-ltb, not-false}
 use lib.Dec.{leb, ltb}
 use lib.ListN.{length, take, drop, length-take, length-drop}
 use Rattle.annex.specs.Answers.{over-limits, refuse}
-use Rattle.annex.specs.Heads.{most-commons, most-transfers, most-transfer-octets}
+use Rattle.annex.specs.Heads.{most-commons, most-transfers, most-transfer-octets, most-values}
 use Rattle.annex.specs.Items.{Item, heldAs, contentsBy, contentsOf}
 use Rattle.annex.specs.declared.Holding.{Holding}
 use Rattle.annex.specs.declared.Holding.the-variants.{AsContents, AsDigits, AsNumber, AsGeneric}
@@ -35,11 +35,11 @@ told-whole q e =
     let n = transfersSum (commonsIn q) in
     let a = leb (q .commons) most-commons in
     let b = leb n most-transfers in
-    let d = leb (usedAt q n) 512 in
+    let d = leb (usedAt q n) most-values in
     let r = and-right a (b && d) e in
     record {
       commons = leb-true (q .commons) most-commons (and-left a (b && d) e);
-      within = record { places = leb-true n most-transfers (and-left b d r); values = leb-true (usedAt q n) 512 (and-right b d r) };
+      within = record { places = leb-true n most-transfers (and-left b d r); values = leb-true (usedAt q n) most-values (and-right b d r) };
     }
 
 -- as many parts and parameters as there are heads
@@ -59,7 +59,7 @@ pub over-contents : (q : Record) → Whole q
 unfolding overLimits view lengthsOf
 over-contents q w =
     let n = transfersSum (commonsIn q) in
-    let few : length (view q) ≤ 6 =
+    let few : length (view q) ≤ most-commons =
     omega (arith, w .commons, length-parts (commonsIn q) (q .transfer) (q .values), length-take (q .commons) (q .common)) in
     let items : length (itemsAt q 0 n) ≤ most-transfers =
     omega (arith, w .within .places, length-items (take n (q .transfer)) (q .values), length-take n (q .transfer)) in

@@ -8,6 +8,7 @@ ghost use mathlib.Core.Path.{_≡_};
 ghost use mathlib.Core.Bool.{not, _||_};
 ghost use Prim.Native.Nat.{_≤_};
 ghost use lib.ListN.{take};
+ghost use Rattle.annex.specs.Heads.{most-commons};
 ghost use Rattle.annex.specs.Promises.{Gives};
 ghost use Rattle.annex.specs.Answers.{over-limits, refuse};
 ghost use Rattle.annex.specs.Allowed.{contentsSum};
@@ -29,7 +30,7 @@ fn transfers_in(c: Common) -> u8
 
 // How many transfer parameters the common parameters hold together.
 fn transfers_sum(q: Record) -> usize
-    requires { ⌜ q .commons ≤ 6 ⌝ }
+    requires { ⌜ q .commons ≤ most-commons ⌝ }
     ensures { λ r. ⌜ r ≡ transfersSum (commonsIn q) ⌝ }
 {
     let n = q.commons as usize;

@@ -8,6 +8,7 @@ use borrow.Author.Tests.{leb-true, not-true, not-false}
 use lib.Dec.{leb}
 use lib.ListN.{length, drop}
 use lib.Seq.{sets}
+use Rattle.annex.specs.Heads.{most-values}
 use Rattle.annex.specs.Units.{halvesIn}
 use Rattle.annex.specs.Digits.{digitsOf}
 use Rattle.annex.specs.Contents.{countOf}
@@ -18,20 +19,20 @@ use Rattle.annex.specs.declared.Alphabet.the-variants.{Numbered}
 use Rattle.laws.specs.Halves.{length-digitsOf}
 
 -- the two cases of a parameter of n values, by a flag that says whether they fit
-pub without-room : (i : Item) (used n : ℕ) (vs : List ℕ) (b : Bool) → length (i .values) ≡ n → b ≡ leb (used + n) 512 → not b ≡ true
+pub without-room : (i : Item) (used n : ℕ) (vs : List ℕ) (b : Bool) → length (i .values) ≡ n → b ≡ leb (used + n) most-values → not b ≡ true
     → (noTransfer ≡ headFor i used) × (vs ≡ valuesWith i used vs)
 without-room i used n vs b e f t =
     let g = sym f ∙ not-true b t in
     (rw (e, g), rw (e, g))
 
-pub with-room : (i : Item) (used n : ℕ) (vs : List ℕ) (b : Bool) → length (i .values) ≡ n → b ≡ leb (used + n) 512 → not b ≡ false
+pub with-room : (i : Item) (used n : ℕ) (vs : List ℕ) (b : Bool) → length (i .values) ≡ n → b ≡ leb (used + n) most-values → not b ≡ false
     → (headOf i ≡ headFor i used) × (sets vs used (i .values) ≡ valuesWith i used vs)
 with-room i used n vs b e f t =
     let g = sym f ∙ not-false b t in
     (rw (e, g), rw (e, g))
 
-pub room-left : (used n : ℕ) (b : Bool) → b ≡ leb (used + n) 512 → not b ≡ false → used + n ≤ 512
-room-left used n b f t = leb-true (used + n) 512 (sym f ∙ not-false b t)
+pub room-left : (used n : ℕ) (b : Bool) → b ≡ leb (used + n) most-values → not b ≡ false → used + n ≤ most-values
+room-left used n b f t = leb-true (used + n) most-values (sym f ∙ not-false b t)
 
 -- a number's octets hold as many digits as it counts
 pub count-within : (s : List ℕ) → countOf s .0 ≤ halvesIn (drop 2 s) .0

@@ -7,6 +7,7 @@ use borrow.Author.Tests.{le-leb, not-true, not-false}
 use lib.Dec.{leb}
 use lib.ListN.{length}
 use lib.Seq.{sets}
+use Rattle.annex.specs.Heads.{most-values}
 use Rattle.annex.specs.Promises.{Stores}
 use Rattle.annex.specs.Items.{Item}
 use Rattle.annex.specs.Records.{headOf, noTransfer}
@@ -19,7 +20,7 @@ stored n m r s before now c h =
     c .1 ∙ rw t
 
 module _ (i : Item) (used : ℕ) (ds vs now : List ℕ) (b : Bool) (e : i .values ≡ ds)
-    (c : Stores (leb (used + length ds) 512) (sets vs used ds) vs b now) where
+    (c : Stores (leb (used + length ds) most-values) (sets vs used ds) vs b now) where
   pub not-stored : not b ≡ true → (noTransfer ≡ headFor i used) × (now ≡ valuesWith i used vs)
   not-stored t =
       let w = without-room i used (length ds) vs b (ap length e) (c .0) t in
@@ -32,5 +33,5 @@ module _ (i : Item) (used : ℕ) (ds vs now : List ℕ) (b : Bool) (e : i .value
       let f : b ≡ true = not-false b t in
       (w .0, c .1 ∙ rw (f, ← e) (w .1))
 
-  pub few-stored : not b ≡ false → used + length ds ≤ 512
+  pub few-stored : not b ≡ false → used + length ds ≤ most-values
   few-stored t = room-left used (length ds) b (c .0) t

@@ -19,6 +19,7 @@ ghost use mathlib.Core.List.{List};
 ghost use Prim.Native.Nat.{ℕ, _+_, _≤_};
 ghost use lib.ListN.{length};
 ghost use lib.Seq.{sets};
+ghost use Rattle.annex.specs.Heads.{most-values};
 ghost use Rattle.annex.specs.Promises.{Gives};
 ghost use Rattle.annex.specs.Items.{holdingOf, openBy, openMarks};
 ghost use Rattle.annex.specs.declared.Holding.the-variants.{AsContents, AsDigits, AsNumber, AsGeneric};
@@ -27,7 +28,7 @@ ghost use Rattle.annex.specs.Opening.{headFor, valuesWith, openedHead, openedVa
 
 // Stores the octets of `s` in `values` from `used` on.
 fn copy_values(s: &[u8], values: &mut [u8; Transfer::MOST_VALUES], used: usize)
-    requires { ⌜ used + length (now s) ≤ 512 ⌝ }
+    requires { ⌜ used + length (now s) ≤ most-values ⌝ }
     ensures { λ r. ⌜ now (values .exit) ≡ sets (now (values .entry)) used (now (s .entry)) ⌝ }
 {
     copy_in(values, used, s);

@@ -5,7 +5,7 @@ use mathlib.Core.Path.{_≡_, sym, ap, _∙_}
 use mathlib.Core.List.{List, _∷_, map}
 use lib.ListN.{length, getD, set, length-append}
 use Rattle.annex.specs.Units.{commonExtentOf}
-use Rattle.annex.specs.Heads.{end-mark, most-transfers}
+use Rattle.annex.specs.Heads.{end-mark, most-transfers, most-values}
 use Rattle.annex.specs.Items.{Part}
 use Rattle.annex.specs.Allowed.{Each, every, isOctet, itemsIn}
 use Rattle.annex.specs.Walk.{Par}
@@ -28,7 +28,7 @@ pub record Filling (m : List ℕ) (q : Record) (transfers used i : ℕ) : Type 0
   pub becomes : pack (recordOf m) ≡ withParts q (partsLeft m i) transfers used
   pub commons : q .commons + length (partsLeft m i) ≤ 6
   pub places : transfers + length (itemsIn (partsLeft m i)) ≤ most-transfers
-  pub values : used + length (valuesOf (itemsIn (partsLeft m i))) ≤ 512
+  pub values : used + length (valuesOf (itemsIn (partsLeft m i))) ≤ most-values
   pub sound : Each InnerSound (parsAt m i)
 
 pub filling-start : (m : List ℕ) (n : ℕ) → every isOctet m ≡ true → verdictOf m ≡ Accepted n → (q : Record) → q ≡ emptyRecord
@@ -52,7 +52,7 @@ pub record Next (m : List ℕ) (q : Record) (transfers used i x : ℕ) (p : Part
   pub becomes : pack (recordOf m) ≡ withParts q (p ∷ rest) transfers used
   pub commons : q .commons + 1 + length rest ≤ 6
   pub places : transfers + length (p .items) + length (itemsIn rest) ≤ most-transfers
-  pub values : used + length (valuesOf (p .items)) + length (valuesOf (itemsIn rest)) ≤ 512
+  pub values : used + length (valuesOf (p .items)) + length (valuesOf (itemsIn rest)) ≤ most-values
   pub here : InnerSound (parIn m i x)
   pub sound : Each InnerSound (parsAt m x)
 

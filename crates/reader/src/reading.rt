@@ -17,7 +17,7 @@ ghost use mathlib.Core.Path.{_≡_};
 ghost use mathlib.Core.List.{[]};
 ghost use Prim.Native.Nat.{_+_, _≤_};
 ghost use lib.ListN.{length};
-ghost use Rattle.annex.specs.Heads.{most-transfers};
+ghost use Rattle.annex.specs.Heads.{most-transfers, most-values};
 ghost use Rattle.annex.specs.Reading.{verdictOf, recordOf};
 ghost use Rattle.annex.specs.declared.Answer.the-variants.{Accepted};
 ghost use Rattle.annex.specs.Records.{valuesOf, pack};
@@ -61,7 +61,8 @@ fn part_head(header: u8, own: &[u8], transfers: u8) -> Common
 
 // The parameters of the transfer data t, put into the struct behind those that it has.
 fn with_transfers(begun: Record, t: &[u8], transfers: usize, taken: usize) -> Filled
-    requires { ⌜ (transfers + length (itemsFrom (now t)) ≤ most-transfers) × (taken + length (valuesOf (itemsFrom (now t))) ≤ 512) ⌝ }
+    requires { ⌜ (transfers + length (itemsFrom (now t)) ≤ most-transfers)
+        × (taken + length (valuesOf (itemsFrom (now t))) ≤ most-values) ⌝ }
     ensures { λ r. ⌜ r ≡ filledWith begun (itemsFrom (now (t .entry))) transfers taken ⌝ }
 {
     let mut q = begun;

@@ -10,6 +10,7 @@ ghost use mathlib.Core.Path.{_≡_};
 ghost use mathlib.Core.Bool.{_&&_};
 ghost use Prim.Native.Nat.{_+_, _≤_, _<_};
 ghost use lib.ListN.{length};
+ghost use Rattle.annex.specs.Heads.{most-octets};
 ghost use Rattle.annex.specs.Answers.{placeOf, shifted};
 ghost use Rattle.annex.specs.Reading.{transfersVerdict, dataOf, commonOf, messageVerdict};
 ghost use Rattle.annex.specs.Promises.{VerdictPromise, Gives};
@@ -48,7 +49,7 @@ fn transfers(t: &[u8]) -> Answer
 
 // C5, of whose octets after the header n are its own: the parameters behind the length octet.
 fn transfer_data(n: usize, xs: &[u8]) -> Answer
-    requires { ⌜ (1 ≤ n) × (n ≤ length (now xs)) × (length (now xs) ≤ 272) ⌝ }
+    requires { ⌜ (1 ≤ n) × (n ≤ length (now xs)) × (length (now xs) ≤ most-octets) ⌝ }
     ensures { λ r. ⌜ r ≡ dataOf n (now (xs .entry)) ⌝ }
 {
     let a = transfers(&xs[1..n]);
@@ -60,7 +61,7 @@ fn transfer_data(n: usize, xs: &[u8]) -> Answer
 
 // A common parameter whose name stood so many times before. whole: 01 and 06 have been seen.
 fn common(times: u8, whole: bool, header: u8, xs: &[u8]) -> Answer
-    requires { ⌜ length (now xs) ≤ 272 ⌝ }
+    requires { ⌜ length (now xs) ≤ most-octets ⌝ }
     ensures { λ r. ⌜ r ≡ commonOf times whole header (now (xs .entry)) ⌝ }
 {
     let a = common_form(times, header, xs);
@@ -83,7 +84,7 @@ fn both(a: bool, b: bool) -> bool
 
 // The parameters of a message, to the end mark.
 fn message(m: &[u8]) -> Answer
-    requires { ⌜ length (now m) ≤ 272 ⌝ }
+    requires { ⌜ length (now m) ≤ most-octets ⌝ }
     ensures { λ r. ⌜ r ≡ messageVerdict (now (m .entry)) ⌝ }
 {
     let mut seen = [0u8; Transfer::NAMES];

@@ -9,7 +9,7 @@ ghost use mathlib.Core.Path.{_≡_};
 ghost use Prim.Native.Nat.{_+_, _≤_};
 ghost use lib.ListN.{length};
 ghost use lib.Seq.{sets};
-ghost use Rattle.annex.specs.Packed.{rowOctets, rowsOctets};
+ghost use Rattle.annex.specs.Packed.{rowOctets, rowsOctets, row-octets};
 ghost use Rattle.annex.specs.Promises.{OctetSpansPromise};
 ghost use Rattle.annex.specs.Spans.{rowsOf};
 ghost use Rattle.laws.specs.Rows.{Accepts};
@@ -17,7 +17,7 @@ ghost use Rattle.rows.specs.Tables.{Puts};
 
 // Writes a row from `at` on: offset, header, length of the contents; the two numbers in two octets each, least first.
 fn put_row(row: Row, at: usize, table: &mut [u8])
-    requires { ⌜ at + 5 ≤ length (now table) ⌝ }
+    requires { ⌜ at + row-octets ≤ length (now table) ⌝ }
     ensures { λ _. ⌜ now (table .exit) ≡ sets (now (table .entry)) at (rowOctets row) ⌝ }
 {
     let offset = row.offset;

@@ -9,7 +9,7 @@ use borrow.Author.Tests.{eq-eqb, le-leb, ltb-true}
 use lib.Dec.{eqb, leb}
 use lib.ListN.{length, take, drop, length-append}
 use lib.Seq.{take-append-seam, drop-append-seam}
-use Rattle.annex.specs.Heads.{transfer-data, most-commons, most-transfers, call-number-below}
+use Rattle.annex.specs.Heads.{transfer-data, most-commons, most-transfers, call-number-below, most-values}
 use Rattle.annex.specs.Items.{Item, Part, markedItem, part, valuePart, dataPart}
 use Rattle.annex.specs.Allowed.{Each, every, isOctet, itemsIn, valueRight, valueFits, Allowed}
 use Rattle.annex.specs.Reading.{octetAllowed, verdictOf, recordOf}
@@ -140,7 +140,7 @@ parts-back (p ∷ r) t h f =
 -- ---- a record
 
 -- within the limits no parameter has too many values for two octets
-few-values : (is : List Item) → length (valuesOf is) ≤ 512 → Each Few is
+few-values : (is : List Item) → length (valuesOf is) ≤ most-values → Each Few is
 unfolding valuesOf Few
 few-values [] h = tt
 few-values (i ∷ is) h =
@@ -161,7 +161,7 @@ image-back r w h =
       eq-eqb n n refl,
       le-leb (length r) most-commons (w .commons),
       le-leb (length (itemsIn r)) most-transfers (w .transfers),
-      le-leb (length (valuesOf (itemsIn r))) 512 (w .values),
+      le-leb (length (valuesOf (itemsIn r))) most-values (w .values),
     )
 
 -- ---- an allowed record

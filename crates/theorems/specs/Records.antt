@@ -26,6 +26,7 @@ use Rattle.annex.specs.Heads.{
   nameUsed,
   pliRight,
   oftenOf,
+  most-values,
 }
 use Rattle.annex.specs.Items.{Item, Part, contentsOf, contentsBy, heldAs, valuePart}
 use Rattle.annex.specs.declared.Holding.{Holding}
@@ -360,7 +361,7 @@ allowed-once r a = at-most (λ x. 1) (partNamesOf r) (a .once)
 pub record Within (r : List Part) : Type 0 where
   pub commons : length r ≤ most-commons
   pub transfers : length (itemsIn r) ≤ most-transfers
-  pub values : length (valuesOf (itemsIn r)) ≤ 512
+  pub values : length (valuesOf (itemsIn r)) ≤ most-values
 
 pub allowed-within : (r : List Part) → Allowed r → Within r
 allowed-within r a =

@@ -8,7 +8,7 @@ use borrow.Author.Tests.{le-leb}
 use lib.Dec.{eqb}
 use lib.ListN.{length, take, drop, replicate, length-append, length-map}
 use lib.Seq.{take-append-seam, drop-append-seam, take-at, drop-at}
-use Rattle.annex.specs.Heads.{transfer-data, most-commons, most-transfers}
+use Rattle.annex.specs.Heads.{transfer-data, most-commons, most-transfers, most-values}
 use Rattle.annex.specs.Items.{Item, Part, part, valuePart}
 use Rattle.annex.specs.Allowed.{every, Each, isOctet, HeldItem, HeldPart, Held, ownPart, itemsIn}
 use Rattle.annex.specs.Records.{
@@ -104,7 +104,7 @@ unfolding view pack pad
 view-pack r h =
     rw (commons-pack r)
     (view-parts r (replicate (most-transfers - length (map headOf (itemsIn r))) noTransfer)
-    (replicate (512 - length (valuesOf (itemsIn r))) 0) h)
+    (replicate (most-values - length (valuesOf (itemsIn r))) 0) h)
 
 transfers-pack : (r : List Part) → take (length (itemsIn r)) (pack r .transfer) ≡ map headOf (itemsIn r)
 unfolding pack pad
@@ -123,7 +123,7 @@ whole-pack r h w =
       lengths-heads (itemsIn r),
       le-leb (length r) most-commons (w .commons),
       le-leb (length (itemsIn r)) most-transfers (w .transfers),
-      le-leb (length (valuesOf (itemsIn r))) 512 (w .values),
+      le-leb (length (valuesOf (itemsIn r))) most-values (w .values),
     )
 
 -- ---- what any struct is viewed as
@@ -137,9 +137,9 @@ OctetTransfer t = t .header < 256
 
 -- what a struct of the code has by its types, as far as a record needs it
 pub record FitsStruct (s : Record) : Type 0 where
-  pub commons-long : length (s .common) ≡ 6
+  pub commons-long : length (s .common) ≡ most-commons
   pub transfers-long : length (s .transfer) ≡ most-transfers
-  pub values-long : length (s .values) ≡ 512
+  pub values-long : length (s .values) ≡ most-values
   pub common-octets : Each OctetCommon (s .common)
   pub transfer-octets : Each OctetTransfer (s .transfer)
   pub value-octets : every isOctet (s .values) ≡ true

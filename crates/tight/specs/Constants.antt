@@ -320,7 +320,8 @@ rows-differ : allDiffer rows ≡ true
 unfolding afterOf extentOf commonExtentOf leadOf nameUsed pliRight oftenOf zeroesOf formOf halves joined digitOf codeOf isCode halvesFault
     digitsFault digitsOf packed dialledFault faultOf holdingOf itemOf contentsOf ownOf layoutItem lengthRight faultIn walk transferBy
     octetAllowed commonForm endOf commonBy messageVerdictBy verdictBy commonsBy commonIn commonFound pad valuesOf pack lengthsOf
-    transfersSum isWhole viewItems viewParts view overLimits itemWriting layoutPart pars soughtIn stretchAt stretchHere rowHere nextOf put spliced
+    transfersSum isWhole viewItems viewParts view overLimits itemWriting layoutPart pars soughtIn stretchAt stretchHere rowHere nextOf put
+    spliced
 rows-differ = refl
 
 -- every row's programs are shut out

@@ -13,7 +13,18 @@ use Rattle.annex.specs.Heads.{transfer-data, most-transfers}
 use Rattle.annex.specs.Items.{Item, part, valuePart}
 use Rattle.annex.specs.Allowed.{Each, every, isOctet}
 use Rattle.annex.specs.Records.{headOf, transferCount, transfersSum, commonsIn, isWhole, view, commonHead}
-use Rattle.annex.specs.Image.{imageHead, imageItem, imageItems, imageCommon, imagePart, imageParts, imageOf, imagingOf, imagedIn}
+use Rattle.annex.specs.Image.{
+  imageHead,
+  imageItem,
+  imageItems,
+  imageCommon,
+  imagePart,
+  imageParts,
+  imageOf,
+  imagingOf,
+  imagedIn,
+  transfer-head,
+}
 use Rattle.annex.specs.declared.Answer.{Answer}
 use Rattle.annex.specs.declared.Answer.the-variants.{Accepted, Refused}
 use Rattle.annex.specs.declared.Common.{Common}
@@ -73,7 +84,7 @@ pub item-octets : (t : Transfer) (i : Item) (s : List ℕ) → t ≡ headOf i �
 unfolding imageItem
 item-octets t i s e f = rw (e, ← f)
 
-pub length-item : (i : Item) → length (imageItem i) ≡ 11 + length (i .values)
+pub length-item : (i : Item) → length (imageItem i) ≡ transfer-head + length (i .values)
 unfolding imageItem
 length-item i = omega arith
 

@@ -8,7 +8,7 @@ use borrow.Author.Tests.{lt-ltb}
 use lib.Dec.{eqb}
 use lib.ListN.{length, take, drop, length-append, length-take, length-drop}
 use lib.Seq.{length-take-le}
-use Rattle.annex.specs.Heads.{transfer-data, most-transfers}
+use Rattle.annex.specs.Heads.{transfer-data, most-transfers, most-commons, most-values}
 use Rattle.annex.specs.declared.Marks.the-variants.{Unmarked, Notified, Verified, Typed}
 use Rattle.annex.specs.Items.{Item, Part, part, valuePart, heldAs, ownBy, ownOf}
 use Rattle.annex.specs.declared.Holding.{Holding}
@@ -27,7 +27,7 @@ use Rattle.annex.specs.Records.{
   commonsIn,
   view,
 }
-use Rattle.annex.specs.Image.{imageHead, imageItem, imageItems, imageCommon, imagePart, imageParts, imageOf}
+use Rattle.annex.specs.Image.{imageHead, imageItem, imageItems, imageCommon, imagePart, imageParts, imageOf, common-head, transfer-head}
 use Rattle.annex.specs.declared.Common.{Common}
 use Rattle.annex.specs.declared.Transfer.{Transfer}
 use Rattle.annex.specs.declared.Record.{Record}
@@ -40,7 +40,7 @@ use Rattle.to_image.specs.Laying.{OctetHead, head-octets, common-octets,
 
 -- ---- lengths
 
-pub items-long : (is : List Item) → length (imageItems is) ≡ 11 * length is + length (valuesOf is)
+pub items-long : (is : List Item) → length (imageItems is) ≡ transfer-head * length is + length (valuesOf is)
 unfolding imageItems valuesOf
 items-long [] = refl
 items-long (i ∷ is) =
@@ -51,11 +51,11 @@ unfolding imageItems
 items-append [] js = refl
 items-append (i ∷ is) js = rw (items-append is js, append-assoc (imageItem i) (imageItems is) (imageItems js))
 
-part-long : (p : Part) → length (imagePart p) ≡ 6 + length (imageItems (p .items))
+part-long : (p : Part) → length (imagePart p) ≡ common-head + length (imageItems (p .items))
 unfolding imagePart
 part-long p = omega arith
 
-pub parts-long : (r : List Part) → length (imageParts r) ≡ 6 * length r + length (imageItems (itemsIn r))
+pub parts-long : (r : List Part) → length (imageParts r) ≡ common-head * length r + length (imageItems (itemsIn r))
 unfolding imageParts imageItems
 parts-long [] = refl
 parts-long (p ∷ r) =
@@ -75,13 +75,14 @@ values-view (t ∷ ts) vs h =
     rw (own-values (rawItem t own), length-append own (valuesOf rest))
     (omega (arith, l, values-view ts (drop (t .len) vs) (rw (length-drop (t .len) vs) (omega arith))))
 
-pub image-length : (q : Record) → Whole q → length (q .common) ≡ 6 → length (q .transfer) ≡ most-transfers → length (q .values) ≡ 512 →
+pub image-length : (q : Record) → Whole q → length (q .common) ≡ most-commons → length (q .transfer) ≡ most-transfers
+    → length (q .values) ≡ most-values →
     let n = transfersSum (commonsIn q) in
-    length (imageOf (view q)) ≡ 1 + (6 * q .commons + 11 * n) + usedAt q n
+    length (imageOf (view q)) ≡ 1 + (common-head * q .commons + transfer-head * n) + usedAt q n
 unfolding imageOf lengthsOf
 image-length q w c t v =
     let n = transfersSum (commonsIn q) in
-    let is : length (imageItems (itemsIn (view q))) ≡ 11 * length (itemsAt q 0 n) + length (valuesOf (itemsAt q 0 n)) =
+    let is : length (imageItems (itemsIn (view q))) ≡ transfer-head * length (itemsAt q 0 n) + length (valuesOf (itemsAt q 0 n)) =
     rw (items-all q) (items-long (itemsAt q 0 n)) in
     let vs : length (valuesOf (itemsAt q 0 n)) ≡ usedAt q n =
     values-view (take n (q .transfer)) (q .values) (omega (arith, w .within .values)) in
@@ -162,9 +163,9 @@ parts-octets (p ∷ r) h =
 
 -- what the struct has by its types, as far as its image needs it
 pub record FitsImage (q : Record) : Type 0 where
-  pub commons-long : length (q .common) ≡ 6
+  pub commons-long : length (q .common) ≡ most-commons
   pub transfers-long : length (q .transfer) ≡ most-transfers
-  pub values-long : length (q .values) ≡ 512
+  pub values-long : length (q .values) ≡ most-values
   pub common-counts : Each OctetCounts (q .common)
   pub transfer-heads : Each OctetHead (q .transfer)
   pub value-octets : every isOctet (q .values) ≡ true

@@ -17,7 +17,7 @@ ghost use Prim.Native.Nat.{ℕ, _+_, _≤_};
 ghost use lib.ListN.{length};
 ghost use Rattle.annex.specs.Items.{ownMarks, ownFields};
 ghost use Rattle.annex.specs.Records.{headOf, rawItem, view, itemFrom};
-ghost use Rattle.annex.specs.Image.{imageHead, imageItem, imageItems, imageCommon, imageParts, imageOf};
+ghost use Rattle.annex.specs.Image.{imageHead, imageItem, imageItems, imageCommon, imageParts, imageOf, common-head, transfer-head};
 ghost use Rattle.annex.specs.Promises.{ToImagePromise};
 ghost use Rattle.annex.specs.Memory.{atFront};
 ghost use Rattle.limits.specs.Along.{itemsAt, Within, Whole};
@@ -70,7 +70,7 @@ fn own_head(t: Transfer, values: &[u8]) -> Transfer
 
 // Writes the head of a transfer parameter.
 fn put_transfer(t: Transfer, out: &mut [u8])
-    requires { ⌜ 11 ≤ length (now out) ⌝ }
+    requires { ⌜ transfer-head ≤ length (now out) ⌝ }
     ensures { λ r. ⌜ now (out .exit) ≡ atFront (imageHead t) (now (out .entry)) ⌝ }
 {
     let len = t.len;
@@ -89,7 +89,7 @@ fn put_transfer(t: Transfer, out: &mut [u8])
 
 // Writes a transfer parameter: its head, then its values.
 fn put_item(t: Transfer, values: &[u8], out: &mut [u8])
-    requires { ⌜ (length (now values) ≡ t .len) × (11 + t .len ≤ length (now out)) ⌝ }
+    requires { ⌜ (length (now values) ≡ t .len) × (transfer-head + t .len ≤ length (now out)) ⌝ }
     ensures { λ r. ⌜ now (out .exit) ≡ atFront (imageItem (itemFrom t (now (values .entry)))) (now (out .entry)) ⌝ }
 {
     let own = own_head(t, values);
@@ -132,7 +132,7 @@ fn own_common(c: Common) -> Common
 
 // Writes the head of a common parameter.
 fn put_common(c: Common, out: &mut [u8])
-    requires { ⌜ 6 ≤ length (now out) ⌝ }
+    requires { ⌜ common-head ≤ length (now out) ⌝ }
     ensures { λ r. ⌜ now (out .exit) ≡ atFront (imageCommon c) (now (out .entry)) ⌝ }
 {
     let value = c.value;

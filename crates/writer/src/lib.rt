@@ -15,6 +15,7 @@ use units::lead;
 ghost use mathlib.Core.Path.{_≡_};
 ghost use Prim.Native.Nat.{_+_, _≤_};
 ghost use lib.ListN.{length};
+ghost use Rattle.annex.specs.Heads.{most-values};
 ghost use Rattle.annex.specs.Layout.{layoutItem, layoutItems, layout};
 ghost use Rattle.annex.specs.Records.{view, itemFrom};
 ghost use Rattle.annex.specs.Promises.{WritePromise};
@@ -24,7 +25,7 @@ ghost use Rattle.refusing.specs.Laying.{headOctets, dataLaid};
 
 // How many octets a transfer parameter takes.
 fn item_len(t: Transfer, values: &[u8]) -> usize
-    requires { ⌜ length (now values) ≤ 512 ⌝ }
+    requires { ⌜ length (now values) ≤ most-values ⌝ }
     ensures { λ r. ⌜ r ≡ length (layoutItem (itemFrom t (now (values .entry)))) ⌝ }
 {
     let before = 1 + lead(extent_of(t.header));

@@ -10,8 +10,8 @@ use borrow.Author.Needs.{needs}
 use borrow.Author.Tests.{not-true, not-false, eq-eqb, ne-eqb}
 use lib.Dec.{eqb}
 use lib.ListN.{length, drop, length-drop}
-use Rattle.annex.specs.Heads.{most-transfers}
-use Rattle.annex.specs.Image.{itemsFront, commonFront, partsFront, noImage, imagedBy}
+use Rattle.annex.specs.Heads.{most-transfers, most-commons, most-values}
+use Rattle.annex.specs.Image.{itemsFront, commonFront, partsFront, noImage, imagedBy, common-head}
 use Rattle.annex.specs.declared.Answer.the-variants.{Accepted}
 use Rattle.laws.specs.Parts.{to-end}
 use Rattle.laws.specs.Filling.{empty-packed}
@@ -32,9 +32,9 @@ use Rattle.from_image.proofs.fill.Tie as tie
 abbrev Inv-loop : tie.InvT-loop
 Inv-loop s count q₀ transfers₀ used₀ i₀ left₀ q transfers used i left =
     (i ≤ length s) ×
-    (q .commons ≤ 6) ×
+    (q .commons ≤ most-commons) ×
     (transfers ≤ most-transfers) ×
-    (used ≤ 512) ×
+    (used ≤ most-values) ×
     (imagedBy (length s) (partsFront count s) ≡ imagedFrom (length s) q transfers used i (partsFront left (drop i s)))
 
 abbrev μ-loop : tie.MeasureT-loop
@@ -86,7 +86,7 @@ returns-2 c =
     (rw (length-drop (v .i) (octetsOf (l .before))) (c .before .if2 .taken)))
 
 -- there is a head
-head-here : (c : tie.Else2 Inv-loop μ-loop) → let a = c .before .before .before in 6 ≤ length (drop (a .loop .i) (octetsOf a))
+head-here : (c : tie.Else2 Inv-loop μ-loop) → let a = c .before .before .before in common-head ≤ length (drop (a .loop .i) (octetsOf a))
 head-here c =
     let a = c .before .before .before in
     rw (length-drop (a .loop .i) (octetsOf a)) (c .if2 .left)
@@ -117,13 +117,13 @@ filled-is : (c : tie.After-with-transfers Inv-loop μ-loop) →
     let a = h .before .before .before .before .before in
     c .with-transfers .result
     ≡ filledBy (a .loop .q) (a .loop .transfers) (a .loop .used) 0
-    (itemsFront (h .common-head .result .transfers) (drop (a .loop .i + 6) (octetsOf a)))
+    (itemsFront (h .common-head .result .transfers) (drop (a .loop .i + common-head) (octetsOf a)))
 filled-is c =
     let h = c .before .before .before in
     let a = h .before .before .before .before .before in
     c .with-transfers .ensures
     ∙ ap (λ (d : List ℕ). filledBy (a .loop .q) (a .loop .transfers) (a .loop .used) 0 (itemsFront (h .common-head .result .transfers) d))
-    (to-end (a .loop .i + 6) (octetsOf a))
+    (to-end (a .loop .i + common-head) (octetsOf a))
 
 returns-3 : tie.Need-returns-3 Inv-loop μ-loop
 returns-3 c =
@@ -146,8 +146,9 @@ next-is : (c : tie.Else3 Inv-loop μ-loop) →
     let s = octetsOf a in
     let v = a .loop in
     let f = w .with-transfers .result in
-    Next (length s) (v .q) (v .transfers) (v .used) (v .i) (length (drop (v .i + 6) s)) (partsFront (suc (v .left - 1)) (drop (v .i) s))
-    (partsFront (v .left - 1) (drop (v .i + 6 + f .octets) s)) f (h .common-head .result)
+    Next (length s) (v .q) (v .transfers) (v .used) (v .i) (length (drop (v .i + common-head) s))
+    (partsFront (suc (v .left - 1)) (drop (v .i) s))
+    (partsFront (v .left - 1) (drop (v .i + common-head + f .octets) s)) f (h .common-head .result)
 next-is c =
     let w = c .before .before in
     let h = w .before .before .before in
@@ -159,7 +160,7 @@ next-is c =
 
 -- the place for the head
 place-here : (c : tie.After-q Inv-loop μ-loop)
-    → c .before .before .before .before .before .before .before .before .before .before .before .loop .q .commons < 6
+    → c .before .before .before .before .before .before .before .before .before .before .before .loop .q .commons < common-head
 place-here c = c .before .before .before .before .before .before .before .before .before .if1 .left
 
 mul-c : tie.Need-mul-c Inv-loop μ-loop
@@ -178,12 +179,12 @@ cast-q c = omega (arith, place-here c)
 ends : (c : tie.Else3 Inv-loop μ-loop) →
     let w = c .before .before in
     let a = w .before .before .before .before .before .before .before .before in
-    a .loop .i + 6 + w .with-transfers .result .octets ≤ length (octetsOf a)
+    a .loop .i + common-head + w .with-transfers .result .octets ≤ length (octetsOf a)
 ends c =
     let w = c .before .before in
     let h = w .before .before .before in
     let a = h .before .before .before .before .before in
-    omega (arith, next-is c .octets, length-drop (a .loop .i + 6) (octetsOf a), h .before .before .if2 .left)
+    omega (arith, next-is c .octets, length-drop (a .loop .i + common-head) (octetsOf a), h .before .before .if2 .left)
 
 add-i : tie.Need-add-i Inv-loop μ-loop
 add-i c =

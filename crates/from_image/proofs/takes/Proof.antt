@@ -6,7 +6,7 @@ use borrow.Author.Needs.{needs}
 use borrow.Author.Tests.{le-leb, lt-leb, lt-ltb, le-ltb}
 use lib.Dec.{leb}
 use lib.ListN.{length}
-use Rattle.annex.specs.Heads.{most-transfers}
+use Rattle.annex.specs.Heads.{most-transfers, most-values}
 use Rattle.annex.specs.Image.{headFront, itemSize}
 use Rattle.annex.specs.declared.Transfer.{Transfer}
 use Rattle.from_image.specs.Filling.{fitsAt}
@@ -39,7 +39,7 @@ returns-3 c =
 -- and there is a place
 placed : (c : tie.Else3) → let a =
     c .before .before .before .before .before .before .args in fitsAt (a .s .now) (a .k) (a .used)
-    ≡ leb (a .used + headFront (a .s .now) .len) 512
+    ≡ leb (a .used + headFront (a .s .now) .len) most-values
 placed c =
     let a = c .before .before .before .before .before .before .args in
     rw (le-leb (itemSize (a .s .now)) (length (a .s .now)) (whole (c .before)), lt-ltb (a .k) most-transfers (omega arith))
@@ -47,12 +47,16 @@ placed c =
 returns-4 : tie.Need-returns-4
 returns-4 c =
     let a = c .before .before .before .before .before .before .before .args in
-    sym (placed (c .before) ∙ lt-leb (a .used + headFront (a .s .now) .len) 512 (omega (arith, len-is (c .before .before .before .before))))
+    sym
+    (placed (c .before)
+    ∙ lt-leb (a .used + headFront (a .s .now) .len) most-values (omega (arith, len-is (c .before .before .before .before))))
 
 returns-5 : tie.Need-returns-5
 returns-5 c =
     let a = c .before .before .before .before .before .before .before .args in
-    sym (placed (c .before) ∙ le-leb (a .used + headFront (a .s .now) .len) 512 (omega (arith, len-is (c .before .before .before .before))))
+    sym
+    (placed (c .before)
+    ∙ le-leb (a .used + headFront (a .s .now) .len) most-values (omega (arith, len-is (c .before .before .before .before))))
 
 pub takes-spec : {M : Type 1} → statement M
 takes-spec =

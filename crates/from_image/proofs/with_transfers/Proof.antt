@@ -10,8 +10,8 @@ use borrow.Author.Needs.{needs}
 use borrow.Author.Tests.{not-true, not-false, le-leb}
 use lib.ListN.{length, take, drop, length-drop}
 use lib.Seq.{sets, length-take-le}
-use Rattle.annex.specs.Heads.{most-transfers}
-use Rattle.annex.specs.Image.{headFront, itemsFront}
+use Rattle.annex.specs.Heads.{most-transfers, most-values}
+use Rattle.annex.specs.Image.{headFront, itemsFront, transfer-head}
 use Rattle.annex.specs.declared.Transfer.{Transfer}
 use Rattle.laws.specs.Parts.{to-end}
 use Rattle.from_image.specs.Filling.{fitsAt, filledBy, Room, has-room, filled-stop, filled-turn, filled-end}
@@ -22,7 +22,7 @@ abbrev Inv-loop : tie.InvT-loop
 Inv-loop s count transfers taken q₀ k₀ used₀ i₀ left₀ q k used i left =
     (i ≤ length s) ×
     (k ≤ most-transfers) ×
-    (used ≤ 512) ×
+    (used ≤ most-values) ×
     (filledBy q₀ k₀ used₀ 0 (itemsFront count s) ≡ filledBy q k used i (itemsFront left (drop i s)))
 
 abbrev μ-loop : tie.MeasureT-loop
@@ -87,7 +87,7 @@ room c =
 -- ends within the octets
 ends : (c : tie.Else1 Inv-loop μ-loop) →
     let a = c .before .before .before .before in
-    a .loop .i + 11 + headFront (hereOf a) .len ≤ length (octetsOf a)
+    a .loop .i + transfer-head + headFront (hereOf a) .len ≤ length (octetsOf a)
 ends c =
     let a = c .before .before .before .before in
     omega (arith, room c .whole, length-drop (a .loop .i) (octetsOf a))
@@ -123,17 +123,17 @@ stored : (c : tie.After-open-contents Inv-loop μ-loop) →
     let h = c .before .before .before .before in
     let a = h .before .before .before .before .before .before in
     c .open-contents .last .1 .1 .0
-    ≡ sets (a .loop .q .values) (a .loop .used) (take (headFront (hereOf a) .len) (drop (a .loop .i + 11) (octetsOf a)))
+    ≡ sets (a .loop .q .values) (a .loop .used) (take (headFront (hereOf a) .len) (drop (a .loop .i + transfer-head) (octetsOf a)))
 stored c =
     let h = c .before .before .before .before in
     let a = h .before .before .before .before .before .before in
     let s = octetsOf a in
     let n = headFront (hereOf a) .len in
     let i = a .loop .i in
-    let m : i + 11 + h .transfer-head .result .len - (i + 11) ≡ n = omega (arith, len-is h) in
-    let l : length (take n (drop (i + 11) s)) ≡ n =
-    length-take-le n (drop (i + 11) s) (rw (length-drop (i + 11) s) (omega (arith, ends (h .before .before)))) in
-    c .open-contents .ensures .1 ∙ rw (m, l, le-leb (a .loop .used + n) 512 (room (h .before .before) .values))
+    let m : i + transfer-head + h .transfer-head .result .len - (i + transfer-head) ≡ n = omega (arith, len-is h) in
+    let l : length (take n (drop (i + transfer-head) s)) ≡ n =
+    length-take-le n (drop (i + transfer-head) s) (rw (length-drop (i + transfer-head) s) (omega (arith, ends (h .before .before)))) in
+    c .open-contents .ensures .1 ∙ rw (m, l, le-leb (a .loop .used + n) most-values (room (h .before .before) .values))
 
 mul-t : tie.Need-mul-t Inv-loop μ-loop
 mul-t c = omega (arith, room (c .before .before .before .before .before .before) .place)

@@ -4,7 +4,7 @@ use native.Mathlib.Omega.{arith}
 use mathlib.Core.Path.{_≡_, refl, ap}
 use borrow.Author.Needs.{needs}
 use lib.ListN.{length}
-use Rattle.annex.specs.Heads.{most-transfers}
+use Rattle.annex.specs.Heads.{most-transfers, most-values}
 use Rattle.annex.specs.Allowed.{contentsSum}
 use Rattle.annex.specs.Records.{rawItem, lengthsOf, itemFrom}
 use Rattle.laws.specs.Laid.{own-values}
@@ -36,7 +36,7 @@ here c =
     let a = c .before in
     let st = a .before .before in
     let l : length (st .args .t1 .transfer) ≡ most-transfers = search (needs, length-mapped) in
-    let v : length (st .args .t1 .values) ≡ 512 = search needs in
+    let v : length (st .args .t1 .values) ≡ most-values = search needs in
     turn (st .args .t1) (a .loop .k) (st .args .n) (a .loop .used) l v (st .pre) (c .loop-test .taken) (a .loop .inv .1)
 
 mul-t : tie.Need-mul-t Inv-loop μ-loop

@@ -3,6 +3,7 @@ use mathlib.Core.Path.{ap}
 use borrow.Author.Needs.{needs}
 use borrow.Author.Tests.{le-leb, lt-leb}
 use lib.Dec.{leb}
+use Rattle.annex.specs.Heads.{most-values}
 use Rattle.annex.specs.Records.{isWhole}
 use Rattle.limits.proofs.is_whole.Statement.{statement}
 use Rattle.limits.proofs.is_whole.Tie as tie
@@ -23,7 +24,7 @@ returns-3 c =
     let e = c .before in
     let s = e .before in
     rw (le-leb _ _ (s .before .if1 .left), ← s .transfers-sum .ensures, le-leb _ _ (e .if2 .left))
-    (ap (λ n. leb n 512) (c .values-before .ensures))
+    (ap (λ n. leb n most-values) (c .values-before .ensures))
 
 pub is-whole-spec : {M : Type 1} → statement M
 is-whole-spec =

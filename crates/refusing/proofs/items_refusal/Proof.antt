@@ -5,7 +5,7 @@ use native.Mathlib.Omega.{arith}
 use mathlib.Core.Path.{_≡_, sym, _∙_}
 use borrow.Author.Needs.{needs}
 use lib.ListN.{length}
-use Rattle.annex.specs.Heads.{most-transfers}
+use Rattle.annex.specs.Heads.{most-transfers, most-values}
 use Rattle.annex.specs.Units.{nameOf}
 use Rattle.annex.specs.Items.{Item}
 use Rattle.annex.specs.Records.{rawItem, itemFrom}
@@ -46,7 +46,7 @@ here c =
     let st = a .before .before .before in
     let q = st .args .t1 in
     let l : length (q .transfer) ≡ most-transfers = search (needs, length-mapped) in
-    let v : length (q .values) ≡ 512 = search needs in
+    let v : length (q .values) ≡ most-values = search needs in
     turn q (a .loop .k) (st .args .first + st .args .n) (a .loop .used) l v (st .pre .0) (c .loop-test .taken) (a .loop .inv .2)
 
 mul-t : tie.Need-mul-t Inv-loop μ-loop

@@ -5,6 +5,7 @@ use mathlib.Core.Path.{_≡_, ap, _∙_}
 use mathlib.Core.List.{List, [], _∷_}
 use borrow.Author.Needs.{needs}
 use lib.ListN.{length, length-set, length-drop}
+use Rattle.annex.specs.Heads.{most-commons}
 use Rattle.annex.specs.Records.{view}
 use Rattle.annex.specs.Image.{imageParts, imageOf}
 use Rattle.annex.specs.Memory.{lowOctets}
@@ -36,7 +37,7 @@ put-parts-requires c κs =
 count-is : (c : tie.Start) → c .args .q .commons ∷ [] ≡ lowOctets (length (view (c .args .q)) ∷ [])
 count-is c =
     let q = c .args .q in
-    let l : length (q .common) ≡ 6 = search (needs, length-mapped) in
+    let l : length (q .common) ≡ most-commons = search (needs, length-mapped) in
     let m = parts-many q (omega (arith, l, c .pre .0 .commons)) in
     ap (λ (n : ℕ). n ∷ []) (omega (arith, m, c .pre .0 .commons))
 

@@ -5,10 +5,10 @@ use mathlib.Core.Path.{_≡_, sym, _∙_}
 use mathlib.Core.List.{[], _++_}
 use borrow.Author.Needs.{needs}
 use lib.ListN.{length}
-use Rattle.annex.specs.Heads.{most-transfers}
+use Rattle.annex.specs.Heads.{most-transfers, most-values}
 use Rattle.annex.specs.Items.{Item}
 use Rattle.annex.specs.Records.{rawItem, itemFrom}
-use Rattle.annex.specs.Image.{imageItem, imageItems}
+use Rattle.annex.specs.Image.{imageItem, imageItems, transfer-head}
 use Rattle.laws.specs.Laid.{own-values}
 use Rattle.limits.specs.Along.{transferAt, ownAt, usedAt, itemsAt, Turn, turn, items-end, length-mapped}
 use Rattle.laws.specs.Rooms.{Laid, laid-start, laid-length, laid-at, laid-count, laid-end, laid-fits, laid-room, laid-turn}
@@ -43,7 +43,7 @@ here c =
     let st = a .before .before .before .before in
     let q = st .args .t1 in
     let l : length (q .transfer) ≡ most-transfers = search (needs, length-mapped) in
-    let v : length (q .values) ≡ 512 = search needs in
+    let v : length (q .values) ≡ most-values = search needs in
     turn q (a .loop .k) (st .args .first + st .args .n) (a .loop .used) l v (st .pre .0) (c .loop-test .taken) (a .loop .inv .2)
 
 abbrev itemAt : (c : tie.In-loop Inv-loop μ-loop) → Item
@@ -60,7 +60,7 @@ values-long c = own-long (c .before .before .before .before .before .args .t1) (
 
 item-long : (c : tie.In-loop Inv-loop μ-loop) →
     let q = c .before .before .before .before .before .args .t1 in
-    11 + transferAt q (c .before .loop .k) .len ≡ length (imageItem (itemAt c))
+    transfer-head + transferAt q (c .before .loop .k) .len ≡ length (imageItem (itemAt c))
 item-long c =
     let q = c .before .before .before .before .before .args .t1 in
     let k = c .before .loop .k in
@@ -142,7 +142,7 @@ loop-again c =
       omega (arith, i .loop-test .taken),
       here i .next,
       laid-turn (a .loop .inv .3) (st .pre .1) (imageItem (itemAt i)) _ (left-is i) (p .put-item .last .1 .1 .0)
-          (11 + transferAt (st .args .t1) (a .loop .k) .len) (p .put-item .ensures) (item-long i),
+          (transfer-head + transferAt (st .args .t1) (a .loop .k) .len) (p .put-item .ensures) (item-long i),
     )
 
 same-length : tie.Need-same-length Inv-loop μ-loop

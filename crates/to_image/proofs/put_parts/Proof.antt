@@ -6,9 +6,9 @@ use mathlib.Core.Path.{_≡_}
 use mathlib.Core.List.{List, [], _++_}
 use borrow.Author.Needs.{needs}
 use lib.ListN.{length}
-use Rattle.annex.specs.Heads.{most-transfers}
+use Rattle.annex.specs.Heads.{most-transfers, most-commons}
 use Rattle.annex.specs.Records.{transfersSum, commonsIn, view}
-use Rattle.annex.specs.Image.{imageParts}
+use Rattle.annex.specs.Image.{imageParts, common-head}
 use Rattle.limits.specs.Along.{itemsAt, partsAt, transfersAt, parts-start, parts-end, length-mapped}
 use Rattle.laws.specs.Rooms.{Laid, laid-start, laid-length, laid-at, laid-end, laid-fits, laid-room, laid-turn}
 use Rattle.to_image.specs.Laying.{partOctets, PartTurn, part-turn}
@@ -31,7 +31,7 @@ loop-holds c =
     (omega arith, omega arith, rw (← parts-start (a .t1)) (laid-start (a .out .now) whole))
 
 -- the head at k lies within the array
-place : (c : tie.In-loop Inv-loop μ-loop) → c .before .loop .k < 6
+place : (c : tie.In-loop Inv-loop μ-loop) → c .before .loop .k < common-head
 place c = omega (arith, c .before .before .before .pre .0 .commons)
 
 mul-own-common : tie.Need-mul-own-common Inv-loop μ-loop
@@ -46,7 +46,7 @@ here c =
     let a = c .before in
     let st = a .before .before in
     let q = st .args .t1 in
-    let l : length (q .common) ≡ 6 = search (needs, length-mapped) in
+    let l : length (q .common) ≡ most-commons = search (needs, length-mapped) in
     let t : length (q .transfer) ≡ most-transfers = search (needs, length-mapped) in
     part-turn q (a .loop .k) (a .loop .first) (c .loop-test .taken) (omega (arith, l, st .pre .0 .commons)) t (st .pre .0) (a .loop .inv .1)
 

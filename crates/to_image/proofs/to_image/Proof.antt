@@ -9,7 +9,7 @@ use borrow.Author.Needs.{needs, elem-fits-field}
 use mir.Syntax.{w8}
 use lib.ListN.{length, getD, drop}
 use Rattle.annex.specs.Records.{transfersSum, commonsIn, isWhole, view}
-use Rattle.annex.specs.Image.{imageOf}
+use Rattle.annex.specs.Image.{imageOf, common-head, transfer-head}
 use Rattle.annex.specs.Memory.{atFront}
 use Rattle.annex.specs.declared.Answer.the-variants.{Accepted}
 use Rattle.annex.proofs.Common.{the-field as common-field}
@@ -82,7 +82,7 @@ add-len-2 c =
 long : (c : tie.After-values-before) →
     let t = c .before .before in
     let q = t .before .before .before .before .before .args .held in
-    1 + (6 * q .commons + 11 * t .before .a .given .0 .0) + c .values-before .result ≡ length (imageOf (view q))
+    1 + (common-head * q .commons + transfer-head * t .before .a .given .0 .0) + c .values-before .result ≡ length (imageOf (view q))
 long c =
     let t = c .before .before in
     let st = t .before .before .before .before .before in

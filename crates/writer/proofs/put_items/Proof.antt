@@ -6,7 +6,7 @@ use mathlib.Core.List.{[], _++_}
 use borrow.Author.Needs.{needs}
 use borrow.Author.Tests.{le-leb}
 use lib.ListN.{length, take, drop}
-use Rattle.annex.specs.Heads.{most-transfers}
+use Rattle.annex.specs.Heads.{most-transfers, most-values}
 use Rattle.annex.specs.Items.{Item}
 use Rattle.annex.specs.Layout.{layoutItem, layoutItems}
 use Rattle.annex.specs.Memory.{atFront}
@@ -47,7 +47,7 @@ here c =
     let st = a .before .before .before .before in
     let q = st .args .t1 in
     let l : length (q .transfer) ≡ most-transfers = search (needs, length-mapped) in
-    let v : length (q .values) ≡ 512 = search needs in
+    let v : length (q .values) ≡ most-values = search needs in
     turn q (a .loop .k) (st .args .first + st .args .n) (a .loop .used) l v (st .pre .0) (c .loop-test .taken) (a .loop .inv .2)
 
 abbrev itemAt : (c : tie.In-loop Inv-loop μ-loop) → Item

@@ -1,4 +1,5 @@
 -- `has_room` meets its contract: it takes the used values from the room first, so that no sum can wrap.
+use Rattle.annex.specs.Heads.{most-values}
 use native.Mathlib.Omega.{arith}
 use mathlib.Core.Path.{sym}
 use Prim.Native.Nat.{_+_}
@@ -9,17 +10,17 @@ use Rattle.digits.proofs.packing.has_room.Tie as tie
 returns : tie.Need-returns
 returns c =
     let a = c .before .args in
-    sym (lt-leb (a .used + a .count) 512 (omega arith))
+    sym (lt-leb (a .used + a .count) most-values (omega arith))
 
 returns-2 : tie.Need-returns-2
 returns-2 c =
     let a = c .before .before .args in
-    sym (lt-leb (a .used + a .count) 512 (omega arith))
+    sym (lt-leb (a .used + a .count) most-values (omega arith))
 
 returns-3 : tie.Need-returns-3
 returns-3 c =
     let a = c .before .before .args in
-    sym (le-leb (a .used + a .count) 512 (omega arith))
+    sym (le-leb (a .used + a .count) most-values (omega arith))
 
 pub has-room-spec : {M : Type 1} → statement M
 has-room-spec = tie.close (tie.spec returns returns-2 returns-3)

@@ -6,6 +6,7 @@ use lib.Dec.{leb}
 use lib.ListN.{length}
 use borrow.Author.Needs.{needs}
 use borrow.Author.Tests.{leb-true, not-true, not-false}
+use Rattle.annex.specs.Heads.{most-values}
 use Rattle.annex.specs.Digits.{digitsOf}
 use Rattle.digits.specs.Unpacked.{there, length-there}
 use Rattle.digits.proofs.packing.unpack_digits.Statement.{statement}
@@ -14,7 +15,7 @@ use Rattle.digits.proofs.packing.unpack_digits.Tie as tie
 -- the room is asked for as many digits as there are
 asked : (c : tie.After-has-room) →
     let a = c .before .before .before .args in
-    c .has-room .result ≡ leb (a .used + length (digitsOf (a .z) (a .n) (a .octets .now))) 512
+    c .has-room .result ≡ leb (a .used + length (digitsOf (a .z) (a .n) (a .octets .now))) most-values
 asked c =
     let a = c .before .before .before .args in
     rw (length-there (a .z) (a .n) (a .octets .now), ← c .before .digits-in .ensures) (c .has-room .ensures)
@@ -28,7 +29,8 @@ unpack-fitting-requires c κs =
     let r = e .before in
     let n = r .before in
     let a = n .before .before .args in (
-      leb-true (a .used + n .digits-in .result .0) 512 (sym (r .has-room .ensures) ∙ not-false (r .has-room .result) (e .if1 .left)),
+      leb-true (a .used + n .digits-in .result .0) most-values
+          (sym (r .has-room .ensures) ∙ not-false (r .has-room .result) (e .if1 .left)),
       omega (arith, n .digits-in .ensures),
     )
 

@@ -3,13 +3,14 @@ use native.Mathlib.Omega.{arith}
 use mathlib.Core.Path.{refl, _∙_}
 use Prim.Native.Nat.{_+_, _≤_}
 use lib.ListN.{length}
+use Rattle.annex.specs.Heads.{most-values}
 use Rattle.annex.specs.Items.{plainItem}
 use Rattle.parameter.specs.Opening.{without-room, with-room, room-left}
 use borrow.Author.Needs.{needs}
 use Rattle.parameter.proofs.opening.open_contents.Statement.{statement}
 use Rattle.parameter.proofs.opening.open_contents.Tie as tie
 
-fitting : (c : tie.Else1) → c .before .before .before .args .used + length (c .before .before .before .args .s .now) ≤ 512
+fitting : (c : tie.Else1) → c .before .before .before .args .used + length (c .before .before .before .args .s .now) ≤ most-values
 fitting c =
     let a = c .before .before .before .args in
     room-left (a .used) (length (a .s .now)) (c .before .has-room .result) (c .before .has-room .ensures) (c .if1 .left)

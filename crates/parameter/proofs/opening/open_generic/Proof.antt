@@ -6,6 +6,7 @@ use Prim.Native.Nat.{ℕ, suc, _+_, _≤_}
 use mathlib.Core.List.{List}
 use lib.ListN.{length, getD, drop, length-drop}
 use lib.Seq.{sets, drop-drop, getD-drop}
+use Rattle.annex.specs.Heads.{most-values}
 use Rattle.annex.specs.Digits.{digitsOf}
 use Rattle.annex.specs.Contents.{countOf}
 use Rattle.annex.specs.Items.{openBy}
@@ -33,7 +34,7 @@ counted c =
 
 fitting : (c : tie.Else1) →
     let n = c .before .before .before in
-    n .before .before .before .args .used + (n .count-of .result .0 + 1) ≤ 512
+    n .before .before .before .args .used + (n .count-of .result .0 + 1) ≤ most-values
 fitting c =
     let n = c .before .before .before in
     let f = c .before .has-room in
@@ -80,7 +81,7 @@ returns-2 c =
     let y : q .octet-at2 .result ≡ getD s 2 0 = rw (q .octet-at2 .ensures, f .octets-from .ensures) (getD-drop 1 s 1 0) in
     let h : c .number .result ≡ headOf i = rw (c .number .ensures, x, y, counted n) in
     let ds = digitsOf Numbered (n .count-of .result) (o .octets-from2 .result .now) in
-    let b : a .used + 1 + length ds ≤ 512 =
+    let b : a .used + 1 + length ds ≤ most-values =
     (omega (arith, fitting r, length-there Numbered (n .count-of .result) (o .octets-from2 .result .now))) in
     let v : q .before .before .unpack-digits .last .1 .1 .1 .0 ≡ sets (a .values .now) (a .used) (i .values) =
     rw (

@@ -7,6 +7,7 @@ use mathlib.Core.List.{List}
 use lib.Dec.{leb}
 use lib.ListN.{length, drop}
 use lib.Seq.{sets}
+use Rattle.annex.specs.Heads.{most-values}
 use Rattle.annex.specs.Digits.{digitsOf}
 use Rattle.annex.specs.Contents.{countOf}
 use Rattle.annex.specs.Items.{openBy}
@@ -28,7 +29,7 @@ digits s = digitsOf Numbered (countOf s) (drop 2 s)
 unpacked : (c : tie.After-unpack-digits) →
     let a = c .before .before .before .before .before .args in
     let ds = digits (a .s .now) in
-    Stores (leb (a .used + length ds) 512) (sets (a .values .now) (a .used) ds) (a .values .now) (c .unpack-digits .result)
+    Stores (leb (a .used + length ds) most-values) (sets (a .values .now) (a .used) ds) (a .values .now) (c .unpack-digits .result)
     (c .unpack-digits .last .1 .1 .1 .0)
 unpacked c =
     let o = c .before .before in

@@ -8,7 +8,7 @@ use borrow.Author.Needs.{needs}
 use borrow.Author.Tests.{le-leb}
 use native.Mathlib.Omega.{arith}
 use lib.ListN.{length, getD, take, drop, length-append}
-use Rattle.annex.specs.Heads.{most-transfers}
+use Rattle.annex.specs.Heads.{most-transfers, most-values}
 use Rattle.annex.specs.Units.{extentOf}
 use Rattle.annex.specs.Items.{Item, itemOf}
 use lib.Seq.{sets}
@@ -24,7 +24,7 @@ abbrev Inv-loop : tie.InvT-loop
 Inv-loop t transfers taken q₀ k₀ used₀ i₀ q k used i =
     (filledWith q₀ (itemsFrom t) k₀ used₀ ≡ filledWith q (itemsLeft t i) k used) ×
     (k + length (itemsLeft t i) ≤ most-transfers) ×
-    (used + length (valuesOf (itemsLeft t i)) ≤ 512)
+    (used + length (valuesOf (itemsLeft t i)) ≤ most-values)
 
 abbrev μ-loop : tie.MeasureT-loop
 μ-loop t transfers taken q₀ k₀ used₀ i₀ q k used i = length t - i
@@ -61,9 +61,10 @@ more c = rw (c .before .before .before .before .octet-at .ensures) (items-more (
 -- there is room for it and for those behind it
 record Room (k used : ℕ) (x : Item) (is : List Item) : Type 0 where
   place : k + 1 + length is ≤ most-transfers
-  values : used + length (x .values) + length (valuesOf is) ≤ 512
+  values : used + length (x .values) + length (valuesOf is) ≤ most-values
 
-room-for : (k used : ℕ) (x : Item) (is js : List Item) → js ≡ x ∷ is → k + length js ≤ most-transfers → used + length (valuesOf js) ≤ 512
+room-for : (k used : ℕ) (x : Item) (is js : List Item) → js ≡ x ∷ is → k + length js ≤ most-transfers
+    → used + length (valuesOf js) ≤ most-values
     → Room k used x is
 unfolding valuesOf
 room-for k used x is js e p v =
@@ -86,7 +87,7 @@ opened c =
     let l = c .before .before .before .before in
     let a = l .before .before .before .before .before in
     let m = room l in
-    let r = le-leb (a .loop .used + length (itemAt l .values)) 512 (omega arith) in
+    let r = le-leb (a .loop .used + length (itemAt l .values)) most-values (omega arith) in
     (c .«open» .ensures .0 ∙ rw r, c .«open» .ensures .1 ∙ rw r)
 
 mul-x : tie.Need-mul-x Inv-loop μ-loop

@@ -5,6 +5,7 @@ use denote.Ref.{now}
 use borrow.Author.Needs.{needs}
 use native.Mathlib.Omega.{arith}
 use lib.ListN.{length}
+use Rattle.annex.specs.Packed.{row-octets}
 use Rattle.annex.specs.Spans.{rowsOf}
 use Rattle.annex.specs.Walking.{rowHere, nextOf}
 use Rattle.walk.specs.Cursors.{rowsFrom}
@@ -39,7 +40,7 @@ left : (c : tie.Then1 Inv-loop μ-loop) →
 left c = rw (turn c .rows) at (c .before .before .loop .inv .1)
 
 -- and the table has room for this one
-fits : (c : tie.Then1 Inv-loop μ-loop) → c .before .before .loop .place + 5 ≤ length (c .before .before .loop .table)
+fits : (c : tie.Then1 Inv-loop μ-loop) → c .before .before .loop .place + row-octets ≤ length (c .before .before .loop .table)
 fits c =
     let s = c .before .before .before .before .before .before in
     left-fits-one _ _ _ _ (left c) (omega (arith, s .pre .1))
