@@ -1,6 +1,6 @@
 -- Places and values are below 2^16 in every answer that is packed, so that nothing of it is lost: packed, its number, place and value can
 -- be told again.
-use Prim.Native.Nat.{ℕ, _-_, _/_, _%_, _≤_, _<_}
+use Prim.Native.Nat.{ℕ, _+_, _-_, _/_, _%_, _≤_, _<_}
 use native.Mathlib.Omega.{arith}
 use mathlib.Core.Path.{_≡_, refl}
 use mathlib.Core.Bool.{Bool, true, false, cond, not}
@@ -83,23 +83,27 @@ upto-then (Refused j p) f k n h u g = (omega (arith, u .0), omega arith)
 
 -- ---- reading
 
--- neither the place nor the length that a verdict tells is over 274
-pub verdict-upto : (m : List ℕ) → Upto 274 (verdictOf m)
-verdict-upto m = (place-told 274 (verdictOf m) (verdict-place faultOf fault-within m), go (verdictOf m) refl)
+-- as far behind the last octet as a place can be told
+abbrev pub farthest : ℕ
+farthest = most-octets + 2
+
+-- neither the place nor the length that a verdict tells is over it
+pub verdict-upto : (m : List ℕ) → Upto farthest (verdictOf m)
+verdict-upto m = (place-told farthest (verdictOf m) (verdict-place faultOf fault-within m), go (verdictOf m) refl)
   where
-    go : (a : Answer) → verdictOf m ≡ a → givenOf a ≤ 274
+    go : (a : Answer) → verdictOf m ≡ a → givenOf a ≤ farthest
     go (Accepted n) e = omega (arith, message-read m n e .length-given, message-read m n e .few)
     go (Refused k p) e = omega arith
 
 -- ---- rows
 
-pub rows-upto : (m : List ℕ) (room : ℕ) → Upto 274 (octetSpans m room)
+pub rows-upto : (m : List ℕ) (room : ℕ) → Upto farthest (octetSpans m room)
 unfolding spansBy
 rows-upto m room =
     let given = Accepted (length (rowsOf m)) in
     let full = ltb (room / row-octets) (length (rowsOf m)) in
-    upto-then (verdictOf m) (λ _. refuse full no-room 0 given) 274 274 (omega arith) (verdict-upto m)
-    (λ q _. upto-refuse full no-room 0 274 given (omega arith) (omega arith, omega (arith, rows-few m)))
+    upto-then (verdictOf m) (λ _. refuse full no-room 0 given) farthest farthest (omega arith) (verdict-upto m)
+    (λ q _. upto-refuse full no-room 0 farthest given (omega arith) (omega arith, omega (arith, rows-few m)))
 
 -- ---- finding
 
@@ -113,12 +117,12 @@ module _ (m : List ℕ) where
   found-upto Nowhere i l = ((omega arith, omega arith), omega arith)
 
   abbrev Told : Found → Type 0
-  Told f = Upto 274 (findAnswer m f) × (length (findPart m f) ≤ 274)
+  Told f = Upto farthest (findAnswer m f) × (length (findPart m f) ≤ farthest)
 
   told-by : (f g : Found) → ((n : ℕ) → verdictOf m ≡ Accepted n → f ≡ g) → Inside (length m) g → Told f
   told-by f g same i = go (verdictOf m) refl (verdict-upto m)
     where
-      go : (a : Answer) → verdictOf m ≡ a → Upto 274 a → Told f
+      go : (a : Answer) → verdictOf m ≡ a → Upto farthest a → Told f
       go (Accepted n) e u =
           let w = found-upto g i (message-read m n e .few) in
           rw (e, same n e) ((omega (arith, w .0 .0), omega (arith, w .0 .1)), omega (arith, w .1))
@@ -130,46 +134,47 @@ module _ (m : List ℕ) where
 -- ---- editing
 
 -- a new parameter, with a test b of its name
-new-place : (new : List ℕ) (b : Bool) (k : ℕ) → PlaceTo 274 (newHead new (refuse b k 0 (newContents new)))
+new-place : (new : List ℕ) (b : Bool) (k : ℕ) → PlaceTo farthest (newHead new (refuse b k 0 (newContents new)))
 new-place new b k =
     let h = newHeader new in
     let xs = newAfter new in
-    refuse-place 274 (eqb (length new) 0) _ 0 _ (omega arith)
-    (head-place 274 0 h _ (omega arith)
-    (refuse-place 274 b k 0 _ (omega arith)
-    (refuse-place 274 (not (eqb (length xs) (afterOf (extentOf h) (getD xs 0 0)))) _ 0 _ (omega arith)
-    (sound-place 274 (headerAt 0) (faultOf h (contentsIn (extentOf h) xs)) (Accepted 0) (λ j i e. omega arith) (accepted-place 274 0)))))
+    refuse-place farthest (eqb (length new) 0) _ 0 _ (omega arith)
+    (head-place farthest 0 h _ (omega arith)
+    (refuse-place farthest b k 0 _ (omega arith)
+    (refuse-place farthest (not (eqb (length xs) (afterOf (extentOf h) (getD xs 0 0)))) _ 0 _ (omega arith)
+    (sound-place farthest (headerAt 0) (faultOf h (contentsIn (extentOf h) xs)) (Accepted 0) (λ j i e. omega arith)
+    (accepted-place farthest 0)))))
 
-edit-place : (e : Edit) (is : List Item) → PlaceTo 274 (editRefusal e is)
+edit-place : (e : Edit) (is : List Item) → PlaceTo farthest (editRefusal e is)
 unfolding editRefusal
 edit-place (Replacing new which) is = new-place new (leb (timesIn (nameOf (newHeader new)) (namesOf is)) which) absent
 edit-place (Appending new) is =
     let x = nameOf (newHeader new) in
     new-place new (leb (oftenOf x) (timesIn x (namesOf is))) repeated-name
 edit-place (Removing x which) is =
-    refuse-place 274 (leb (timesIn x (namesOf is)) which) absent 0 (Accepted 0) (omega arith) (accepted-place 274 0)
+    refuse-place farthest (leb (timesIn x (namesOf is)) which) absent 0 (Accepted 0) (omega arith) (accepted-place farthest 0)
 
-record-place : (e : Edit) (r : List Part) (room : ℕ) → PlaceTo 274 (recordEditing e r room)
+record-place : (e : Edit) (r : List Part) (room : ℕ) → PlaceTo farthest (recordEditing e r room)
 unfolding recordEditing
 record-place e r room =
     let n = length (layout (edited e r)) in
-    refuse-place 274 (not (among transfer-data (headersOf r))) absent 0 _ (omega arith)
-    (then-place 274 (editRefusal e (itemsIn r)) _ (edit-place e (itemsIn r))
-    (λ q. refuse-place 274 (ltb most-transfer-octets (length (layoutItems (itemsIn (edited e r))))) transfer-over 0 _ (omega arith)
-    (refuse-place 274 (ltb room n) no-room 0 (Accepted n) (omega arith) (accepted-place 274 n))))
+    refuse-place farthest (not (among transfer-data (headersOf r))) absent 0 _ (omega arith)
+    (then-place farthest (editRefusal e (itemsIn r)) _ (edit-place e (itemsIn r))
+    (λ q. refuse-place farthest (ltb most-transfer-octets (length (layoutItems (itemsIn (edited e r))))) transfer-over 0 _ (omega arith)
+    (refuse-place farthest (ltb room n) no-room 0 (Accepted n) (omega arith) (accepted-place farthest n))))
 
-editing-place : (e : Edit) (d : List ℕ) (n : ℕ) → PlaceTo 274 (editingOf e d n)
+editing-place : (e : Edit) (d : List ℕ) (n : ℕ) → PlaceTo farthest (editingOf e d n)
 unfolding editingOf
 editing-place e d n =
     let m = take n d in
-    refuse-place 274 (ltb (length d) n) no-room 0 _ (omega arith)
-    (then-place 274 (verdictOf m) _ (verdict-place faultOf fault-within m) (λ q. record-place e (recordOf m) (length d)))
+    refuse-place farthest (ltb (length d) n) no-room 0 _ (omega arith)
+    (then-place farthest (verdictOf m) _ (verdict-place faultOf fault-within m) (λ q. record-place e (recordOf m) (length d)))
 
 -- the message so edited is that of an allowed record
-pub editing-upto : (e : Edit) (d : List ℕ) (n : ℕ) → every isOctet d ≡ true → OfOctets e → Upto 274 (editingOf e d n)
-editing-upto e d n o w = (place-told 274 (editingOf e d n) (editing-place e d n), go (editingOf e d n) refl)
+pub editing-upto : (e : Edit) (d : List ℕ) (n : ℕ) → every isOctet d ≡ true → OfOctets e → Upto farthest (editingOf e d n)
+editing-upto e d n o w = (place-told farthest (editingOf e d n) (editing-place e d n), go (editingOf e d n) refl)
   where
-    go : (a : Answer) → editingOf e d n ≡ a → givenOf (editingOf e d n) ≤ 274
+    go : (a : Answer) → editingOf e d n ≡ a → givenOf (editingOf e d n) ≤ farthest
     go (Accepted k) f =
         let t = edited-allowed e d n k o w f in
         rw f (omega (arith, t .1, laid-then-read _ (t .0) .3))

@@ -40,7 +40,7 @@ use Rattle.theorems.specs.Messages.{read-then-laid}
 use Rattle.theorems.specs.Records.{layout-append, values-within}
 use Rattle.theorems.specs.Writings.{item-written}
 use Rattle.to_image.specs.Octets.{items-long, parts-long}
-use Rattle.boundary.specs.Small.{Upto, upto-more, upto-refuse, upto-then, verdict-upto}
+use Rattle.boundary.specs.Small.{Upto, farthest, upto-more, upto-refuse, upto-then, verdict-upto}
 
 -- ---- read to an image
 
@@ -75,7 +75,7 @@ pub image-upto : (m : List ℕ) (room : ℕ) → every isOctet m ≡ true → Up
 unfolding imageReading imageOf
 image-upto m room o = go (verdictOf m) refl (verdict-upto m)
   where
-    go : (a : Answer) → verdictOf m ≡ a → Upto 274 a
+    go : (a : Answer) → verdictOf m ≡ a → Upto farthest a
         → Upto most-image
         (andThen a (λ _. refuse (ltb room (length (imageOf (recordOf m)))) no-room 0 (Accepted (length (imageOf (recordOf m))))))
     go (Accepted n) e u =
