@@ -25,7 +25,7 @@ use Rattle.theorems.specs.Lists.{each-right}
 use Rattle.theorems.specs.Commons.{AllowedPart}
 use Rattle.theorems.specs.Records.{plain-none, allowed-parts}
 use Rattle.theorems.specs.Layouts.{laid-then-read}
-use Rattle.theorems.specs.Parted.{Parted, one-data, no-data, layoutParts}
+use Rattle.theorems.specs.Parted.{Parted, one-data, no-header, layoutParts}
 use Rattle.theorems.specs.Places.{common-found, transfer-found}
 use Rattle.theorems.specs.Listings.{partContents, part-contents}
 use Rattle.theorems.specs.Reasons.{NewRight, edit-taken}
@@ -74,7 +74,7 @@ has-data r a l = go (among transfer-data (headersOf r)) refl
   where
     go : (b : Bool) → among transfer-data (headersOf r) ≡ b → Parted r
     go true e = one-data r a e
-    go false e = absurd (omega (arith, ap length (plain-none r (a .held) (no-data r e))))
+    go false e = absurd (omega (arith, ap length (plain-none r (a .held) (no-header transfer-data r e))))
 
 pub transfer-contents : (r : List Part) → Allowed r → (x which : ℕ) (front : List Item) (one : Item) (back : List Item)
     → itemsIn r ≡ front ++ (one ∷ back) → nameOf (one .header) ≡ x → timesIn x (namesOf front) ≡ which

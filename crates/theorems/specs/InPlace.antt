@@ -87,22 +87,25 @@ module _ (before front back after old new : List ℕ) where
 
 -- ---- the buffer after an edit
 
--- the parameter that an edit of m takes out stands at the place `at`, where finding finds it; one that is appended comes behind the last of
--- the C5 whose header stands at `five`
+-- the parameter that an edit of m takes out stands at the place `at`, where finding finds it; one that is appended comes at the end of C5
 abbrev pub Placed : Edit → List ℕ → ℕ → ℕ → List ℕ → List ℕ → Type 0
-Placed (Replacing x which) m five at old new =
+Placed (Replacing x which) m end at old new =
     (new ≡ x) × (transferFound (nameOf (newHeader x)) which m ≡ At (at + 1 + leadOf (extentOf (getD old 0 0))) (at + length old))
-Placed (Appending x) m five at old new = (new ≡ x) × (old ≡ []) × (commonFound transfer-data m ≡ At (five + 2) at)
-Placed (Removing x which) m five at old new =
+Placed (Appending x) m end at old new = (new ≡ x) × (old ≡ []) × (at ≡ end)
+Placed (Removing x which) m end at old new =
     (new ≡ []) × (transferFound x which m ≡ At (at + 1 + leadOf (extentOf (getD old 0 0))) (at + length old))
 
 -- an edit of the message in the first n octets of d, after which the buffer holds `now`, and its first k octets the message
 pub record InPlace (e : Edit) (d : List ℕ) (n k : ℕ) (now : List ℕ) : Type 0 where
+  -- C5's header stands at `five`, and its parameters end before `end`
   pub five : ℕ
+  pub end : ℕ
+  pub data-found : commonFound transfer-data (take n d) ≡ At (five + 2) end
+  -- the edit's parameter stands at `at`: these octets before, those after
   pub at : ℕ
   pub old : List ℕ
   pub new : List ℕ
-  pub placed : Placed e (take n d) five at old new
+  pub placed : Placed e (take n d) end at old new
   pub stood : (i : ℕ) → i < length old → getD d (at + i) 0 ≡ getD old i 0
   pub longer : k + length old ≡ n + length new
   -- before it, all but C5's length octet
@@ -151,11 +154,12 @@ module _ (e : Edit) (d : List ℕ) (n k : ℕ) (o : every isOctet d ≡ true) (w
 
   place : (f : Edit)
       → Told f (take n d) (s .front ++ (s .old ++ s .back)) (length (s .before) + 2) (length (s .front)) (s .old) (s .new) (s .back)
-      → Placed f (take n d) (length (s .before)) (length (s .before) + 2 + length (s .front)) (s .old) (s .new)
+      → Placed f (take n d) (length (s .before) + 2 + length (s .front ++ (s .old ++ s .back)))
+      (length (s .before) + 2 + length (s .front)) (s .old) (s .new)
   place (Replacing x which) t = (t .0, found (nameOf (newHeader x)) which (t .1))
   place (Appending x) t =
       let end : length (s .front ++ (s .old ++ s .back)) ≡ length (s .front) = rw (t .1, t .2, append-nil) in
-      (t .0, t .1, rw end at (s .found))
+      (t .0, t .1, omega (arith, end))
   place (Removing x which) t = (t .0, found x which (t .1))
 
   pub in-place : InPlace e d n k (bufferOf e d n)
@@ -169,6 +173,8 @@ module _ (e : Edit) (d : List ℕ) (n k : ℕ) (o : every isOctet d ≡ true) (w
       let edited = buffer-edited e d n k o w a in
       record {
         five = length b;
+        end = length b + 2 + length (f ++ (s .old ++ q));
+        data-found = s .found;
         at = length b + 2 + length f;
         old = s .old;
         new = s .new;

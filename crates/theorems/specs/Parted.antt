@@ -67,17 +67,16 @@ parted (p ∷ r) h o m = go (eqb (p .header) transfer-data) refl (parted r (h .1
 pub one-data : (r : List Part) → Allowed r → among transfer-data (headersOf r) ≡ true → Parted r
 one-data r a m = parted r (a .held) (allowed-once r a) m
 
--- with no such header there is none
-pub no-data : (r : List Part) → among transfer-data (headersOf r) ≡ false → Each Plain r
-no-data [] m = tt
-no-data (p ∷ r) m =
-    let b = eqb transfer-data (p .header) in
-    let c = among transfer-data (headersOf r) in
-    (go (eqb (p .header) transfer-data) refl (or-left b c m), no-data r (or-right b c m))
-  where
-    go : (b : Bool) → eqb (p .header) transfer-data ≡ b → eqb transfer-data (p .header) ≡ false → b ≡ false
-    go true e f = absurd (eqb-false transfer-data (p .header) f (sym (eqb-true (p .header) transfer-data e)))
-    go false e f = refl
+-- none of these has the header h
+abbrev pub Others : ℕ → List Part → Type 0
+Others h r = Each (λ p. eqb (p .header) h ≡ false) r
+
+pub no-header : (h : ℕ) (r : List Part) → among h (headersOf r) ≡ false → Others h r
+no-header h [] m = tt
+no-header h (p ∷ r) m =
+    let b = eqb h (p .header) in
+    let c = among h (headersOf r) in
+    (ne-eqb (p .header) h (λ f. eqb-false h (p .header) (or-left b c m) (sym f)), no-header h r (or-right b c m))
 
 -- ---- other transfer parameters in the place of its own
 

@@ -4,13 +4,13 @@ use Prim.Native.Nat.{ℕ, zero, suc, _+_, _-_, _≤_, _<_}
 use native.Mathlib.Omega.{arith}
 use native.Mathlib.Nat.{add-zero, zero-add}
 use mathlib.Core.Path.{_≡_, refl, sym, ap, _∙_}
-use mathlib.Core.Bool.{Bool, true, false, cond}
+use mathlib.Core.Bool.{Bool, true, false, cond, _||_}
 use mathlib.Core.List.{List, [], _∷_, _++_, append-nil}
-use borrow.Author.Tests.{eqb-true, eq-eqb, ltb-true, ltb-false, le-ltb}
+use borrow.Author.Tests.{eqb-true, eqb-false, eq-eqb, ne-eqb, ltb-true, ltb-false, le-ltb}
 use lib.Dec.{eqb, leb, ltb}
 use lib.ListN.{length, drop, length-append}
 use Rattle.annex.specs.Units.{nameOf, leadOf, extentOf, commonExtentOf}
-use Rattle.annex.specs.Heads.{among, transfer-data, oftenOf, kth}
+use Rattle.annex.specs.Heads.{among, end-mark, transfer-data, oftenOf, kth}
 use Rattle.annex.specs.Items.{Item, Part, contentsOf, dataPart}
 use Rattle.annex.specs.Layout.{ledBy, layoutItem, layoutItems, layoutPart, layout}
 use Rattle.annex.specs.Allowed.{every, Each, timesIn, isOctet, itemsIn, headersOf, namesOf, partNamesOf, Allowed}
@@ -28,7 +28,7 @@ use Rattle.theorems.specs.Steps.{not-end}
 use Rattle.theorems.specs.Commons.{AllowedPart, partPar}
 use Rattle.theorems.specs.Records.{Once, Plain, plain-none, allowed-items, allowed-parts, allowed-once}
 use Rattle.theorems.specs.Named.{passed-over, choose}
-use Rattle.theorems.specs.Parted.{Parted, one-data, no-data, layoutParts}
+use Rattle.theorems.specs.Parted.{Parted, one-data, Others, no-header, layoutParts}
 use Rattle.theorems.specs.Messages.{read-then-laid}
 use Rattle.theorems.specs.Layouts.{partPars, laid-then-listed}
 
@@ -47,10 +47,6 @@ behind-part : (at : ℕ) (p : Part) (ahead : List Part)
     → at + 1 + length (partPar at p .own) + length (layoutParts ahead) ≡ at + length (layoutParts (p ∷ ahead))
 unfolding layoutParts
 behind-part at p ahead = simp length-append (omega (arith, part-length p))
-
--- none of them has the header h
-abbrev pub Others : ℕ → List Part → Type 0
-Others h ahead = Each (λ p. eqb (p .header) h ≡ false) ahead
 
 common-behind : (h : ℕ) (ahead : List Part) (r : List Part) (at : ℕ) → Others h ahead
     → commonIn h (partPars at (ahead ++ r)) ≡ commonIn h (partPars (at + length (layoutParts ahead)) r)
@@ -84,10 +80,6 @@ unfolding partPars transferAmong layoutPart leadOf commonExtentOf
 among-here x which is behind at = refl
 
 -- at the end mark
-common-end : (at : ℕ) → commonIn transfer-data (partPars at []) ≡ Nowhere
-unfolding partPars commonIn
-common-end at = refl
-
 among-end : (x which at : ℕ) → transferAmong x which (partPars at []) ≡ Nowhere
 unfolding partPars transferAmong
 among-end x which at = refl
@@ -232,26 +224,48 @@ module _ (r : List Part) (a : Allowed r) (d : Parted r) where
 -- ---- what is found is there
 
 module _ (r : List Part) (a : Allowed r) (p : Each Plain r) where
-  no-data-found : commonFound transfer-data (layout r) ≡ Nowhere
-  unfolding commonFound
-  no-data-found =
-      rw (laid-then-listed r a) (rw append-nil at (common-behind transfer-data r [] 0 p) ∙ common-end (0 + length (layoutParts r)))
-
   no-transfer-found : (x which : ℕ) → transferFound x which (layout r) ≡ Nowhere
   unfolding transferFound
   no-transfer-found x which =
       rw (laid-then-listed r a) (rw append-nil at (among-behind x which r [] 0 p) ∙ among-end x which (0 + length (layoutParts r)))
 
+-- a common parameter that the record does not have
+common-nowhere : (h : ℕ) (r : List Part) → Allowed r → Others h r → eqb end-mark h ≡ false → commonFound h (layout r) ≡ Nowhere
+unfolding commonFound partPars commonIn
+common-nowhere h r a o e =
+    let turned : eqb h end-mark ≡ false = ne-eqb h end-mark (λ f. eqb-false end-mark h e (sym f)) in
+    rw (turned, laid-then-listed r a) (rw append-nil at (common-behind h r [] 0 o) ∙ rw e)
+
 abbrev pub isFound : Found → Bool
 isFound (At s e) = true
 isFound Nowhere = false
 
-data-is : (r : List Part) → Allowed r → isFound (commonFound transfer-data (layout r)) ≡ among transfer-data (headersOf r)
-data-is r a = go (among transfer-data (headersOf r)) refl
+-- a header that stands in a record stands in one of its parts
+record Holds (h : ℕ) (r : List Part) : Type 0 where
+  ahead : List Part
+  one : Part
+  behind : List Part
+  whole : r ≡ ahead ++ (one ∷ behind)
+  headed : one .header ≡ h
+
+holds : (h : ℕ) (r : List Part) → among h (headersOf r) ≡ true → Holds h r
+holds h [] m = absurd (let z : _≡_ {A = ℕ} 0 1 = cc in omega arith)
+holds h (p ∷ r) m = go (eqb h (p .header)) refl m (holds h r)
   where
-    go : (b : Bool) → among transfer-data (headersOf r) ≡ b → isFound (commonFound transfer-data (layout r)) ≡ b
-    go true e = rw (data-found r a (one-data r a e))
-    go false e = rw (no-data-found r a (no-data r e))
+    go : (b : Bool) → eqb h (p .header) ≡ b → b || among h (headersOf r) ≡ true → (among h (headersOf r) ≡ true → Holds h r)
+        → Holds h (p ∷ r)
+    go true e t f = record { ahead = []; one = p; behind = r; whole = refl; headed = sym (eqb-true h (p .header) e) }
+    go false e t f =
+        let w = f t in
+        record { ahead = p ∷ w .ahead; one = w .one; behind = w .behind; whole = ap (λ s. p ∷ s) (w .whole); headed = w .headed }
+
+pub common-is : (h : ℕ) (r : List Part) → Allowed r → eqb end-mark h ≡ false
+    → isFound (commonFound h (layout r)) ≡ among h (headersOf r)
+common-is h r a n = go (among h (headersOf r)) refl
+  where
+    go : (b : Bool) → among h (headersOf r) ≡ b → isFound (commonFound h (layout r)) ≡ b
+    go true e = let w = holds h r e in rw (← w .headed, common-found r a (w .ahead) (w .one) (w .behind) (w .whole))
+    go false e = rw (common-nowhere h r a (no-header h r e) n)
 
 name-is : (x which : ℕ) (r : List Part) → Allowed r
     → isFound (transferFound x which (layout r)) ≡ ltb which (timesIn x (namesOf (itemsIn r)))
@@ -269,13 +283,13 @@ name-is x which r a = go (among transfer-data (headersOf r)) refl
     go : (b : Bool) → among transfer-data (headersOf r) ≡ b → isFound (transferFound x which (layout r)) ≡ ltb which times
     go true e = by (one-data r a e) (ltb which times) refl
     go false e =
-        let plain = no-data r e in
+        let plain = no-header transfer-data r e in
         rw (no-transfer-found r a plain x which, plain-none r (a .held) plain, le-ltb which 0 (omega arith))
 
 -- of an accepted message
 pub data-there : (m : List ℕ) → every isOctet m ≡ true → (n : ℕ) → verdictOf m ≡ Accepted n
     → isFound (commonFound transfer-data m) ≡ among transfer-data (headersOf (recordOf m))
-data-there m o n e = let w = read-then-laid m o n e in rw (w .2) at (data-is (recordOf m) (w .1))
+data-there m o n e = let w = read-then-laid m o n e in rw (w .2) at (common-is transfer-data (recordOf m) (w .1) refl)
 
 pub name-there : (x which : ℕ) (m : List ℕ) → every isOctet m ≡ true → (n : ℕ) → verdictOf m ≡ Accepted n
     → isFound (transferFound x which m) ≡ ltb which (timesIn x (namesOf (itemsIn (recordOf m))))
