@@ -37,7 +37,8 @@ use Rattle.annex.specs.declared.Holding.{Holding}
 use Rattle.annex.specs.declared.Holding.the-variants.{AsContents, AsDigits, AsNumber, AsGeneric}
 use Rattle.annex.specs.Layout.{layoutItems}
 use Rattle.annex.specs.declared.Extent.{Extent}
-use Rattle.annex.specs.declared.Extent.the-variants.{Fixed, CountOctet, LengthOctet}
+use Rattle.annex.specs.declared.Extent.the-variants.{Fixed, Counted}
+use Rattle.annex.specs.declared.CountingUnit.the-variants.{HalfOctet, Octet}
 use Rattle.annex.specs.declared.Fault.{Fault}
 use Rattle.annex.specs.declared.Fault.the-variants.{Sound, Bad}
 
@@ -66,8 +67,8 @@ isOctet x = ltb x 256
 -- Writing, 11: the contents are as long as the length rule of the header's PLI asks
 abbrev pub lengthFits : Extent → List ℕ → Bool
 lengthFits (Fixed n) s = eqb (length s) n
-lengthFits CountOctet s = eqb (length s) (afterOf CountOctet (getD s 0 0))
-lengthFits LengthOctet s = leb (length s) most-transfer-octets
+lengthFits (Counted HalfOctet) s = eqb (length s) (afterOf (Counted HalfOctet) (getD s 0 0))
+lengthFits (Counted Octet) s = leb (length s) most-transfer-octets
 
 -- Transfer data, PLI 10, and Writing, 11: six bits count the digits, so there are at most 63
 abbrev pub lengthBy : Holding → Item → Bool

@@ -8,13 +8,14 @@ use Rattle.annex.specs.Units.{extentOf}
 use Rattle.annex.specs.Heads.{end-mark, transfer-data, isCall}
 use Rattle.annex.specs.Items.{Item, Part, contentsOf}
 use Rattle.annex.specs.declared.Extent.{Extent}
-use Rattle.annex.specs.declared.Extent.the-variants.{Fixed, CountOctet, LengthOctet}
+use Rattle.annex.specs.declared.Extent.the-variants.{Fixed, Counted}
+use Rattle.annex.specs.declared.CountingUnit.the-variants.{HalfOctet, Octet}
 
 -- PLI 11: the length octet before the contents
 abbrev pub ledBy : Extent → List ℕ → List ℕ
 ledBy (Fixed n) s = s
-ledBy CountOctet s = s
-ledBy LengthOctet s = length s ∷ s
+ledBy (Counted HalfOctet) s = s
+ledBy (Counted Octet) s = length s ∷ s
 
 -- a transfer parameter: its header and the octets after it
 unfoldable pub layoutItem : Item → List ℕ

@@ -7,8 +7,10 @@ use lib.Dec.{eqb}
 use lib.ListN.{length, drop}
 use Rattle.annex.specs.declared.HalfOctets.{HalfOctets}
 use Rattle.annex.specs.declared.Octets.{Octets}
+use Rattle.annex.specs.declared.CountingUnit.{CountingUnit}
 use Rattle.annex.specs.declared.Extent.{Extent}
-use Rattle.annex.specs.declared.Extent.the-variants.{Fixed, CountOctet, LengthOctet}
+use Rattle.annex.specs.declared.Extent.the-variants.{Fixed, Counted}
+use Rattle.annex.specs.declared.CountingUnit.the-variants.{HalfOctet, Octet}
 
 -- a header octet: PLI in bits 7-6, the name (F0 and F1, or P0 and P1) in bits 5-0
 abbrev pub pliOf : ℕ → ℕ
@@ -32,24 +34,28 @@ halvesOf n = record { 0 = 2 * n .0 }
 abbrev pub halvesIn : List ℕ → HalfOctets
 halvesIn s = halvesOf (record { 0 = length s })
 
+-- how many octets a first octet x counts, by the unit
+abbrev pub octetsCounted : CountingUnit → ℕ → Octets
+octetsCounted HalfOctet x = octetsOf (countedBy x)
+octetsCounted Octet x = record { 0 = x }
+
 -- how many octets follow a header; x is the octet right after it, or 0. Both counts are octets where they meet the sum
 unfoldable pub afterOf : Extent → ℕ → ℕ
 afterOf (Fixed n) x = n
-afterOf CountOctet x = 1 + octetsOf (countedBy x) .0
-afterOf LengthOctet x = 1 + x
+afterOf (Counted u) x = 1 + octetsCounted u x .0
 
 -- Transfer data: what stands between a header and its contents is a length octet alone; a count octet belongs to the contents
 unfoldable pub leadOf : Extent → ℕ
 leadOf (Fixed n) = 0
-leadOf CountOctet = 0
-leadOf LengthOctet = 1
+leadOf (Counted HalfOctet) = 0
+leadOf (Counted Octet) = 1
 
 -- Common part: PLI 00, 01 and 10 say one, two and three octets of contents, 11 that a length octet counts them
 abbrev pub commonByPli : ℕ → Extent
 commonByPli zero = Fixed 1
 commonByPli (suc zero) = Fixed 2
 commonByPli (suc (suc zero)) = Fixed 3
-commonByPli (suc (suc (suc n))) = LengthOctet
+commonByPli (suc (suc (suc n))) = Counted Octet
 
 -- the end mark, though its PLI is 00, has no contents (house)
 unfoldable pub commonExtentOf : ℕ → Extent
@@ -59,8 +65,8 @@ commonExtentOf h = cond (eqb h 0x00) (Fixed 0) (commonByPli (pliOf h))
 abbrev pub transferByPli : ℕ → Extent
 transferByPli zero = Fixed 0
 transferByPli (suc zero) = Fixed 1
-transferByPli (suc (suc zero)) = CountOctet
-transferByPli (suc (suc (suc n))) = LengthOctet
+transferByPli (suc (suc zero)) = Counted HalfOctet
+transferByPli (suc (suc (suc n))) = Counted Octet
 
 unfoldable pub extentOf : ℕ → Extent
 extentOf h = transferByPli (pliOf h)

@@ -82,12 +82,16 @@ impl HalfOctets {
     }
 }
 
-// What a PLI says of the octets after a header: how many there are, or that a count octet (half-octets in bits 5-0)
-// or a length octet (octets) comes first.
+// In what the octet right after a header counts: half-octets, by bits 5-0 of a count octet (PLI 10), or octets, by a length octet (PLI 11).
+pub enum CountingUnit {
+    HalfOctet,
+    Octet,
+}
+
+// What a PLI says of the octets after a header: how many there are, or that the first counts the others.
 pub enum Extent {
     Fixed(usize),
-    CountOctet,
-    LengthOctet,
+    Counted(CountingUnit),
 }
 
 // How half-octets stand for digits: zero is code 10 where digits are dialled (PLI 10), and code 0 in a number (D7).

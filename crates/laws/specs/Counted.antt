@@ -17,7 +17,8 @@ use Rattle.annex.specs.Items.{Item, openMarks, openBy, upperMarks, contentsBy, 
 use Rattle.annex.specs.declared.Holding.the-variants.{AsDigits}
 use Rattle.annex.specs.Allowed.{every, isOctet, lengthFits, marksRight}
 use Rattle.annex.specs.declared.Alphabet.the-variants.{Dialled}
-use Rattle.annex.specs.declared.Extent.the-variants.{CountOctet}
+use Rattle.annex.specs.declared.Extent.the-variants.{Counted}
+use Rattle.annex.specs.declared.CountingUnit.the-variants.{HalfOctet}
 use Rattle.annex.specs.declared.Fault.the-variants.{Sound}
 use Rattle.laws.specs.Bools.{same, same→eq, and-left, and-right, and-both}
 use Rattle.laws.specs.Octet.{range}
@@ -97,7 +98,7 @@ pub record CountedOpen (m : Marks) (h : ℕ) (s : List ℕ) : Type 0 where
   pub few : leb (length (openBy (AsDigits m) h s .values)) most-digits ≡ true
   pub right : marksRight m (openBy (AsDigits m) h s) ≡ true
 
-pub counted-open : (m : Marks) (h : ℕ) (s : List ℕ) → every isOctet s ≡ true → lengthFits CountOctet s ≡ true
+pub counted-open : (m : Marks) (h : ℕ) (s : List ℕ) → every isOctet s ≡ true → lengthFits (Counted HalfOctet) s ≡ true
     → clear (zeroesFor m) (getD s 0 0) ≡ true → dialledFault s ≡ Sound → CountedOpen m h s
 unfolding afterOf dialledFault
 counted-open m h [] o l c f = absurd (let z : _≡_ {A = ℕ} 0 1 = cc in omega arith)
@@ -119,7 +120,7 @@ counted-open m h (x ∷ s) o l c f =
 
 -- what right marks and digits stand for: contents of the count's length, clear of the zero bits, sound, that open to them
 pub record CountedClosed (m : Marks) (i : Item) : Type 0 where
-  pub fits : lengthFits CountOctet (contentsBy (AsDigits m) i) ≡ true
+  pub fits : lengthFits (Counted HalfOctet) (contentsBy (AsDigits m) i) ≡ true
   pub clears : clear (zeroesFor m) (getD (contentsBy (AsDigits m) i) 0 0) ≡ true
   pub sound : dialledFault (contentsBy (AsDigits m) i) ≡ Sound
   pub opens : openBy (AsDigits m) (i .header) (contentsBy (AsDigits m) i) ≡ ownMarks m i

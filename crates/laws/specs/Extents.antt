@@ -3,11 +3,12 @@ use Prim.Native.Nat.{ℕ, _≤_}
 use native.Mathlib.Omega.{arith}
 use Rattle.annex.specs.Units.{afterOf, leadOf}
 use Rattle.annex.specs.declared.Extent.{Extent}
-use Rattle.annex.specs.declared.Extent.the-variants.{Fixed, CountOctet, LengthOctet}
+use Rattle.annex.specs.declared.Extent.the-variants.{Fixed, Counted}
+use Rattle.annex.specs.declared.CountingUnit.the-variants.{HalfOctet, Octet}
 
 -- a length octet is among the octets after its header
 pub lead-within : (e : Extent) (x : ℕ) → leadOf e ≤ afterOf e x
 unfolding leadOf afterOf
 lead-within (Fixed n) x = omega arith
-lead-within CountOctet x = omega arith
-lead-within LengthOctet x = omega arith
+lead-within (Counted HalfOctet) x = omega arith
+lead-within (Counted Octet) x = omega arith

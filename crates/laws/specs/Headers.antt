@@ -13,7 +13,8 @@ use Rattle.annex.specs.declared.Marks.{Marks}
 use Rattle.annex.specs.declared.Marks.the-variants.{Unmarked, Notified, Verified, Typed}
 use Rattle.annex.specs.declared.Form.the-variants.{Checked, Digits, Number, Calling, Generic}
 use Rattle.annex.specs.declared.Extent.{Extent}
-use Rattle.annex.specs.declared.Extent.the-variants.{Fixed, CountOctet, LengthOctet}
+use Rattle.annex.specs.declared.Extent.the-variants.{Fixed, Counted}
+use Rattle.annex.specs.declared.CountingUnit.the-variants.{HalfOctet, Octet}
 use Rattle.laws.specs.Bools.{T-true, and-left, and-right}
 use Rattle.laws.specs.Octet.{range}
 
@@ -24,15 +25,15 @@ zeroesFor Notified = 0x40
 zeroesFor Verified = 0x00
 zeroesFor Typed = 0x00
 
-abbrev pub isCounted : Extent → Bool
-isCounted (Fixed n) = false
-isCounted CountOctet = true
-isCounted LengthOctet = false
+abbrev pub countsHalves : Extent → Bool
+countsHalves (Fixed n) = false
+countsHalves (Counted HalfOctet) = true
+countsHalves (Counted Octet) = false
 
 -- digits have a count octet, and its zero bits are those that the marks leave; a number has none; contents held as they are have any
 abbrev pub rowFits : Form → ℕ → Extent → Bool
 rowFits (Checked c) zeroes e = true
-rowFits (Digits m) zeroes e = isCounted e && eqb zeroes (zeroesFor m)
+rowFits (Digits m) zeroes e = countsHalves e && eqb zeroes (zeroesFor m)
 rowFits Number zeroes e = eqb zeroes 0
 rowFits Calling zeroes e = eqb zeroes 0
 rowFits Generic zeroes e = eqb zeroes 0
@@ -48,15 +49,16 @@ pub row-fits : (h : ℕ) → h < 256 → pliRight h ≡ true → rowFits (formOf
 unfolding rowTest
 row-fits h l p = rw p at (row-tested h l)
 
-counted : (e : Extent) → isCounted e ≡ true → e ≡ CountOctet
+counted : (e : Extent) → countsHalves e ≡ true → e ≡ Counted HalfOctet
 counted (Fixed n) t = absurd (let z : _≡_ {A = ℕ} 0 1 = cc in omega arith)
-counted CountOctet t = refl
-counted LengthOctet t = absurd (let z : _≡_ {A = ℕ} 0 1 = cc in omega arith)
+counted (Counted HalfOctet) t = refl
+counted (Counted Octet) t = absurd (let z : _≡_ {A = ℕ} 0 1 = cc in omega arith)
 
 -- a row of digits: a count octet, and the bits that the marks leave 0
-pub digits-row : (m : Marks) (zeroes : ℕ) (e : Extent) → rowFits (Digits m) zeroes e ≡ true → (e ≡ CountOctet) × (zeroes ≡ zeroesFor m)
+pub digits-row : (m : Marks) (zeroes : ℕ) (e : Extent) → rowFits (Digits m) zeroes e ≡ true
+    → (e ≡ Counted HalfOctet) × (zeroes ≡ zeroesFor m)
 digits-row m zeroes e t =
-    let a = isCounted e in
+    let a = countsHalves e in
     let b = eqb zeroes (zeroesFor m) in
     (counted e (and-left a b t), eqb-true zeroes (zeroesFor m) (and-right a b t))
 

@@ -19,7 +19,8 @@ use Rattle.annex.specs.Writing.{itemWriting}
 use Rattle.annex.specs.declared.Alphabet.{Alphabet}
 use Rattle.annex.specs.declared.Alphabet.the-variants.{Dialled}
 use Rattle.annex.specs.declared.Extent.{Extent}
-use Rattle.annex.specs.declared.Extent.the-variants.{Fixed, CountOctet, LengthOctet}
+use Rattle.annex.specs.declared.Extent.the-variants.{Fixed, Counted}
+use Rattle.annex.specs.declared.CountingUnit.the-variants.{HalfOctet, Octet}
 use Rattle.laws.specs.Joined.{length-packed}
 
 -- ---- what is not its own does not matter
@@ -118,8 +119,8 @@ own-held-item i l o =
 length-led : (e : Extent) (s : List ℕ) → length (ledBy e s) ≡ leadOf e + length s
 unfolding leadOf
 length-led (Fixed n) s = omega arith
-length-led CountOctet s = omega arith
-length-led LengthOctet s = omega arith
+length-led (Counted HalfOctet) s = omega arith
+length-led (Counted Octet) s = omega arith
 
 -- the header, a length octet, the contents
 pub length-layout : (i : Item) → length (layoutItem i) ≡ 1 + leadOf (extentOf (i .header)) + length (contentsOf i)
@@ -133,8 +134,8 @@ layout-plain i n = ap (λ s. i .header ∷ s) (go (extentOf (i .header)) n)
   where
     go : (e : Extent) → leadOf e ≡ 0 → ledBy e (contentsOf i) ≡ contentsOf i
     go (Fixed n) z = refl
-    go CountOctet z = refl
-    go LengthOctet z = absurd (omega arith)
+    go (Counted HalfOctet) z = refl
+    go (Counted Octet) z = absurd (omega arith)
 
 pub layout-led : (i : Item) → (leadOf (extentOf (i .header)) ≡ 0 → ⊥) → layoutItem i ≡ i .header ∷ length (contentsOf i) ∷ contentsOf i
 unfolding layoutItem leadOf
@@ -142,14 +143,14 @@ layout-led i n = ap (λ s. i .header ∷ s) (go (extentOf (i .header)) n)
   where
     go : (e : Extent) → (leadOf e ≡ 0 → ⊥) → ledBy e (contentsOf i) ≡ length (contentsOf i) ∷ contentsOf i
     go (Fixed n) z = absurd (z refl)
-    go CountOctet z = absurd (z refl)
-    go LengthOctet z = refl
+    go (Counted HalfOctet) z = absurd (z refl)
+    go (Counted Octet) z = refl
 
 pub lead-small : (e : Extent) → leadOf e ≤ 1
 unfolding leadOf
 lead-small (Fixed n) = omega arith
-lead-small CountOctet = omega arith
-lead-small LengthOctet = omega arith
+lead-small (Counted HalfOctet) = omega arith
+lead-small (Counted Octet) = omega arith
 
 fits-small : (pli : ℕ) (s : List ℕ) → lengthFits (transferByPli pli) s ≡ true → length s ≤ most-transfer-octets
 unfolding afterOf

@@ -14,7 +14,8 @@ use Rattle.annex.specs.declared.Holding.{Holding}
 use Rattle.annex.specs.declared.Holding.the-variants.{AsContents, AsDigits, AsNumber, AsGeneric}
 use Rattle.annex.specs.Allowed.{lengthBy, lengthRight, faultAs, faultIn}
 use Rattle.annex.specs.declared.Extent.{Extent}
-use Rattle.annex.specs.declared.Extent.the-variants.{Fixed, CountOctet, LengthOctet}
+use Rattle.annex.specs.declared.Extent.the-variants.{Fixed, Counted}
+use Rattle.annex.specs.declared.CountingUnit.the-variants.{HalfOctet, Octet}
 use Rattle.laws.specs.Bools.{T-true}
 use Rattle.laws.specs.Octet.{range}
 
@@ -44,13 +45,13 @@ isNumeric Generic = true
 
 abbrev isLed : Extent → Bool
 isLed (Fixed n) = false
-isLed CountOctet = false
-isLed LengthOctet = true
+isLed (Counted HalfOctet) = false
+isLed (Counted Octet) = true
 
-led : (e : Extent) → isLed e ≡ true → e ≡ LengthOctet
+led : (e : Extent) → isLed e ≡ true → e ≡ Counted Octet
 led (Fixed n) t = absurd (let z : _≡_ {A = ℕ} 0 1 = cc in omega arith)
-led CountOctet t = absurd (let z : _≡_ {A = ℕ} 0 1 = cc in omega arith)
-led LengthOctet t = refl
+led (Counted HalfOctet) t = absurd (let z : _≡_ {A = ℕ} 0 1 = cc in omega arith)
+led (Counted Octet) t = refl
 
 numeric-led : (h : ℕ) → h < 256 → not (isNumeric (formOf h)) || isLed (extentOf h) ≡ true
 unfolding formOf extentOf
@@ -70,6 +71,6 @@ numeric Number x t = refl
 numeric Calling x t = refl
 numeric Generic x t = refl
 
-pub number-led : (i : Item) → i .header < 256 → T (heldNumber (heldAs i)) → extentOf (i .header) ≡ LengthOctet
+pub number-led : (i : Item) → i .header < 256 → T (heldNumber (heldAs i)) → extentOf (i .header) ≡ Counted Octet
 unfolding holdingOf
 number-led i l t = led (extentOf (i .header)) (rw (numeric (formOf (i .header)) (getD (i .values) 0 0) t) at (numeric-led (i .header) l))

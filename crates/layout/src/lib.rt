@@ -2,6 +2,7 @@
 // The parameter is given as its head and its values.
 use annex::Alphabet;
 use annex::Answer;
+use annex::CountingUnit;
 use annex::Extent;
 use annex::Fault;
 use annex::Holding;
@@ -71,8 +72,10 @@ fn length_fits(header: u8, s: &[u8]) -> bool
     let e = extent_of(header);
     match e {
         Extent::Fixed(n) => s.len() == n,
-        Extent::CountOctet => s.len() == octets_after(Extent::CountOctet, octet_at(s, 0)),
-        Extent::LengthOctet => s.len() <= Transfer::MOST_OCTETS,
+        Extent::Counted(unit) => match unit {
+            CountingUnit::HalfOctet => s.len() == octets_after(e, octet_at(s, 0)),
+            CountingUnit::Octet => s.len() <= Transfer::MOST_OCTETS,
+        },
     }
 }
 

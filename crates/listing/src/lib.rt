@@ -2,13 +2,13 @@
 // over this crate are run and their output is compared.
 use annex::Answer;
 use annex::Common;
-use annex::Extent;
 use annex::Message;
 use annex::Row;
 use annex::Transfer;
 use libc::STDOUT_FILENO;
 use reader::rows::check;
 use units::extent_of;
+use units::lead;
 use walk::cursor::first;
 use walk::cursor::next;
 use walk::cursor::row_here;
@@ -69,10 +69,7 @@ fn print_contents(m: &[u8], row: Row) {
     }
     // the transfer rule serves common parameters too: only C5 has a length octet there
     let e = extent_of(row.header);
-    let before = match e {
-        Extent::LengthOctet => 2,
-        _ => 1,
-    };
+    let before = if lead(e) == 0 { 1 } else { 2 };
     let offset = row.offset;
     if m.len() < offset {
         return;

@@ -28,7 +28,8 @@ use Rattle.annex.specs.Layout.{layoutItems, layoutPart, callOctets, dataOctets}
 use Rattle.annex.specs.Allowed.{every, isOctet, HeldItem, HeldPart, valueRight, valueFits}
 use Rattle.annex.specs.Walk.{Par}
 use Rattle.annex.specs.Reading.{transfersOf, octetAllowed, openTransfer, openCommon, callNumber, openCommonBy}
-use Rattle.annex.specs.declared.Extent.the-variants.{Fixed, LengthOctet}
+use Rattle.annex.specs.declared.Extent.the-variants.{Fixed, Counted}
+use Rattle.annex.specs.declared.CountingUnit.the-variants.{Octet}
 use Rattle.laws.specs.Bools.{and-left, and-right, and-both}
 use Rattle.theorems.specs.Lists.{among-each, each-so, every-drop}
 use Rattle.theorems.specs.Lengths.{cut}
@@ -61,7 +62,7 @@ pub record CallNumber (h : ℕ) : Type 0 where
 -- C5: a length octet and its parameters
 pub record DataKind (h : ℕ) : Type 0 where
   pub isData : eqb h transfer-data ≡ true
-  pub extent : commonExtentOf h ≡ LengthOctet
+  pub extent : commonExtentOf h ≡ Counted Octet
   pub most : mostOf (nameOf h) ≡ 257
   pub free : (v : ℕ) → octetAllowed h v ≡ true
 
@@ -205,8 +206,8 @@ data-read : (times : ℕ) (own : List ℕ) → every isOctet own ≡ true → Co
     → PartRead transfer-data own (dataPart (map openTransfer (transfersOf (contentsIn (commonExtentOf transfer-data) own))))
 unfolding layoutPart commonExtentOf afterOf leadOf
 data-read times own o c =
-    let s = contentsIn LengthOctet own in
-    let k = cut LengthOctet own (c .long) o in
+    let s = contentsIn (Counted Octet) own in
+    let k = cut (Counted Octet) own (c .long) o in
     let i = c .inner refl in
     let is = map openTransfer (transfersOf s) in
     let r = transfers-read s (i .0) (every-drop isOctet 1 own o) (leb-true (length s) most-transfer-octets (k .fits)) (i .1) in

@@ -18,7 +18,8 @@ use Rattle.annex.specs.Editing.{Edit, newHeader, newAfter, newItem, editedItems
 use Rattle.annex.specs.Editing.Edit.{Replacing, Appending}
 use Rattle.annex.specs.declared.Answer.the-variants.{Accepted}
 use Rattle.annex.specs.declared.Extent.{Extent}
-use Rattle.annex.specs.declared.Extent.the-variants.{Fixed, CountOctet, LengthOctet}
+use Rattle.annex.specs.declared.Extent.the-variants.{Fixed, Counted}
+use Rattle.annex.specs.declared.CountingUnit.the-variants.{HalfOctet, Octet}
 use Rattle.annex.specs.declared.Found.the-variants.{At}
 use Rattle.laws.specs.Parts.{from-to}
 use Rattle.theorems.specs.Lists.{each-right}
@@ -65,8 +66,8 @@ contents-found r a d x which front one back w n b =
 led-contents : (e : Extent) (s : List ℕ) → contentsIn e (ledBy e s) ≡ s
 unfolding leadOf
 led-contents (Fixed n) s = refl
-led-contents CountOctet s = refl
-led-contents LengthOctet s = refl
+led-contents (Counted HalfOctet) s = refl
+led-contents (Counted Octet) s = refl
 
 -- a record with transfer parameters has a C5
 has-data : (r : List Part) → Allowed r → 0 < length (itemsIn r) → Parted r

@@ -64,9 +64,10 @@ use Rattle.annex.specs.declared.Answer.{Answer}
 use Rattle.annex.specs.declared.Answer.the-variants.{Accepted, Refused}
 use Rattle.annex.specs.declared.Check.the-variants.{Nothing}
 use Rattle.annex.specs.declared.Common.{Common}
+use Rattle.annex.specs.declared.CountingUnit.the-variants.{HalfOctet, Octet}
 use Rattle.annex.specs.declared.Cursor.{Cursor}
 use Rattle.annex.specs.declared.Extent.{Extent}
-use Rattle.annex.specs.declared.Extent.the-variants.{CountOctet, LengthOctet}
+use Rattle.annex.specs.declared.Extent.the-variants.{Counted}
 use Rattle.annex.specs.declared.Fault.{Fault}
 use Rattle.annex.specs.declared.Fault.the-variants.{Sound, Bad}
 use Rattle.annex.specs.declared.Form.{Form}
@@ -257,8 +258,8 @@ rows =
     transfers (λ t. t .plan) (numberHead 0xD7 0x83 0x11 1) (numberHead 0xD7 0x83 0x21 1) ∷  -- Transfer::number
     extents (extentOf 0x07) (extentOf 0x41) ∷  -- extent_of
     extents (commonExtentOf 0x01) (commonExtentOf 0x83) ∷  -- common_extent_of
-    counts (afterOf CountOctet 4) (afterOf LengthOctet 4) ∷  -- octets_after
-    counts (leadOf CountOctet) (leadOf LengthOctet) ∷  -- lead
+    counts (afterOf (Counted HalfOctet) 4) (afterOf (Counted Octet) 4) ∷  -- octets_after
+    counts (leadOf (Counted HalfOctet)) (leadOf (Counted Octet)) ∷  -- lead
     answers (headWriting 0 0x90 (Accepted 0)) (headWriting 0 0xD0 (Accepted 0)) ∷  -- head_writing
     tests (nameUsed 0x41) (nameUsed 0x08) ∷  -- head_of, used
     tests (pliRight 0x41) (pliRight 0x81) ∷  -- head_of, right
@@ -299,7 +300,7 @@ rows =
     tests (isCall 0x83) (isCall 0x04) ∷  -- is_call
     counts (callNumber (0x01 ∷ [])) (callNumber (0x02 ∷ [])) ∷  -- call_value
     lists (callOctets 0x01) (callOctets 0x02) ∷  -- call_octets
-    finds (stretchAt K 0 LengthOctet) (stretchAt [] 0 LengthOctet) ∷  -- stretch_at
+    finds (stretchAt K 0 (Counted Octet)) (stretchAt [] 0 (Counted Octet)) ∷  -- stretch_at
     gives Row (λ r. r .offset) (rowHere K (cursorTo 0 0)) (rowHere K (cursorTo 2 2)) ∷  -- row_here
     gives Cursor (λ c. c .at) (nextOf K (cursorTo 0 0)) (nextOf K (cursorTo 2 2)) ∷  -- next
     finds (searchIn (Name 0x01 0) (0x41 ∷ 0x01 ∷ [])) (searchIn (Name 0x01 1) (0x41 ∷ 0x01 ∷ [])) ∷  -- search_by_length

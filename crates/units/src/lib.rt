@@ -1,10 +1,12 @@
 // How many octets follow a header. Half-octets and octets meet only through the conversion.
 use annex::Common;
+use annex::CountingUnit;
 use annex::Extent;
 use annex::HalfOctets;
 use annex::Octets;
 ghost use Rattle.annex.specs.Promises.{Gives};
-ghost use Rattle.annex.specs.Units.{afterOf, leadOf, commonExtentOf, extentOf};
+ghost use mathlib.Core.Path.{_≡_};
+ghost use Rattle.annex.specs.Units.{octetsCounted, afterOf, leadOf, commonExtentOf, extentOf};
 
 // What the PLI of a transfer header says.
 pub fn extent_of(header: u8) -> Extent
@@ -14,8 +16,8 @@ pub fn extent_of(header: u8) -> Extent
     match pli {
         0 => Extent::Fixed(0),
         1 => Extent::Fixed(1),
-        2 => Extent::CountOctet,
-        _ => Extent::LengthOctet,
+        2 => Extent::Counted(CountingUnit::HalfOctet),
+        _ => Extent::Counted(CountingUnit::Octet),
     }
 }
 
@@ -31,7 +33,20 @@ pub fn common_extent_of(header: u8) -> Extent
         0 => Extent::Fixed(1),
         1 => Extent::Fixed(2),
         2 => Extent::Fixed(3),
-        _ => Extent::LengthOctet,
+        _ => Extent::Counted(CountingUnit::Octet),
+    }
+}
+
+// How many octets a first octet counts.
+fn counted(unit: CountingUnit, octet: u8) -> Octets
+    ensures { λ r. ⌜ r ≡ octetsCounted unit octet ⌝ }
+{
+    match unit {
+        CountingUnit::HalfOctet => {
+            let count = HalfOctets::counted_by(octet);
+            count.octets()
+        }
+        CountingUnit::Octet => Octets(octet as usize),
     }
 }
 
@@ -41,14 +56,9 @@ pub fn octets_after(e: Extent, next: u8) -> usize
 {
     match e {
         Extent::Fixed(n) => n,
-        Extent::CountOctet => {
-            let count = HalfOctets::counted_by(next);
-            let octets = count.octets();
+        Extent::Counted(unit) => {
+            let octets = counted(unit, next);
             1 + octets.0
-        }
-        Extent::LengthOctet => {
-            let length = Octets(next as usize);
-            1 + length.0
         }
     }
 }
@@ -59,7 +69,9 @@ pub fn lead(e: Extent) -> usize
 {
     match e {
         Extent::Fixed(_) => 0,
-        Extent::CountOctet => 0,
-        Extent::LengthOctet => 1,
+        Extent::Counted(unit) => match unit {
+            CountingUnit::HalfOctet => 0,
+            CountingUnit::Octet => 1,
+        },
     }
 }

@@ -18,7 +18,7 @@ use Rattle.annex.specs.Spans.{transferRows, innerRows, commonRows, rowsOf, rows
 use Rattle.annex.specs.declared.Answer.{Answer}
 use Rattle.annex.specs.declared.Answer.the-variants.{Accepted, Refused}
 use Rattle.annex.specs.declared.Extent.{Extent}
-use Rattle.annex.specs.declared.Extent.the-variants.{Fixed, CountOctet, LengthOctet}
+use Rattle.annex.specs.declared.Extent.the-variants.{Fixed, Counted}
 use Rattle.annex.specs.declared.Found.the-variants.{At}
 use Rattle.annex.specs.Contents.{faultOf}
 use Rattle.annex.specs.Walking.{noRow, Size, pars, cursorTo, firstCursor, extentHere, stretchHere, rowHere, nextOf}
@@ -132,8 +132,7 @@ row-whole m c e n f s =
 after-none : (e : Extent) (x y : ℕ) → afterOf e x ≤ 0 → afterOf e y ≡ afterOf e x
 unfolding afterOf
 after-none (Fixed n) x y h = refl
-after-none CountOctet x y h = absurd (omega arith)
-after-none LengthOctet x y h = absurd (omega arith)
+after-none (Counted u) x y h = absurd (omega arith)
 
 -- within C5 what the octets behind C5 are does not matter
 module _ (m : List ℕ) (at end n : ℕ) (low : at < end) (high : end ≤ length m) where

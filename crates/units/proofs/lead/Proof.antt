@@ -4,26 +4,26 @@ use Rattle.annex.specs.Units.{leadOf}
 use Rattle.units.proofs.lead.Statement.{statement}
 use Rattle.units.proofs.lead.Tie as tie
 
-enum-told : tie.Need-enum-told
-enum-told c = search needs
-
-enum-told-2 : tie.Need-enum-told-2
-enum-told-2 c = search needs
-
-enum-told-3 : tie.Need-enum-told-3
-enum-told-3 c = search needs
-
 returns : tie.Need-returns
 unfolding leadOf
 returns c = rw (c .enum-told .given .1)
 
 returns-2 : tie.Need-returns-2
 unfolding leadOf
-returns-2 c = rw (c .enum-told2 .given .1)
+returns-2 c = rw (c .before .before .before .e .given .1, c .enum-told2 .given .1)
 
 returns-3 : tie.Need-returns-3
 unfolding leadOf
-returns-3 c = rw (c .enum-told3 .given .1)
+returns-3 c = rw (c .before .before .before .e .given .1, c .enum-told3 .given .1)
 
 pub lead-spec : {M : Type 1} → statement M
-lead-spec = tie.close (tie.spec enum-told enum-told-2 enum-told-3 returns returns-2 returns-3)
+lead-spec =
+    tie.close
+    (tie.spec
+    (λ c. search needs)
+    (λ c. search needs)
+    (λ c. search needs)
+    (λ c. search needs)
+    returns
+    returns-2
+    returns-3)
