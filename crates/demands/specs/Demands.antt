@@ -12,9 +12,9 @@ use lib.ListN.{length, take, drop}
 use Rattle.annex.specs.Units.{nameOf}
 use Rattle.annex.specs.Items.{Item, Part, contentsOf}
 use Rattle.annex.specs.Layout.{layout}
-use Rattle.annex.specs.Allowed.{every, timesIn, isOctet, itemsIn, namesOf, Allowed, Writable}
+use Rattle.annex.specs.Allowed.{every, timesIn, isOctet, itemsIn, namesOf, Allowed, Writable, headersOf}
 use Rattle.annex.specs.Records.{pack, isWhole, view}
-use Rattle.annex.specs.Editing.{Edit, edited}
+use Rattle.annex.specs.Editing.{Edit, edited, editingOf}
 use Rattle.annex.specs.Opening.{hasRoom, valuesWith}
 use Rattle.annex.specs.Promises.{
   ReadPromise,
@@ -33,18 +33,27 @@ use Rattle.annex.specs.Promises.{
   TkEditPromise,
   Gives,
   Stores,
+  VerdictPromise,
+  SpansCheckPromise,
+  RecordRefusalPromise,
+  FromImagePromise,
+  ClassPromise,
 }
 use Rattle.annex.specs.declared.Answer.{Answer}
 use Rattle.annex.specs.declared.Answer.the-variants.{Accepted, Refused}
 use Rattle.annex.specs.declared.Reading.{Reading}
 use Rattle.annex.specs.declared.Record.{Record}
 use Rattle.annex.specs.declared.Row.{Row}
+use Rattle.annex.specs.Answers.{numberOf}
+use Rattle.annex.specs.declared.ClassAnswer.{ClassAnswer}
+use Rattle.annex.specs.Heads.{among, end-mark}
+use Rattle.annex.specs.Packed.{imageReading, imageWriting, octetSpans}
 use Rattle.theorems.specs.Views.{FitsStruct}
 use Rattle.theorems.specs.Reasons.{NoReason}
 use Rattle.theorems.specs.Edits.{OfOctets}
 use Rattle.theorems.specs.InPlace.{InPlace}
 use Rattle.theorems.specs.Listings.{partContents, partRows}
-use Rattle.tight.specs.Told.{Told}
+use Rattle.tight.specs.Told.{HasNumber, ClassHasNumber}
 
 abbrev pub Octetwise : List ℕ → Type 0
 Octetwise m = every isOctet m ≡ true
@@ -56,33 +65,53 @@ IsAccepted a = (n : ℕ) × (a ≡ Accepted n)
 
 -- The software ends and does nothing undefined on whatever octets, records or lent memory it is handed: a public function has no
 -- `requires`, and that it keeps its promise is proved for all inputs. No call relies on an earlier check by the caller: a promise speaks of
--- what that call was handed and of nothing else. Each refusal's number and place are those that a definition gives, and no other answer
--- keeps the promise (tight: Unique, Numbers); the number is never 0, which stands for accepted. And it leaves lent memory as it was:
+-- what that call was handed and of nothing else. Each refusal has a number and a place, fixed by the definition that the promise cites: no
+-- other answer keeps it, and the number is not 0, which stands for accepted. And a refusal leaves lent memory as it was:
 
 -- where the answer refuses
 abbrev pub Kept : {A : Type 0} → Answer → List A → List A → Type 0
 Kept r before now = (k p : ℕ) → r ≡ Refused k p → now ≡ before
 
--- where an answer packed for Rust and C does: its number stands over 2^32, and is 0 where it accepts
-abbrev pub KeptPacked : ℕ → List ℕ → List ℕ → Type 0
-KeptPacked r before now = 0 < r / 4294967296 → now ≡ before
+-- what is asked of a function that answers: one answer keeps its promise, and where it refuses, it has a number
+pub record Answering (P : Answer → Type 0) : Type 0 where
+  pub fixed : (r s : Answer) → P r → P s → r ≡ s
+  pub numbered : (r : Answer) → P r → HasNumber r
+
+-- of one that is lent memory too: one answer and one content of it, and what it was lent stays where it refuses
+pub record Lending {A : Type 0} (before : List A) (P : Answer → List A → Type 0) : Type 0 where
+  pub fixed : (r s : Answer) (now then : List A) → P r now → P s then → (r ≡ s) × (now ≡ then)
+  pub numbered : (r : Answer) (now : List A) → P r now → HasNumber r
+  pub kept : (r : Answer) (now : List A) → P r now → Kept r before now
+
+-- the number in an answer packed for Rust and C, 0 where it accepts
+abbrev pub packedNumber : ℕ → ℕ
+packedNumber r = r / 4294967296
+
+-- of a function for Rust and C, whose number is that of the answer d
+pub record PackedLending (before : List ℕ) (d : Answer) (P : ℕ → List ℕ → Type 0) : Type 0 where
+  pub fixed : (r s : ℕ) (now then : List ℕ) → P r now → P s then → (r ≡ s) × (now ≡ then)
+  pub number : (r : ℕ) (now : List ℕ) → P r now → packedNumber r ≡ numberOf d
+  pub numbered : HasNumber d
+  pub kept : (r : ℕ) (now : List ℕ) → P r now → 0 < packedNumber r → now ≡ before
 
 pub record Demand1 : Type 0 where
-  pub read-numbered : (m : List ℕ) (r : Reading) → ReadPromise m r → Told (r .answer)
-  pub common-numbered : (m : List ℕ) (h : ℕ) (r : Answer) → FindCommonAnswerPromise m h r → Told r
-  pub transfer-numbered : (m : List ℕ) (x : ℕ) (r : Answer) → FindTransferAnswerPromise m x r → Told r
-  pub spans-numbered : (m : List ℕ) (table : List Row) (r : Answer) (now : List Row) → SpansPromise m table r now → Told r
-  pub write-numbered : (q : Record) (room : List ℕ) (r : Answer) (now : List ℕ) → WritePromise q room r now → Told r
-  pub edit-numbered : (e : Edit) (d : List ℕ) (n : ℕ) (r : Answer) (now : List ℕ) → EditPromise e d n r now → Told r
-  pub spans : (m : List ℕ) (table : List Row) (r : Answer) (now : List Row) → SpansPromise m table r now → Kept r table now
-  pub octet-spans : (m table : List ℕ) (r : Answer) (now : List ℕ) → OctetSpansPromise m table r now → Kept r table now
-  pub write : (q : Record) (room : List ℕ) (r : Answer) (now : List ℕ) → WritePromise q room r now → Kept r room now
-  pub edit : (e : Edit) (d : List ℕ) (n : ℕ) (r : Answer) (now : List ℕ) → EditPromise e d n r now → Kept r d now
-  pub to-image : (q : Record) (room : List ℕ) (r : Answer) (now : List ℕ) → ToImagePromise q room r now → Kept r room now
-  pub tk-read : (m room : List ℕ) (r : ℕ) (now : List ℕ) → TkReadPromise m room r now → KeptPacked r room now
-  pub tk-write : (image room : List ℕ) (r : ℕ) (now : List ℕ) → TkWritePromise image room r now → KeptPacked r room now
-  pub tk-rows : (m table : List ℕ) (r : ℕ) (now : List ℕ) → TkRowsPromise m table r now → KeptPacked r table now
-  pub tk-edit : (e : Edit) (d : List ℕ) (n r : ℕ) (now : List ℕ) → TkEditPromise e d n r now → KeptPacked r d now
+  pub verdict : (m : List ℕ) → Answering (VerdictPromise m)
+  pub read : (m : List ℕ) → Answering (λ a. (q : Record) × ReadPromise m (record { answer = a; «record» = q }))
+  pub find-common : (m : List ℕ) (h : ℕ) → Answering (FindCommonAnswerPromise m h)
+  pub find-transfer : (m : List ℕ) (x : ℕ) → Answering (FindTransferAnswerPromise m x)
+  pub check : (m : List ℕ) (room : ℕ) → Answering (SpansCheckPromise m room)
+  pub record-refusal : (q : Record) → Answering (RecordRefusalPromise q)
+  pub from-image : (image : List ℕ) → Answering (λ a. (q : Record) × FromImagePromise image (record { answer = a; held = q }))
+  pub class : (h x : ℕ) (r : ClassAnswer) → ClassPromise h x r → ClassHasNumber r
+  pub spans : (m : List ℕ) (table : List Row) → Lending table (SpansPromise m table)
+  pub octet-spans : (m table : List ℕ) → Lending table (OctetSpansPromise m table)
+  pub write : (q : Record) (room : List ℕ) → Lending room (WritePromise q room)
+  pub edit : (e : Edit) (d : List ℕ) (n : ℕ) → Lending d (EditPromise e d n)
+  pub to-image : (q : Record) (room : List ℕ) → Lending room (ToImagePromise q room)
+  pub tk-read : (m room : List ℕ) → PackedLending room (imageReading m (length room)) (TkReadPromise m room)
+  pub tk-write : (image room : List ℕ) → PackedLending room (imageWriting image (length room)) (TkWritePromise image room)
+  pub tk-rows : (m table : List ℕ) → PackedLending table (octetSpans m (length table)) (TkRowsPromise m table)
+  pub tk-edit : (e : Edit) (d : List ℕ) (n : ℕ) → PackedLending d (editingOf e d n) (TkEditPromise e d n)
   -- the functions that serve these: what does not fit is not stored
   pub stores : (fits : Bool) (stored before : List ℕ) (r : Bool) (now : List ℕ) → Stores fits stored before r now → r ≡ false → now ≡ before
   pub opens : (i : Item) (used : ℕ) (before now : List ℕ) → Gives (valuesWith i used before) now → hasRoom used i ≡ false → now ≡ before
@@ -106,6 +135,9 @@ pub record Demand2 : Type 0 where
   -- Each record that the rules allow is written where the lent room suffices, and no other struct is: its message, and past it the room.
   pub written : (q : Record) → FitsStruct q → (room : List ℕ) (w : Answer) (now : List ℕ) → WritePromise q room w now
       → IsAccepted w ↔ ((isWhole q ≡ true) × Writable (view q) × (length (layout (view q)) ≤ length room))
+  pub written-allowed : (s : List Part) → Writable s → (room : List ℕ) → length (layout s) ≤ length room
+      → (w : Answer) (now : List ℕ) → WritePromise (pack s) room w now
+      → (w ≡ Accepted (length (layout s))) × (now ≡ layout s ++ drop (length (layout s)) room)
   pub message : (q : Record) → FitsStruct q → (room : List ℕ) (n : ℕ) (now : List ℕ) → WritePromise q room (Accepted n) now
       → (n ≡ length (layout (view q))) × (now ≡ layout (view q) ++ drop n room)
   -- And it reads back as itself.
@@ -116,14 +148,20 @@ pub record Demand2 : Type 0 where
       → (r : Answer) (now : List Row) → SpansPromise (layout s) table r now
       → (r ≡ Accepted (1 + length s + length (itemsIn s))) × (now ≡ partRows 0 s ++ drop (1 + length s + length (itemsIn s)) table)
   -- And finding hands out the contents of its parameters: of a common one, and of the first transfer parameter with a name. There is one
-  -- to be found exactly if the record has it.
+  -- to be found exactly if the record has it, and beside a refusal stands the empty stretch.
   pub found-common : (s : List Part) → Allowed s → (ahead : List Part) (q : Part) (behind : List Part) → s ≡ ahead ++ (q ∷ behind)
       → (part : List ℕ) → FindCommonPromise (layout s) (q .header) part → part ≡ partContents q
   pub found-transfer : (s : List Part) → Allowed s → (front : List Item) (one : Item) (back : List Item) → itemsIn s ≡ front ++ (one ∷ back)
       → timesIn (nameOf (one .header)) (namesOf front) ≡ 0
       → (part : List ℕ) → FindTransferPromise (layout s) (nameOf (one .header)) part → part ≡ contentsOf one
-  pub there : (s : List Part) → Allowed s → (x : ℕ) (r : Answer) → FindTransferAnswerPromise (layout s) x r
+  pub common-there : (s : List Part) → Allowed s → (h : ℕ) → (h ≡ end-mark → ⊥) → (r : Answer) → FindCommonAnswerPromise (layout s) h r
+      → IsAccepted r ↔ (among h (headersOf s) ≡ true)
+  pub transfer-there : (s : List Part) → Allowed s → (x : ℕ) (r : Answer) → FindTransferAnswerPromise (layout s) x r
       → IsAccepted r ↔ (0 < timesIn x (namesOf (itemsIn s)))
+  pub common-empty : (m : List ℕ) (h k p : ℕ) → FindCommonAnswerPromise m h (Refused k p)
+      → (part : List ℕ) → FindCommonPromise m h part → part ≡ []
+  pub transfer-empty : (m : List ℕ) (x k p : ℕ) → FindTransferAnswerPromise m x (Refused k p)
+      → (part : List ℕ) → FindTransferPromise m x part → part ≡ []
 
 -- ---- Demand 3
 

@@ -1,28 +1,28 @@
 -- The three demands hold, by what stands in `theorems` and `tight`.
-use Prim.Native.Nat.{ℕ, _+_, _/_, _≤_, _<_}
+use Prim.Native.Nat.{ℕ, _+_, _≤_, _<_}
 use native.Mathlib.Omega.{arith}
 use mathlib.Core.Path.{_≡_, refl, sym, ap, _∙_}
 use mathlib.Core.Bool.{true}
 use mathlib.Core.List.{List, [], _++_}
 use mathlib.Core.Logic.{_↔_}
-use borrow.Author.Tests.{ltb-true, ltb-false, le-ltb}
+use borrow.Author.Tests.{ltb-true, ltb-false, le-ltb, lt-ltb, ne-eqb}
 use lib.Dec.{ltb}
 use lib.ListN.{length, take, drop}
 use lib.Seq.{take-append-seam}
-use Rattle.annex.specs.Answers.{roomAfter}
+use Rattle.annex.specs.Answers.{absent, roomAfter, numberOf}
 use Rattle.annex.specs.Units.{nameOf}
 use Rattle.annex.specs.Items.{Part}
 use Rattle.annex.specs.Layout.{layout}
-use Rattle.annex.specs.Allowed.{timesIn, itemsIn, namesOf, Allowed, Writable}
+use Rattle.annex.specs.Allowed.{timesIn, itemsIn, namesOf, Allowed, Writable, headersOf}
 use Rattle.annex.specs.Reading.{verdictOf, recordOf}
 use Rattle.annex.specs.Records.{pack, isWhole, view, readBy, readingOf}
 use Rattle.annex.specs.Writing.{structWriting, writingOf, writtenOf}
 use Rattle.annex.specs.Image.{imagingOf, imagedIn}
 use Rattle.annex.specs.Spans.{rowsOf, spansOf, tableOf, spansBy}
-use Rattle.annex.specs.Finding.{commonFound, transferFound, foundAnswer}
+use Rattle.annex.specs.Finding.{commonFound, transferFound, findAnswer, findPart}
 use Rattle.annex.specs.Editing.{Edit, edited, bufferOf}
 use Rattle.annex.specs.Packed.{packedAnswer, imageReading, imageRead, imageWriting, imageWritten, octetSpans, octetsBy, octetTable}
-use Rattle.annex.specs.Promises.{ReadPromise, FindTransferAnswerPromise, SpansPromise, WritePromise, EditPromise}
+use Rattle.annex.specs.Promises.{ReadPromise, FindTransferAnswerPromise, SpansPromise, WritePromise, EditPromise, FindCommonAnswerPromise}
 use Rattle.annex.specs.declared.Answer.{Answer}
 use Rattle.annex.specs.declared.Answer.the-variants.{Accepted, Refused}
 use Rattle.annex.specs.declared.Found.{Found}
@@ -30,6 +30,8 @@ use Rattle.annex.specs.declared.Found.the-variants.{At, Nowhere}
 use Rattle.annex.specs.declared.Reading.{Reading}
 use Rattle.annex.specs.declared.Record.{Record}
 use Rattle.annex.specs.declared.Row.{Row}
+use Rattle.annex.specs.Heads.{among, end-mark}
+use Rattle.annex.specs.declared.Imaged.{Imaged}
 use Rattle.laws.specs.Steps.{passed, then-passed}
 use Rattle.theorems.specs.Records.{allowed-within}
 use Rattle.theorems.specs.Messages.{read-then-laid}
@@ -51,11 +53,36 @@ use Rattle.theorems.specs.Reasons.{editedIn, edit-taken, edit-accepts}
 use Rattle.theorems.specs.Edits.{OfOctets, edited-allowed}
 use Rattle.theorems.specs.Buffers.{buffer-edited, buffer-refused}
 use Rattle.theorems.specs.InPlace.{in-place}
-use Rattle.theorems.specs.Places.{isFound, name-there}
+use Rattle.theorems.specs.Places.{isFound, name-there, common-is}
 use Rattle.theorems.specs.Listings.{partRows, rows-of-record, rows-counted}
 use Rattle.theorems.specs.Finds.{transfer-contents, common-contents}
-use Rattle.tight.specs.Told.{verdict-told, find-told, spans-told, writing-told, editing-told}
-use Rattle.demands.specs.Demands.{Octetwise, IsAccepted, Kept, KeptPacked, Demand1, Demand2, Demand3}
+use Rattle.tight.specs.Told.{
+  verdict-told,
+  find-told,
+  spans-told,
+  writing-told,
+  editing-told,
+  HasNumber,
+  struct-told,
+  imaging-told,
+  imaged-told,
+  read-image-told,
+  write-image-told,
+  class-told,
+}
+use Rattle.tight.specs.Numbers.{read-answer}
+use Rattle.demands.specs.Demands.{
+  Octetwise,
+  IsAccepted,
+  Kept,
+  Answering,
+  Lending,
+  packedNumber,
+  PackedLending,
+  Demand1,
+  Demand2,
+  Demand3,
+}
 
 -- an answer that refuses leaves the room
 after-refusal : {A : Type 0} (a : Answer) (written room : List A) → Kept a room (roomAfter a written room)
@@ -66,53 +93,79 @@ octets-kept : (a : Answer) (octets table : List ℕ) → Kept a table (octetsBy 
 octets-kept (Accepted n) octets table k p e = absurd (let z : _≡_ {A = ℕ} 0 1 = cc in omega arith)
 octets-kept (Refused j q) octets table k p e = refl
 
--- a promise with such an answer, as it is and packed
-kept : {A : Type 0} {a r : Answer} {before left now : List A} → Kept a before left → (r ≡ a) × (now ≡ left) → Kept r before now
-kept w p k q e = p .1 ∙ w k q (sym (p .0) ∙ e)
+-- a promise that says what the answer is, and what lent memory then holds
+answering : {d : Answer} → HasNumber d → Answering (λ r. r ≡ d)
+answering h = record { fixed = λ r s p q. p ∙ sym q; numbered = λ r p. rw p h }
 
-kept-packed : {a : Answer} {r : ℕ} {before left now : List ℕ} → Kept a before left → (r ≡ packedAnswer a) × (now ≡ left)
-    → KeptPacked r before now
-kept-packed {a} {r} {before} {left} {now} w p = go a refl
-  where
-    go : (b : Answer) → a ≡ b → 0 < r / 4294967296 → now ≡ before
-    go (Accepted n) e h = absurd (omega (arith, rw e at (p .0)))
-    go (Refused k q) e h = p .1 ∙ w k q e
+lending : {A : Type 0} {d : Answer} {before left : List A} → HasNumber d → Kept d before left
+    → Lending before (λ r now. (r ≡ d) × (now ≡ left))
+lending h w =
+    record {
+      fixed = λ r s now then p q. (p .0 ∙ sym (q .0), p .1 ∙ sym (q .1));
+      numbered = λ r now p. rw (p .0) h;
+      kept = λ r now p k q e. p .1 ∙ w k q (sym (p .0) ∙ e);
+    }
+
+packed-number : (a : Answer) → packedNumber (packedAnswer a) ≡ numberOf a
+packed-number (Accepted n) = omega arith
+packed-number (Refused k p) = omega arith
+
+packed-kept : (a : Answer) (before left : List ℕ) → Kept a before left → 0 < numberOf a → left ≡ before
+packed-kept (Accepted n) before left w h = absurd (omega arith)
+packed-kept (Refused k p) before left w h = w k p refl
+
+packed-lending : {d : Answer} {before left : List ℕ} → HasNumber d → Kept d before left
+    → PackedLending before d (λ r now. (r ≡ packedAnswer d) × (now ≡ left))
+packed-lending {d} {before} {left} h w =
+    record {
+      fixed = λ r s now then p q. (p .0 ∙ sym (q .0), p .1 ∙ sym (q .1));
+      number = λ r now p. rw (p .0) (packed-number d);
+      numbered = h;
+      kept = λ r now p l. p .1 ∙ packed-kept d before left w (omega (arith, rw (p .0) at l, packed-number d));
+    }
 
 -- reading answers with the verdict
-read-answer : (m : List ℕ) (r : Reading) → ReadPromise m r → r .answer ≡ verdictOf m
+read-verdict : (m : List ℕ) (r : Reading) → ReadPromise m r → r .answer ≡ verdictOf m
 unfolding readingOf
-read-answer m r p = ap (λ (x : Reading). x .answer) p ∙ by (verdictOf m)
-  where
-    by : (a : Answer) → readBy a (recordOf m) .answer ≡ a
-    by (Accepted n) = refl
-    by (Refused k q) = refl
+read-verdict m r p = ap (λ (x : Reading). x .answer) p ∙ read-answer (verdictOf m) (recordOf m)
 
 pub demand-1 : Demand1
 unfolding tableOf octetTable writtenOf bufferOf imagedIn imageRead imageWritten
 demand-1 =
     record {
-      read-numbered = λ m r p. rw (read-answer m r p) (verdict-told m);
-      common-numbered = λ m h r p. rw p (find-told m (commonFound h m));
-      transfer-numbered = λ m x r p. rw p (find-told m (transferFound x 0 m));
-      spans-numbered = λ m table r now p. rw (p .0) (spans-told m (length table));
-      write-numbered = λ q room r now p. rw (p .0) (writing-told q (length room));
-      edit-numbered = λ e d n r now p. rw (p .0) (editing-told e d n);
-      spans = λ m table r now p. kept (after-refusal (spansOf m (length table)) (rowsOf m) table) p;
-      octet-spans = λ m table r now p. kept (octets-kept (octetSpans m (length table)) _ table) p;
-      write = λ q room r now p. kept (after-refusal (writingOf q (length room)) _ room) p;
-      edit = λ e d n r now p. kept (λ k q f. buffer-refused e d n k q f) p;
-      to-image = λ q room r now p. kept (after-refusal (imagingOf q (length room)) _ room) p;
-      tk-read = λ m room r now p. kept-packed (after-refusal (imageReading m (length room)) _ room) p;
-      tk-write = λ image room r now p. kept-packed (after-refusal (imageWriting image (length room)) _ room) p;
-      tk-rows = λ m table r now p. kept-packed (octets-kept (octetSpans m (length table)) _ table) p;
-      tk-edit = λ e d n r now p. kept-packed (λ k q f. buffer-refused e d n k q f) p;
+      verdict = λ m. answering (verdict-told m);
+      read = λ m.
+          record {
+            fixed = λ r s p q. read-verdict m _ (p .1) ∙ sym (read-verdict m _ (q .1));
+            numbered = λ r p. rw (read-verdict m _ (p .1)) (verdict-told m);
+          };
+      find-common = λ m h. answering (find-told m (commonFound h m));
+      find-transfer = λ m x. answering (find-told m (transferFound x 0 m));
+      check = λ m room. answering (spans-told m room);
+      record-refusal = λ q. answering (struct-told q);
+      from-image = λ image.
+          record {
+            fixed = λ r s p q. ap (λ (x : Imaged). x .answer) (p .1 ∙ sym (q .1));
+            numbered = λ r p. rw (ap (λ (x : Imaged). x .answer) (p .1)) (imaged-told image);
+          };
+      class = λ h x r p. rw p (class-told h x);
+      spans = λ m table. lending (spans-told m (length table)) (after-refusal (spansOf m (length table)) (rowsOf m) table);
+      octet-spans = λ m table. lending (spans-told m _) (octets-kept (octetSpans m (length table)) _ table);
+      write = λ q room. lending (writing-told q (length room)) (after-refusal (writingOf q (length room)) _ room);
+      edit = λ e d n. lending (editing-told e d n) (λ k q f. buffer-refused e d n k q f);
+      to-image = λ q room. lending (imaging-told q (length room)) (after-refusal (imagingOf q (length room)) _ room);
+      tk-read = λ m room. packed-lending (read-image-told m (length room)) (after-refusal (imageReading m (length room)) _ room);
+      tk-write = λ image room.
+          packed-lending (write-image-told image (length room)) (after-refusal (imageWriting image (length room)) _ room);
+      tk-rows = λ m table. packed-lending (spans-told m _) (octets-kept (octetSpans m (length table)) _ table);
+      tk-edit = λ e d n. packed-lending (editing-told e d n) (λ k q f. buffer-refused e d n k q f);
       stores = λ fits stored before r now p f. rw f at (p .1);
       opens = λ i used before now p f. p ∙ rw f;
     }
 
 none-read : (m : List ℕ) (r : Reading) → ReadPromise m r → (k p : ℕ) → r .answer ≡ Refused k p → r .«record» ≡ pack []
 unfolding readingOf
-none-read m r p k q e = rw p (by (verdictOf m) (sym (read-answer m r p) ∙ e))
+none-read m r p k q e = rw p (by (verdictOf m) (sym (read-verdict m r p) ∙ e))
   where
     by : (a : Answer) → a ≡ Refused k q → readBy a (recordOf m) .«record» ≡ pack []
     by (Accepted n) f = absurd (let z : _≡_ {A = ℕ} 0 1 = cc in omega arith)
@@ -121,8 +174,8 @@ none-read m r p k q e = rw p (by (verdictOf m) (sym (read-answer m r p) ∙ e))
 accepted-so : (m : List ℕ) → Octetwise m → (r : Reading) → ReadPromise m r
     → IsAccepted (r .answer) ↔ ((s : List Part) × Allowed s × (layout s ≡ m))
 accepted-so m o r p = (
-  λ w. let t = read-then-laid m o (w .0) (sym (read-answer m r p) ∙ w .1) in (recordOf m, t .1, t .2),
-  λ w. (length m, read-answer m r p ∙ rw (w .2) at (laid-then-read (w .0) (w .1) .0)),
+  λ w. let t = read-then-laid m o (w .0) (sym (read-verdict m r p) ∙ w .1) in (recordOf m, t .1, t .2),
+  λ w. (length m, read-verdict m r p ∙ rw (w .2) at (laid-then-read (w .0) (w .1) .0)),
 )
 
 -- a struct that was written: nothing refuses it, and the room suffices
@@ -171,26 +224,49 @@ listed-so s a table l r now p =
     rw (laid-then-read s a .0, count, le-ltb (length table) (1 + length s + length (itemsIn s)) l) in
     (p .0 ∙ given, p .1 ∙ rw (given, rows))
 
-there-so : (s : List Part) → Allowed s → (x : ℕ) (r : Answer) → FindTransferAnswerPromise (layout s) x r
-    → IsAccepted r ↔ (0 < timesIn x (namesOf (itemsIn s)))
-there-so s a x r p = go (transferFound x 0 (layout s)) refl
-  where
-    times : ℕ
-    times = timesIn x (namesOf (itemsIn s))
+-- a finding is accepted exactly if something is found, and else hands out nothing
+found-so : (m : List ℕ) (n : ℕ) → verdictOf m ≡ Accepted n → (f : Found) (r : Answer) → r ≡ findAnswer m f
+    → IsAccepted r ↔ (isFound f ≡ true)
+found-so m n e (At b c) r p = (λ w. refl, λ w. (b, rw e at p))
+found-so m n e Nowhere r p = (
+  λ w. let q : r ≡ Refused absent 0 = rw e at p in let s = w .1 in absurd (let z : _≡_ {A = ℕ} 0 1 = cc in omega arith),
+  λ w. absurd (let z : _≡_ {A = ℕ} 0 1 = cc in omega arith),
+)
 
-    go : (f : Found) → transferFound x 0 (layout s) ≡ f → IsAccepted r ↔ (0 < times)
-    go f e =
-        let l = laid-then-read s a in
-        let t : isFound f ≡ ltb 0 times = rw (l .1, e) at (name-there x 0 (layout s) (l .2) (length (layout s)) (l .0)) in
-        let q : r ≡ foundAnswer f = rw (l .0, e) at p in
-        by f t q
-      where
-        by : (f : Found) → isFound f ≡ ltb 0 times → r ≡ foundAnswer f → IsAccepted r ↔ (0 < times)
-        by (At b c) t q = (λ w. ltb-true 0 times (sym t), λ w. (b, q))
-        by Nowhere t q = (
-          λ w. absurd (let z : _≡_ {A = ℕ} 0 1 = cc in omega arith),
-          λ w. absurd (omega (arith, ltb-false 0 times (sym t))),
-        )
+empty-so : (m : List ℕ) (f : Found) (k p : ℕ) → Refused k p ≡ findAnswer m f → findPart m f ≡ []
+empty-so m f k p q = go (verdictOf m) refl f q
+  where
+    go : (a : Answer) → verdictOf m ≡ a → (f : Found) → Refused k p ≡ findAnswer m f → findPart m f ≡ []
+    go (Accepted n) e (At b c) q = absurd (let s = rw e at q in let z : _≡_ {A = ℕ} 0 1 = cc in omega arith)
+    go (Accepted n) e Nowhere q = rw e
+    go (Refused i j) e f q = rw e
+
+common-so : (s : List Part) → Allowed s → (h : ℕ) → (h ≡ end-mark → ⊥) → (r : Answer) → FindCommonAnswerPromise (layout s) h r
+    → IsAccepted r ↔ (among h (headersOf s) ≡ true)
+common-so s a h n r p =
+    let l = laid-then-read s a in
+    let t = common-is h s a (ne-eqb end-mark h (λ e. n (sym e))) in
+    let w = found-so (layout s) (length (layout s)) (l .0) (commonFound h (layout s)) r p in
+    (λ x. sym t ∙ w .0 x, λ x. w .1 (t ∙ x))
+
+transfer-so : (s : List Part) → Allowed s → (x : ℕ) (r : Answer) → FindTransferAnswerPromise (layout s) x r
+    → IsAccepted r ↔ (0 < timesIn x (namesOf (itemsIn s)))
+transfer-so s a x r p =
+    let l = laid-then-read s a in
+    let times = timesIn x (namesOf (itemsIn s)) in
+    let t : isFound (transferFound x 0 (layout s)) ≡ ltb 0 times =
+    rw (l .1) at (name-there x 0 (layout s) (l .2) (length (layout s)) (l .0)) in
+    let w = found-so (layout s) (length (layout s)) (l .0) (transferFound x 0 (layout s)) r p in
+    (λ q. ltb-true 0 times (sym t ∙ w .0 q), λ q. w .1 (t ∙ lt-ltb 0 times q))
+
+allowed-so : (s : List Part) → Writable s → (room : List ℕ) → length (layout s) ≤ length room
+    → (w : Answer) (now : List ℕ) → WritePromise (pack s) room w now
+    → (w ≡ Accepted (length (layout s))) × (now ≡ layout s ++ drop (length (layout s)) room)
+allowed-so s a room l w now p =
+    let n = length (layout s) in
+    let e = packed-writes s a in
+    let v : view (pack s) ≡ s = view-pack s (writable-allowed s a .held) in
+    (p .0 ∙ with-room (pack s) n e (length room) l, p .1 ∙ rw v at (room-after (pack s) n e room l))
 
 pub demand-2 : Demand2
 unfolding readingOf
@@ -202,16 +278,20 @@ demand-2 =
       one-record = same-record;
       none = none-read;
       written-back = λ m o r p w room l a now q.
-          let b = read-then-written m o (w .0) (sym (read-answer m r p) ∙ w .1) in
+          let b = read-then-written m o (w .0) (sym (read-verdict m r p) ∙ w .1) in
           let same : r .«record» ≡ readingOf m .«record» = ap (λ (x : Reading). x .«record») p in
           (q .0 ∙ rw same (b .answer (length room) l), q .1 ∙ rw same (b .written room l));
       written = written-so;
+      written-allowed = allowed-so;
       message = message-so;
       reads-back = reads-so;
       listed = listed-so;
       found-common = λ s a ahead q behind w part p. p ∙ common-contents s a ahead q behind w;
       found-transfer = λ s a front one back w b part p. p ∙ transfer-contents s a (nameOf (one .header)) 0 front one back w refl b;
-      there = there-so;
+      common-there = common-so;
+      transfer-there = transfer-so;
+      common-empty = λ m h k p a part q. q ∙ empty-so m (commonFound h m) k p a;
+      transfer-empty = λ m x k p a part q. q ∙ empty-so m (transferFound x 0 m) k p a;
     }
 
 edited-so : (s : List Part) → Allowed s → (e : Edit) → OfOctets e → (d : List ℕ) → Octetwise d → (n : ℕ) → take n d ≡ layout s
@@ -231,13 +311,10 @@ demand-3 =
       as-written = λ s a e w d o n h k now p room l b out q.
           let t = edited-so s a e w d o n h k now p in
           let r = edited e s in
-          let wrote = packed-writes r (t .0) in
           let long = t .1 in
-          let v : view (pack r) ≡ r = view-pack r (writable-allowed r (t .0) .held) in
-          let n′ : length (layout r) ≤ length room = omega (arith, long) in
-          let front : take k out ≡ layout r =
-          rw (q .1 ∙ rw v at (room-after (pack r) (length (layout r)) wrote room n′), long) (take-append-seam (layout r) _) in
-          (q .0 ∙ rw long (with-room (pack r) (length (layout r)) wrote (length room) n′), front ∙ sym (t .2));
+          let u = allowed-so r (t .0) room (omega (arith, long)) b out q in
+          let front : take k out ≡ layout r = rw (u .1, long) (take-append-seam (layout r) _) in
+          (u .0 ∙ rw long, front ∙ sym (t .2));
       in-its-place = λ e w d o n k now p. rw (p .1) (in-place e d n k o w (sym (p .0)));
       unless-a-reason = λ e d n r now p. (
         λ a. edit-taken e d n (a .0) (sym (p .0) ∙ a .1) .0,

@@ -43,8 +43,8 @@ use Rattle.annex.specs.declared.Reading.{Reading}
 use Rattle.annex.specs.declared.Record.{Record}
 use Rattle.annex.specs.declared.Row.{Row}
 use Rattle.tight.specs.Told.{
-  Told,
-  ToldClass,
+  HasNumber,
+  ClassHasNumber,
   verdict-told,
   find-told,
   spans-told,
@@ -60,23 +60,23 @@ use Rattle.tight.specs.Told.{
 
 -- r is right by d, which a definition gives
 pub record Right (d r : Answer) : Type 0 where
-  pub told : Told r
+  pub told : HasNumber r
   pub number : numberOf r ≡ numberOf d
   pub place : placeOf r ≡ placeOf d
   pub value : givenOf r ≡ givenOf d
 
-same-answer : (d r : Answer) → Told d → Right d r → r ≡ d
+same-answer : (d r : Answer) → HasNumber d → Right d r → r ≡ d
 same-answer (Accepted n) (Accepted k) t e = ap Accepted (e .value)
 same-answer (Accepted n) (Refused k p) t e = absurd (omega (arith, e .told, e .number))
 same-answer (Refused j q) (Accepted k) t e = absurd (omega (arith, e .number))
 same-answer (Refused j q) (Refused k p) t e = rw (e .number, e .place)
 
-pub right : (d r : Answer) → Told d → (r ≡ d) ↔ Right d r
+pub right : (d r : Answer) → HasNumber d → (r ≡ d) ↔ Right d r
 right d r t =
     (λ e. record { told = rw e t; number = ap numberOf e; place = ap placeOf e; value = ap givenOf e }, same-answer d r t)
 
 -- and lent memory, or a record, beside it
-right-with : {A : Type 0} (d r : Answer) (x y : A) → Told d → ((r ≡ d) × (y ≡ x)) ↔ (Right d r × (y ≡ x))
+right-with : {A : Type 0} (d r : Answer) (x y : A) → HasNumber d → ((r ≡ d) × (y ≡ x)) ↔ (Right d r × (y ≡ x))
 right-with d r x y t = let e = right d r t in (λ p. (e .0 (p .0), p .1), λ p. (e .1 (p .0), p .1))
 
 -- ---- the promises
@@ -124,7 +124,7 @@ same-reading r d e =
 same-imaged : (r d : Imaged) → (r .answer ≡ d .answer) × (r .held ≡ d .held) → r ≡ d
 same-imaged r d e = ap (λ a. record { answer = a; held = r .held }) (e .0) ∙ ap (λ q. record { answer = d .answer; held = q }) (e .1)
 
-read-answer : (a : Answer) (r : List Part) → readBy a r .answer ≡ a
+pub read-answer : (a : Answer) (r : List Part) → readBy a r .answer ≡ a
 read-answer (Accepted n) r = refl
 read-answer (Refused k p) r = refl
 
@@ -149,7 +149,7 @@ imaged-numbers image r =
 -- ---- the class answer
 
 pub record RightClass (d r : ClassAnswer) : Type 0 where
-  pub told : ToldClass r
+  pub told : ClassHasNumber r
   pub number : classNumberOf r ≡ classNumberOf d
   pub place : classPlaceOf r ≡ classPlaceOf d
   pub value : classGivenOf r ≡ classGivenOf d
@@ -165,7 +165,7 @@ same-class Spare Named e = absurd (omega arith)
 same-class Spare HeldBack e = absurd (omega arith)
 same-class Spare Spare e = refl
 
-same-class-answer : (d r : ClassAnswer) → ToldClass d → RightClass d r → r ≡ d
+same-class-answer : (d r : ClassAnswer) → ClassHasNumber d → RightClass d r → r ≡ d
 same-class-answer (classes.Is c) (classes.Is b) t e = ap classes.Is (same-class b c (e .value))
 same-class-answer (classes.Is c) (classes.Refused k p) t e = absurd (omega (arith, e .told, e .number))
 same-class-answer (classes.Refused j q) (classes.Is b) t e = absurd (omega (arith, e .number))

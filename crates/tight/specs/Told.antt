@@ -115,6 +115,7 @@ use Rattle.annex.specs.Writing.{
 use Rattle.annex.specs.Image.{Front, imageOf, imagingOf, partsFront, noImage, isWithin, imagedBy, imagedOf}
 use Rattle.annex.specs.Image.Front.{Taken, Short}
 use Rattle.annex.specs.Finding.{foundAnswer, findAnswer}
+use Rattle.annex.specs.Packed.{imageReading, imageWriting}
 use Rattle.annex.specs.Spans.{rowsOf, spansOf, spansBy}
 use Rattle.annex.specs.Editing.{Edit, newHeader, newAfter, newHead, newContents, editRefusal, edited, recordEditing, editingOf}
 use Rattle.annex.specs.Editing.Edit.{Replacing, Appending, Removing}
@@ -140,68 +141,68 @@ use Rattle.annex.specs.declared.Record.{Record}
 
 -- ---- answers
 
-abbrev pub Told : Answer → Type 0
-Told (Accepted n) = Unit {0}
-Told (Refused k p) = 0 < k
+abbrev pub HasNumber : Answer → Type 0
+HasNumber (Accepted n) = Unit {0}
+HasNumber (Refused k p) = 0 < k
 
-abbrev ToldFault : Fault → Type 0
-ToldFault Sound = Unit {0}
-ToldFault (Bad k i) = 0 < k
+abbrev FaultHasNumber : Fault → Type 0
+FaultHasNumber Sound = Unit {0}
+FaultHasNumber (Bad k i) = 0 < k
 
-abbrev pub ToldClass : ClassAnswer → Type 0
-ToldClass (classes.Is c) = Unit {0}
-ToldClass (classes.Refused k p) = 0 < k
+abbrev pub ClassHasNumber : ClassAnswer → Type 0
+ClassHasNumber (classes.Is c) = Unit {0}
+ClassHasNumber (classes.Refused k p) = 0 < k
 
-refused : (b : Bool) (k p : ℕ) (a : Answer) → 0 < k → Told a → Told (refuse b k p a)
+refused : (b : Bool) (k p : ℕ) (a : Answer) → 0 < k → HasNumber a → HasNumber (refuse b k p a)
 refused true k p a h t = h
 refused false k p a h t = t
 
-followed : (a : Answer) (f : ℕ → Answer) → Told a → ((n : ℕ) → Told (f n)) → Told (andThen a f)
+followed : (a : Answer) (f : ℕ → Answer) → HasNumber a → ((n : ℕ) → HasNumber (f n)) → HasNumber (andThen a f)
 followed (Accepted n) f t g = g n
 followed (Refused k p) f t g = t
 
-sounded : (place : ℕ → ℕ → ℕ) (f : Fault) (a : Answer) → ToldFault f → Told a → Told (soundThen place f a)
+sounded : (place : ℕ → ℕ → ℕ) (f : Fault) (a : Answer) → FaultHasNumber f → HasNumber a → HasNumber (soundThen place f a)
 sounded place Sound a h t = t
 sounded place (Bad k i) a h t = h
 
-moved : (s : ℕ) (a : Answer) → Told a → Told (shifted s a)
+moved : (s : ℕ) (a : Answer) → HasNumber a → HasNumber (shifted s a)
 moved s (Accepted n) t = record {}
 moved s (Refused k p) t = t
 
-either : (b : Bool) (a c : Answer) → Told a → Told c → Told (cond b a c)
+either : (b : Bool) (a c : Answer) → HasNumber a → HasNumber c → HasNumber (cond b a c)
 either true a c t u = t
 either false a c t u = u
 
 -- ---- faults of contents, and of what a record holds
 
-formed : (b : Bool) (f : Fault) → ToldFault f → ToldFault (formedThen b f)
+formed : (b : Bool) (f : Fault) → FaultHasNumber f → FaultHasNumber (formedThen b f)
 formed true f t = t
 formed false f t = omega arith
 
-one-of : (b : Bool) (f g : Fault) → ToldFault f → ToldFault g → ToldFault (cond b f g)
+one-of : (b : Bool) (f g : Fault) → FaultHasNumber f → FaultHasNumber g → FaultHasNumber (cond b f g)
 one-of true f g t u = t
 one-of false f g t u = u
 
-halves-told : (z : Alphabet) (n i : ℕ) (hs : List ℕ) → ToldFault (halvesFault z n i hs)
+halves-told : (z : Alphabet) (n i : ℕ) (hs : List ℕ) → FaultHasNumber (halvesFault z n i hs)
 unfolding halvesFault
 halves-told z n i [] = record {}
 halves-told z zero i (h ∷ hs) = one-of (eqb h 0) (halvesFault z zero (i + 1) hs) _ (halves-told z zero (i + 1) hs) (omega arith)
 halves-told z (suc n) i (h ∷ hs) = one-of (isCode z h) (halvesFault z n (i + 1) hs) _ (halves-told z n (i + 1) hs) (omega arith)
 
-number-told : (at : ℕ) (s : List ℕ) → ToldFault (numberFault at s)
+number-told : (at : ℕ) (s : List ℕ) → FaultHasNumber (numberFault at s)
 unfolding numberFault digitsFault
 number-told at s =
     formed (not (ltb (length s) 2)) _
     (formed (not (eqb (oddOf s) 1 && eqb (length s) 2)) _
     (halves-told Numbered (countOf s .0) _ (halves (drop 2 s))))
 
-check-told : (c : Check) (s : List ℕ) → ToldFault (checkFault c s)
+check-told : (c : Check) (s : List ℕ) → FaultHasNumber (checkFault c s)
 unfolding twoFault
 check-told Nothing s = record {}
 check-told (Long n) s = formed (eqb (length s) n) Sound (record {})
 check-told (Two mask) s = formed (eqb (length s) 2 && clear mask (getD s 1 0)) Sound (record {})
 
-form-told : (f : Form) (s : List ℕ) → ToldFault (faultBy f s)
+form-told : (f : Form) (s : List ℕ) → FaultHasNumber (faultBy f s)
 unfolding dialledFault digitsFault callingFault genericFault
 form-told (Checked c) s = check-told c s
 form-told (Digits m) s = halves-told Dialled _ _ (halves (drop 1 s))
@@ -213,18 +214,18 @@ form-told Generic s =
     formed (not (eqb (length s) 0)) _
     (one-of (eqb (getD s 0 0) added-calling-number) (numberFault 1 (drop 1 s)) Sound (number-told 1 (drop 1 s)) (record {}))
 
-fault-told : (h : ℕ) (s : List ℕ) → ToldFault (faultOf h s)
+fault-told : (h : ℕ) (s : List ℕ) → FaultHasNumber (faultOf h s)
 unfolding faultOf
 fault-told h s = formed (clear (zeroesOf h) (getD s 0 0)) (faultBy (formOf h) s) (form-told (formOf h) s)
 
-values-told : (b : Bool) (ds : List ℕ) → ToldFault (formedThen b (cond (every isDigit ds) Sound (Bad 13 0)))
+values-told : (b : Bool) (ds : List ℕ) → FaultHasNumber (formedThen b (cond (every isDigit ds) Sound (Bad 13 0)))
 values-told b ds = formed b _ (one-of (every isDigit ds) Sound _ (record {}) (omega arith))
 
-held-told : (i : Item) → ToldFault (faultIn i)
+held-told : (i : Item) → FaultHasNumber (faultIn i)
 unfolding faultIn
 held-told i = go (heldAs i)
   where
-    go : (a : Holding) → ToldFault (faultAs a i)
+    go : (a : Holding) → FaultHasNumber (faultAs a i)
     go AsContents = fault-told (i .header) (i .values)
     go (AsDigits m) = values-told (marksRight m i) (i .values)
     go (AsNumber w) = values-told (numberRight w i) (i .values)
@@ -232,20 +233,20 @@ held-told i = go (heldAs i)
 
 -- ---- reading
 
-module _ (step : Step) (close : Seen → ℕ → Answer) (each : (seen : Seen) (h : ℕ) (xs : List ℕ) → Told (step seen h xs))
-    (last : (seen : Seen) (p : ℕ) → Told (close seen p)) where
-  walked : (xs : List ℕ) (seen : Seen) (k p : ℕ) → Told (walk (judging step close) seen k p xs)
+module _ (step : Step) (close : Seen → ℕ → Answer) (each : (seen : Seen) (h : ℕ) (xs : List ℕ) → HasNumber (step seen h xs))
+    (last : (seen : Seen) (p : ℕ) → HasNumber (close seen p)) where
+  walked : (xs : List ℕ) (seen : Seen) (k p : ℕ) → HasNumber (walk (judging step close) seen k p xs)
   unfolding walk
   walked [] seen k p = last seen p
   walked (x ∷ xs) seen (suc k) p = walked xs seen k (p + 1)
   walked (x ∷ xs) seen zero p = go (step seen x xs) (each seen x xs) (walked xs (counted seen x))
     where
-      go : (a : Answer) → Told a → ((k p : ℕ) → Told (walk (judging step close) (counted seen x) k p xs))
-          → Told (byStep a (λ k q. Refused k (p + q)) (λ n. walk (judging step close) (counted seen x) n (p + 1) xs))
+      go : (a : Answer) → HasNumber a → ((k p : ℕ) → HasNumber (walk (judging step close) (counted seen x) k p xs))
+          → HasNumber (byStep a (λ k q. Refused k (p + q)) (λ n. walk (judging step close) (counted seen x) n (p + 1) xs))
       go (Accepted n) t rest = rest n (p + 1)
       go (Refused k q) t rest = t
 
-transfer-told : (seen : Seen) (h : ℕ) (xs : List ℕ) → Told (transferStep seen h xs)
+transfer-told : (seen : Seen) (h : ℕ) (xs : List ℕ) → HasNumber (transferStep seen h xs)
 unfolding transferBy
 transfer-told seen h xs =
     let n = afterOf (extentOf h) (getD xs 0 0) in
@@ -256,7 +257,7 @@ transfer-told seen h xs =
     (refused (ltb (length xs) n) cut-contents 0 _ (omega arith)
     (sounded (readingAt (1 + leadOf (extentOf h))) f (Accepted n) (fault-told h (contentsIn (extentOf h) (take n xs))) (record {})))))
 
-data-told : (n : ℕ) (xs : List ℕ) → Told (dataOf n xs)
+data-told : (n : ℕ) (xs : List ℕ) → HasNumber (dataOf n xs)
 unfolding dataBy transfersVerdictBy
 data-told n xs =
     let t = contentsIn (commonExtentOf transfer-data) (take n xs) in
@@ -264,7 +265,7 @@ data-told n xs =
     (moved 2 (transfersVerdict t) (walked transferStep (λ seen p. Accepted p) transfer-told (λ seen p. record {}) t unseen 0 0))
     (λ _. record {})
 
-form-kept : (times h : ℕ) (xs : List ℕ) → Told (commonForm times h xs)
+form-kept : (times h : ℕ) (xs : List ℕ) → HasNumber (commonForm times h xs)
 unfolding commonForm
 form-kept times h xs =
     let n = afterOf (commonExtentOf h) (getD xs 0 0) in
@@ -273,22 +274,22 @@ form-kept times h xs =
     (refused (ltb (length xs) n) cut-short 0 _ (omega arith)
     (refused (not (octetAllowed h (getD xs 0 0))) not-allowed 0 (Accepted n) (omega arith) (record {}))))
 
-end-told : (whole : Bool) (xs : List ℕ) → Told (endOf whole xs)
+end-told : (whole : Bool) (xs : List ℕ) → HasNumber (endOf whole xs)
 unfolding endOf
 end-told whole xs =
     refused (not whole) missing 0 _ (omega arith) (refused (ltb 0 (length xs)) left-over 1 (Accepted 0) (omega arith) (record {}))
 
-common-told : (seen : Seen) (h : ℕ) (xs : List ℕ) → Told (commonStep seen h xs)
+common-told : (seen : Seen) (h : ℕ) (xs : List ℕ) → HasNumber (commonStep seen h xs)
 unfolding commonBy
 common-told seen h xs =
     followed (commonForm (timesSeen seen h) h xs) _ (form-kept (timesSeen seen h) h xs)
     (λ n. either (eqb h end-mark) (endOf (wholeIn seen) xs) _ (end-told (wholeIn seen) xs)
     (either (eqb h transfer-data) (dataOf n xs) (Accepted n) (data-told n xs) (record {})))
 
-close-told : (seen : Seen) (p : ℕ) → Told (commonClose seen p)
+close-told : (seen : Seen) (p : ℕ) → HasNumber (commonClose seen p)
 close-told seen p = refused (not (ltb 0 (timesSeen seen end-mark))) cut-short p (Accepted p) (omega arith) (record {})
 
-pub verdict-told : (m : List ℕ) → Told (verdictOf m)
+pub verdict-told : (m : List ℕ) → HasNumber (verdictOf m)
 unfolding verdictBy messageVerdictBy
 verdict-told m =
     refused (eqb (length m) 0 || ltb most-octets (length m)) over-limits 0 (messageVerdict m) (omega arith)
@@ -296,14 +297,14 @@ verdict-told m =
 
 -- ---- finding and rows
 
-found-told : (f : Found) → Told (foundAnswer f)
+found-told : (f : Found) → HasNumber (foundAnswer f)
 found-told (At s e) = record {}
 found-told Nowhere = omega arith
 
-pub find-told : (m : List ℕ) (f : Found) → Told (findAnswer m f)
+pub find-told : (m : List ℕ) (f : Found) → HasNumber (findAnswer m f)
 find-told m f = followed (verdictOf m) (λ _. foundAnswer f) (verdict-told m) (λ _. found-told f)
 
-pub spans-told : (m : List ℕ) (room : ℕ) → Told (spansOf m room)
+pub spans-told : (m : List ℕ) (room : ℕ) → HasNumber (spansOf m room)
 unfolding spansBy
 spans-told m room =
     followed (verdictOf m) _ (verdict-told m)
@@ -311,11 +312,11 @@ spans-told m room =
 
 -- ---- writing
 
-head-told : (p h : ℕ) (a : Answer) → Told a → Told (headWriting p h a)
+head-told : (p h : ℕ) (a : Answer) → HasNumber a → HasNumber (headWriting p h a)
 head-told p h a t =
     refused (not (nameUsed h)) unused-name p _ (omega arith) (refused (not (pliRight h)) other-pli p a (omega arith) t)
 
-item-told : (times p : ℕ) (i : Item) → Told (itemWriting times p i)
+item-told : (times p : ℕ) (i : Item) → HasNumber (itemWriting times p i)
 unfolding itemWriting
 item-told times p i =
     head-told p (i .header) _
@@ -323,14 +324,14 @@ item-told times p i =
     (refused (not (lengthRight i)) cut-contents p _ (omega arith)
     (sounded (headerAt p) (faultIn i) (Accepted (p + length (layoutItem i))) (held-told i) (record {}))))
 
-items-told : (is : List Item) (seen : Seen) (p : ℕ) → Told (itemsWriting seen p is)
+items-told : (is : List Item) (seen : Seen) (p : ℕ) → HasNumber (itemsWriting seen p is)
 unfolding itemsWriting
 items-told [] seen p = record {}
 items-told (i ∷ is) seen p =
     followed (itemWriting (timesSeen seen (i .header)) p i) (λ q. itemsWriting (counted seen (i .header)) q is)
     (item-told (timesSeen seen (i .header)) p i) (λ q. items-told is (counted seen (i .header)) q)
 
-part-told : (times p : ℕ) (q : Part) → Told (partWriting times p q)
+part-told : (times p : ℕ) (q : Part) → HasNumber (partWriting times p q)
 unfolding partWriting dataWriting
 part-told times p q =
     refused (not (among (q .header) commonHeaders)) unlisted p _ (omega arith)
@@ -342,27 +343,27 @@ part-told times p q =
     (λ e. refused (ltb most-transfer-octets (e - (p + 2))) transfer-over p (Accepted e) (omega arith) (record {})))
     (record {})))))
 
-parts-told : (r : List Part) (seen : Seen) (p : ℕ) → Told (partsWriting seen p r)
+parts-told : (r : List Part) (seen : Seen) (p : ℕ) → HasNumber (partsWriting seen p r)
 unfolding partsWriting
 parts-told [] seen p = refused (not (wholeIn seen)) missing p (Accepted (p + 1)) (omega arith) (record {})
 parts-told (q ∷ qs) seen p =
     followed (partWriting (timesSeen seen (q .header)) p q) (λ k. partsWriting (counted seen (q .header)) k qs)
     (part-told (timesSeen seen (q .header)) p q) (λ k. parts-told qs (counted seen (q .header)) k)
 
-pub struct-told : (s : Record) → Told (structWriting s)
+pub struct-told : (s : Record) → HasNumber (structWriting s)
 unfolding structWriting recordWriting
 struct-told s =
     refused (not (isWhole s)) over-limits 0 _ (omega arith)
     (refused (overLimits (view s)) over-limits 0 _ (omega arith) (parts-told (view s) unseen 0))
 
-pub writing-told : (s : Record) (room : ℕ) → Told (writingOf s room)
+pub writing-told : (s : Record) (room : ℕ) → HasNumber (writingOf s room)
 unfolding writingOf
 writing-told s room =
     followed (structWriting s) _ (struct-told s) (λ n. refused (ltb room n) no-room 0 (Accepted n) (omega arith) (record {}))
 
 -- ---- editing
 
-new-told : (new : List ℕ) (b : Bool) (k : ℕ) → 0 < k → Told (newHead new (refuse b k 0 (newContents new)))
+new-told : (new : List ℕ) (b : Bool) (k : ℕ) → 0 < k → HasNumber (newHead new (refuse b k 0 (newContents new)))
 new-told new b k h =
     let x = newHeader new in
     let xs = newAfter new in
@@ -372,7 +373,7 @@ new-told new b k h =
     (refused (not (eqb (length xs) (afterOf (extentOf x) (getD xs 0 0)))) cut-contents 0 _ (omega arith)
     (sounded (headerAt 0) (faultOf x (contentsIn (extentOf x) xs)) (Accepted 0) (fault-told x (contentsIn (extentOf x) xs)) (record {})))))
 
-edit-told : (e : Edit) (is : List Item) → Told (editRefusal e is)
+edit-told : (e : Edit) (is : List Item) → HasNumber (editRefusal e is)
 unfolding editRefusal
 edit-told (Replacing new which) is = new-told new (leb (timesIn (nameOf (newHeader new)) (namesOf is)) which) absent (omega arith)
 edit-told (Appending new) is =
@@ -380,7 +381,7 @@ edit-told (Appending new) is =
     new-told new (leb (oftenOf x) (timesIn x (namesOf is))) repeated-name (omega arith)
 edit-told (Removing x which) is = refused (leb (timesIn x (namesOf is)) which) absent 0 (Accepted 0) (omega arith) (record {})
 
-pub editing-told : (e : Edit) (d : List ℕ) (n : ℕ) → Told (editingOf e d n)
+pub editing-told : (e : Edit) (d : List ℕ) (n : ℕ) → HasNumber (editingOf e d n)
 unfolding editingOf recordEditing
 editing-told e d n =
     let r = recordOf (take n d) in
@@ -394,37 +395,49 @@ editing-told e d n =
 
 -- ---- a record's image
 
-pub imaging-told : (q : Record) (room : ℕ) → Told (imagingOf q room)
+pub imaging-told : (q : Record) (room : ℕ) → HasNumber (imagingOf q room)
 unfolding imagingOf
 imaging-told q room =
     let k = length (imageOf (view q)) in
     refused (not (isWhole q)) over-limits 0 _ (omega arith) (refused (ltb room k) no-room 0 (Accepted k) (omega arith) (record {}))
 
-pub imaged-told : (image : List ℕ) → Told (imagedOf image .answer)
+pub imaged-told : (image : List ℕ) → HasNumber (imagedOf image .answer)
 unfolding imagedOf
 imaged-told [] = omega arith
 imaged-told (n ∷ s) = go (partsFront n s)
   where
-    told : (b : Bool) (r : List Part) → Told (cond b (record { answer = Accepted (length r); held = pack r }) noImage .answer)
+    told : (b : Bool) (r : List Part) → HasNumber (cond b (record { answer = Accepted (length r); held = pack r }) noImage .answer)
     told true r = record {}
     told false r = omega arith
 
-    go : (f : Front Part) → Told (imagedBy (length s) f .answer)
+    go : (f : Front Part) → HasNumber (imagedBy (length s) f .answer)
     go (Taken r k) = told (eqb k (length s) && isWithin r) r
     go Short = omega arith
 
+-- a message read to its record's image, and written from one
+pub read-image-told : (m : List ℕ) (room : ℕ) → HasNumber (imageReading m room)
+unfolding imageReading
+read-image-told m room =
+    let k = length (imageOf (recordOf m)) in
+    followed (verdictOf m) _ (verdict-told m) (λ _. refused (ltb room k) no-room 0 (Accepted k) (omega arith) (record {}))
+
+pub write-image-told : (image : List ℕ) (room : ℕ) → HasNumber (imageWriting image room)
+unfolding imageWriting
+write-image-told image room =
+    followed (imagedOf image .answer) _ (imaged-told image) (λ _. writing-told (imagedOf image .held) room)
+
 -- ---- classes
 
-pub class-told : (h x : ℕ) → ToldClass (classOf h x)
+pub class-told : (h x : ℕ) → ClassHasNumber (classOf h x)
 unfolding classOf
 class-told h x = among-told classLists
   where
-    one : (b c : Bool) (k : Class) (rest : ClassAnswer) → ToldClass rest
-        → ToldClass (cond b (cond c (classes.Is k) (classes.Refused bad-form 0)) rest)
+    one : (b c : Bool) (k : Class) (rest : ClassAnswer) → ClassHasNumber rest
+        → ClassHasNumber (cond b (cond c (classes.Is k) (classes.Refused bad-form 0)) rest)
     one true true k rest t = record {}
     one true false k rest t = omega arith
     one false c k rest t = t
 
-    among-told : (ls : List ClassList) → ToldClass (classIn ls h x)
+    among-told : (ls : List ClassList) → ClassHasNumber (classIn ls h x)
     among-told [] = omega arith
     among-told (l ∷ ls) = one (eqb h (l .header)) (clear (zeroesOf h) x) (classBy l x) (classIn ls h x) (among-told ls)

@@ -200,10 +200,7 @@ transfer-always-there n p = let z : _≡_ {A = ℕ} 0 16 = ap numberOf (p ∙ sa
 pub transfer-at-header : FindTransferAnswerPromise M 0x18 (Accepted 18) → ⊥
 transfer-at-header p = let z : _≡_ {A = ℕ} 18 19 = ap givenOf (p ∙ said .dialled-at) in omega arith
 
--- ---- rows: one that makes up its count; one that ignores the room
-
-pub invented-count : SpansCheckPromise M most-rows (Accepted 10) → ⊥
-invented-count p = let z : _≡_ {A = ℕ} 10 9 = ap givenOf (p ∙ said .nine-rows) in omega arith
+-- ---- rows: one that ignores the room (an invented count: WrongRows)
 
 pub ignores-room : SpansCheckPromise M 8 (Accepted 9) → ⊥
 ignores-room p = let z : _≡_ {A = ℕ} 0 15 = ap numberOf (p ∙ said .no-room) in omega arith

@@ -1,5 +1,5 @@
 -- Listings that the promise shuts out: an invented row count of any message, the others at a message at which they break it.
-use Prim.Native.Nat.{ℕ, _+_, _≤_}
+use Prim.Native.Nat.{ℕ, _+_, _/_, _≤_}
 use native.Mathlib.Omega.{arith}
 use mathlib.Core.Path.{_≡_, refl, ap, _∙_}
 use mathlib.Core.Bool.{Bool, true, false}
@@ -24,22 +24,19 @@ use Rattle.annex.specs.Reading.{
   commonsBy,
 }
 use Rattle.annex.specs.Spans.{rowsOf, spansOf, tableOf, commonRowsBy, rowsBy, spansBy}
-use Rattle.annex.specs.Promises.{SpansPromise}
-use Rattle.annex.specs.Bench.{K}
+use Rattle.annex.specs.Packed.{row-octets}
+use Rattle.annex.specs.Promises.{SpansCheckPromise, SpansPromise, OctetSpansPromise}
 use Rattle.annex.specs.Walking.{noRow}
 use Rattle.annex.specs.declared.Answer.{Answer}
 use Rattle.annex.specs.declared.Answer.the-variants.{Accepted}
 use Rattle.annex.specs.declared.Row.{Row}
 use Rattle.theorems.specs.Listings.{row-count}
-
--- the shortest accepted message, case 2 of the bench table
-abbrev pub short : List ℕ
-short = K ++ 0x00 ∷ []
+use Rattle.tight.specs.Wrong.{short}
 
 abbrev rowFor : ℕ → ℕ → ℕ → Row
 rowFor offset header len = record { offset = offset; header = header; len = len }
 
--- it has three rows: user class, signal kind, end mark
+-- the shortest accepted message, case 2 of the bench table, has three rows: user class, signal kind, end mark
 abbrev pub shortRows : List Row
 shortRows = rowFor 0 0x01 1 ∷ rowFor 2 0x06 1 ∷ rowFor 4 0x00 0 ∷ []
 
@@ -48,17 +45,24 @@ unfolding afterOf leadOf commonExtentOf walk octetAllowed commonForm endOf dataB
     rowsBy spansBy
 short-listed room = (refl, refl)
 
--- an invented row count, whatever the message: any but that of the record's parameters and the end mark
-pub invented-count-breaks : (m : List ℕ) → every isOctet m ≡ true → (k : ℕ) → verdictOf m ≡ Accepted k → (n : ℕ)
-    → (n ≡ 1 + length (recordOf m) + length (itemsIn (recordOf m)) → ⊥) → (table now : List Row) → SpansPromise m table (Accepted n) now
-    → ⊥
+-- an invented row count, whatever the message and the room: any but that of the record's parameters and the end mark
+pub invented-count : (m : List ℕ) → every isOctet m ≡ true → (k : ℕ) → verdictOf m ≡ Accepted k → (n : ℕ)
+    → (n ≡ 1 + length (recordOf m) + length (itemsIn (recordOf m)) → ⊥) → (room : ℕ) → SpansCheckPromise m room (Accepted n) → ⊥
 unfolding spansBy
-invented-count-breaks m o k e n other table now p =
-    other (go (ltb (length table) (length (rowsOf m))) (rw e at (p .0)) ∙ row-count m o k e)
+invented-count m o k e n other room p = other (go (ltb room (length (rowsOf m))) (rw e at p) ∙ row-count m o k e)
   where
     go : (b : Bool) → Accepted n ≡ refuse b no-room 0 (Accepted (length (rowsOf m))) → n ≡ length (rowsOf m)
     go true f = absurd (let z : _≡_ {A = ℕ} 0 15 = ap numberOf f in omega arith)
     go false f = ap givenOf f
+
+-- so too for those that fill a table, of rows or of octets
+module _ (m : List ℕ) (o : every isOctet m ≡ true) (k : ℕ) (e : verdictOf m ≡ Accepted k) (n : ℕ)
+    (other : n ≡ 1 + length (recordOf m) + length (itemsIn (recordOf m)) → ⊥) where
+  pub invented-count-breaks : (table now : List Row) → SpansPromise m table (Accepted n) now → ⊥
+  invented-count-breaks table now p = invented-count m o k e n other (length table) (p .0)
+
+  pub invented-octets-break : (table now : List ℕ) → OctetSpansPromise m table (Accepted n) now → ⊥
+  invented-octets-break table now p = invented-count m o k e n other (length table / row-octets) (p .0)
 
 -- a row left out: the end mark's stands where that of the signal kind has to stand
 pub lost-row-breaks : (table now : List Row) (r : Answer) → 3 ≤ length table
