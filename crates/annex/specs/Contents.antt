@@ -82,9 +82,13 @@ faultBy Number s = numberFault 0 s
 faultBy Calling s = callingFault s
 faultBy Generic s = genericFault s
 
--- the contents s under the header h: first the bits that must be 0, then the form
+-- the contents s: first these bits of their first octet that must be 0, then the form
+abbrev pub faultUnder : ℕ → Form → List ℕ → Fault
+faultUnder zeroes form s = formedThen (clear zeroes (getD s 0 0)) (faultBy form s)
+
+-- as the header h asks it
 unfoldable pub faultOf : ℕ → List ℕ → Fault
-faultOf h s = formedThen (clear (zeroesOf h) (getD s 0 0)) (faultBy (formOf h) s)
+faultOf h s = faultUnder (zeroesOf h) (formOf h) s
 
 -- what is wrong with the contents under a header, by some rule; faultOf is the one in force
 abbrev pub Rule : Type 0

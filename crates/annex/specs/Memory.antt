@@ -5,7 +5,15 @@ use mathlib.Core.Bool.{Bool, _&&_}
 use mathlib.Core.List.{List, _++_, map}
 use lib.Dec.{leb}
 use lib.ListN.{length, take, drop}
+use lib.Seq.{sets}
+use Rattle.annex.specs.Heads.{most-values}
+use Rattle.annex.specs.Digits.{digitsOf, packed}
+use Rattle.annex.specs.Layout.{layoutItem}
+use Rattle.annex.specs.Records.{itemFrom}
 use Rattle.annex.specs.Editing.{holding}
+use Rattle.annex.specs.declared.Alphabet.{Alphabet}
+use Rattle.annex.specs.declared.HalfOctets.{HalfOctets}
+use Rattle.annex.specs.declared.Transfer.{Transfer}
 
 -- d with s written over it from index at on
 unfoldable pub put : List ℕ → ℕ → List ℕ → List ℕ
@@ -31,3 +39,32 @@ spliced d n from old new = holding d n (splicedMessage d n from old new)
 abbrev pub spliceFits : List ℕ → ℕ → ℕ → ℕ → List ℕ → Bool
 spliceFits d n from old new =
     leb (from + old) n && (leb n (length d) && leb (n - old + length new) (length d))
+
+-- ---- what a function that stores is asked for: whether the request fits, lent memory with it stored, and as it was
+
+pub record Request : Type 0 where
+  pub fits : Bool
+  pub stored : List ℕ
+  pub before : List ℕ
+
+abbrev request : Bool → List ℕ → List ℕ → Request
+request f s b = record { fits = f; stored = s; before = b }
+
+-- octets::copy_in, octets::splice
+abbrev pub copying : List ℕ → ℕ → List ℕ → Request
+copying d at s = request (leb (at + length s) (length d)) (put d at s) d
+
+abbrev pub splicing : List ℕ → ℕ → ℕ → ℕ → List ℕ → Request
+splicing d n from old new = request (spliceFits d n from old new) (spliced d n from old new) d
+
+-- digits::packing::pack_digits, unpack_digits
+abbrev pub packing : Alphabet → List ℕ → List ℕ → Request
+packing z ds room = request (leb (length (packed z ds)) (length room)) (atFront (packed z ds) room) room
+
+abbrev pub unpacking : Alphabet → List ℕ → HalfOctets → List ℕ → ℕ → Request
+unpacking z octets n values used =
+    request (leb (used + length (digitsOf z n octets)) most-values) (sets values used (digitsOf z n octets)) values
+
+-- layout::put
+abbrev pub laying : Transfer → List ℕ → List ℕ → Request
+laying t vs room = request (leb (length (layoutItem (itemFrom t vs))) (length room)) (atFront (layoutItem (itemFrom t vs)) room) room

@@ -24,6 +24,7 @@ use Rattle.annex.specs.Packed.{
   octetSpans,
   octetTable,
 }
+use Rattle.annex.specs.Memory.{Request}
 use Rattle.annex.specs.declared.Answer.{Answer}
 use Rattle.annex.specs.declared.Record.{Record}
 use Rattle.annex.specs.declared.Reading.{Reading}
@@ -132,3 +133,7 @@ Gives given r = r ≡ given
 -- one that stores says whether the request fits, and where it does not, lent memory stays as it was.
 abbrev pub Stores : Bool → List ℕ → List ℕ → Bool → List ℕ → Type 0
 Stores fits stored before r now = (r ≡ fits) × (now ≡ cond r stored before)
+
+-- the same of a request (Memory)
+abbrev pub Keeps : Request → Bool → List ℕ → Type 0
+Keeps a r now = Stores (a .fits) (a .stored) (a .before) r now

@@ -12,11 +12,11 @@ ghost use lib.Dec.{leb};
 ghost use lib.ListN.{length};
 ghost use lib.Seq.{sets};
 ghost use Rattle.annex.specs.Heads.{most-values};
-ghost use Rattle.annex.specs.Promises.{Gives, Stores};
+ghost use Rattle.annex.specs.Promises.{Gives, Keeps};
 ghost use Rattle.annex.specs.Units.{octetsOf, halvesIn};
 ghost use Rattle.annex.specs.Digits.{isDigit, digitsOf, packed, halvesFor};
 ghost use Rattle.annex.specs.Allowed.{every};
-ghost use Rattle.annex.specs.Memory.{atFront};
+ghost use Rattle.annex.specs.Memory.{atFront, packing, unpacking};
 
 // Whether each value is a digit. No turn leaves early, so that the compiler can take many at once.
 pub fn are_digits(values: &[u8]) -> bool
@@ -85,8 +85,7 @@ fn pack_fitting(z: Alphabet, digits: &[u8], room: &mut [u8])
 
 // Writes digits at the front of the room, two to an octet, low half first.
 pub fn pack_digits(z: Alphabet, digits: &[u8], room: &mut [u8]) -> bool
-    ensures { λ r. ⌜ Stores (leb (length (packed z (now (digits .entry)))) (length (now (room .entry))))
-        (atFront (packed z (now (digits .entry))) (now (room .entry))) (now (room .entry)) r (now (room .exit)) ⌝ }
+    ensures { λ r. ⌜ Keeps (packing z (now (digits .entry)) (now (room .entry))) r (now (room .exit)) ⌝ }
 {
     let octets = packed_len(digits);
     if room.len() < octets.0 {
@@ -130,8 +129,7 @@ pub fn unpack_digits(
     values: &mut [u8; Transfer::MOST_VALUES],
     used: usize,
 ) -> bool
-    ensures { λ r. ⌜ Stores (leb (used + length (digitsOf z n (now (octets .entry)))) most-values)
-        (sets (now (values .entry)) used (digitsOf z n (now (octets .entry)))) (now (values .entry)) r (now (values .exit)) ⌝ }
+    ensures { λ r. ⌜ Keeps (unpacking z (now (octets .entry)) n (now (values .entry)) used) r (now (values .exit)) ⌝ }
 {
     let count = digits_in(n, octets);
     if !has_room(used, count.0) {

@@ -27,7 +27,7 @@ ghost use mathlib.Core.List.{List, []};
 ghost use Prim.Native.Nat.{ℕ, _≤_};
 ghost use lib.Dec.{leb};
 ghost use lib.ListN.{length, getD};
-ghost use Rattle.annex.specs.Promises.{Gives, Stores};
+ghost use Rattle.annex.specs.Promises.{Gives, Keeps};
 ghost use Rattle.annex.specs.Units.{extentOf};
 ghost use Rattle.annex.specs.Contents.{formedThen};
 ghost use Rattle.annex.specs.Items.{holdingOf, upperMarks, numberContents, contentsBy, contentsOf};
@@ -36,7 +36,7 @@ ghost use Rattle.annex.specs.Layout.{layoutItem};
 ghost use Rattle.annex.specs.Allowed.{lengthFits, lengthRight, marksRight, fieldsRight, withheldRight, numberRight, valuesFault, faultAs};
 ghost use Rattle.annex.specs.Records.{rawItem, itemFrom};
 ghost use Rattle.annex.specs.Writing.{itemWriting};
-ghost use Rattle.annex.specs.Memory.{atFront};
+ghost use Rattle.annex.specs.Memory.{atFront, laying};
 
 // How the values under this header are held.
 fn held_as(header: u8, values: &[u8]) -> Holding
@@ -313,8 +313,7 @@ fn fits_in(held: Holding, t: Transfer, values: &[u8], room: usize) -> bool
 
 // Writes the parameter at the front of the room, each number modulo 256; where the room is too short, nothing.
 pub fn put(t: Transfer, values: &[u8], room: &mut [u8]) -> bool
-    ensures { λ r. ⌜ Stores (leb (length (layoutItem (itemFrom t (now (values .entry))))) (length (now (room .entry))))
-        (atFront (layoutItem (itemFrom t (now (values .entry)))) (now (room .entry))) (now (room .entry)) r (now (room .exit)) ⌝ }
+    ensures { λ r. ⌜ Keeps (laying t (now (values .entry)) (now (room .entry))) r (now (room .exit)) ⌝ }
 {
     let held = held_as(t.header, values);
     if !fits_in(held, t, values, room.len()) {

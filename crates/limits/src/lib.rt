@@ -5,16 +5,13 @@ use annex::Record;
 use annex::Transfer;
 use layout::contents_len;
 ghost use mathlib.Core.Path.{_≡_};
-ghost use mathlib.Core.Bool.{not, _||_};
 ghost use Prim.Native.Nat.{_≤_};
 ghost use lib.ListN.{take};
 ghost use Rattle.annex.specs.Heads.{most-commons};
 ghost use Rattle.annex.specs.Promises.{Gives};
-ghost use Rattle.annex.specs.Answers.{over-limits, refuse};
 ghost use Rattle.annex.specs.Allowed.{contentsSum};
-ghost use Rattle.annex.specs.Records.{lengthsOf, transferCount, transfersSum, commonsIn, isWhole, view};
-ghost use Rattle.annex.specs.Writing.{overLimits};
-ghost use Rattle.annex.specs.declared.Answer.the-variants.{Accepted};
+ghost use Rattle.annex.specs.Writing.{structOver, transfersHeld};
+ghost use Rattle.annex.specs.Records.{lengthsOf, transferCount, transfersSum, commonsIn, isWhole};
 ghost use Rattle.limits.specs.Along.{itemsAt, Within};
 
 // How many transfer parameters a common parameter holds: only a C5 has any.
@@ -78,7 +75,7 @@ fn is_whole(q: Record) -> bool
 
 // How many transfer parameters a record holds, or 1 where its counts and lengths leave its arrays.
 pub fn transfers_held(q: Record) -> Answer
-    ensures { λ r. ⌜ Gives (refuse (not (isWhole q)) over-limits 0 (Accepted (transfersSum (commonsIn q)))) r ⌝ }
+    ensures { λ r. ⌜ Gives (transfersHeld q) r ⌝ }
 {
     if !is_whole(q) {
         return Answer::Refused(Answer::OVER_LIMITS, 0);
@@ -108,7 +105,7 @@ fn contents_sum(q: Record, n: usize) -> usize
 
 // Whether the record is over its limits, in its counts and lengths or in its contents.
 pub fn over_limits(q: Record) -> bool
-    ensures { λ r. ⌜ Gives (not (isWhole q) || overLimits (view q)) r ⌝ }
+    ensures { λ r. ⌜ Gives (structOver q) r ⌝ }
 {
     if !is_whole(q) {
         return true;

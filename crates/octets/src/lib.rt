@@ -5,8 +5,8 @@ ghost use mathlib.Core.Bool.{_&&_};
 ghost use Prim.Native.Nat.{_+_, _-_, _≤_};
 ghost use lib.Dec.{leb};
 ghost use lib.ListN.{length, getD, drop, replicate};
-ghost use Rattle.annex.specs.Promises.{Gives, Stores};
-ghost use Rattle.annex.specs.Memory.{put, spliced, spliceFits};
+ghost use Rattle.annex.specs.Promises.{Gives, Keeps};
+ghost use Rattle.annex.specs.Memory.{put, spliced, copying, splicing};
 ghost use Rattle.octets.specs.Put.{part};
 ghost use Rattle.octets.specs.Splice.{Fitting};
 
@@ -106,8 +106,7 @@ fn move_fitting(d: &mut [u8], from: usize, to: usize, k: usize)
 
 // Writes s over d from index at on.
 pub fn copy_in(d: &mut [u8], at: usize, s: &[u8]) -> bool
-    ensures { λ r. ⌜ Stores (leb (at + length (now (s .entry))) (length (now (d .entry))))
-        (put (now (d .entry)) at (now (s .entry))) (now (d .entry)) r (now (d .exit)) ⌝ }
+    ensures { λ r. ⌜ Keeps (copying (now (d .entry)) at (now (s .entry))) r (now (d .exit)) ⌝ }
 {
     if lies_within(d.len(), at, s.len()) {
         copy_fitting(d, at, s);
@@ -135,8 +134,7 @@ fn splice_fitting(d: &mut [u8], n: usize, from: usize, old: usize, new: &[u8])
 // Replaces the old octets from index from on of the message in the first n octets of d by new. Octets from the new end to the old are set
 // to 0.
 pub fn splice(d: &mut [u8], n: usize, from: usize, old: usize, new: &[u8]) -> bool
-    ensures { λ r. ⌜ Stores (spliceFits (now (d .entry)) n from old (now (new .entry)))
-        (spliced (now (d .entry)) n from old (now (new .entry))) (now (d .entry)) r (now (d .exit)) ⌝ }
+    ensures { λ r. ⌜ Keeps (splicing (now (d .entry)) n from old (now (new .entry))) r (now (d .exit)) ⌝ }
 {
     if lies_within(n, from, old) && n <= d.len() && lies_within(d.len(), n - old, new.len()) {
         splice_fitting(d, n, from, old, new);

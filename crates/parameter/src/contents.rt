@@ -13,13 +13,11 @@ use octets::octet_at;
 use octets::octets_from;
 ghost use mathlib.Core.Path.{_≡_};
 ghost use Prim.Native.Nat.{_≤_};
-ghost use lib.ListN.{getD, drop};
+ghost use lib.ListN.{drop};
 ghost use Rattle.annex.specs.Promises.{Gives};
 ghost use Rattle.annex.specs.Answers.{soundThen, headerAt};
 ghost use Rattle.annex.specs.declared.Answer.the-variants.{Accepted};
-ghost use Rattle.annex.specs.Heads.{clear};
 ghost use Rattle.annex.specs.Contents.{
-  formedThen,
   formed as formedOf,
   numberFault,
   callingFault,
@@ -28,6 +26,7 @@ ghost use Rattle.annex.specs.Contents.{
   twoFault,
   checkFault,
   faultBy,
+  faultUnder,
   faultOf,
 };
 
@@ -135,7 +134,7 @@ fn form_fault(form: Form, s: &[u8]) -> Fault
 
 // The contents s: first the bits of their first octet that must be 0, then the form.
 pub fn fault_under(zeroes: u8, form: Form, s: &[u8]) -> Fault
-    ensures { λ r. ⌜ Gives (formedThen (clear zeroes (getD (now (s .entry)) 0 0)) (faultBy form (now (s .entry)))) r ⌝ }
+    ensures { λ r. ⌜ Gives (faultUnder zeroes form (now (s .entry))) r ⌝ }
 {
     let first = octet_at(s, 0);
     if first & zeroes != 0 {

@@ -6,17 +6,16 @@
 use Prim.Native.Nat.{ℕ, _+_, min}
 use native.Mathlib.Omega.{arith}
 use mathlib.Core.Path.{_≡_, refl, sym, ap, _∙_}
-use mathlib.Core.Bool.{Bool, true, false, not, _&&_, _||_}
+use mathlib.Core.Bool.{Bool, true, false, not, _&&_}
 use mathlib.Core.List.{List, [], _∷_, _++_}
 use borrow.Author.Tests.{eq-eqb, not-true}
 use lib.Dec.{eqb, leb}
 use lib.ListN.{length, getD, take, drop, replicate}
-use lib.Seq.{sets}
-use Rattle.annex.specs.Answers.{numberOf, givenOf, faultNumberOf, stopOf, over-limits, refuse, soundThen, headerAt}
+use Rattle.annex.specs.Answers.{numberOf, givenOf, faultNumberOf, stopOf, soundThen, headerAt}
 use Rattle.annex.specs.Units.{countedBy, octetsOf, halvesIn, afterOf, leadOf, commonExtentOf, extentOf}
-use Rattle.annex.specs.Heads.{clear, among, listedHeaders, isCall, most-values, nameUsed, pliRight, oftenOf, zeroesOf, formOf}
+use Rattle.annex.specs.Heads.{among, listedHeaders, isCall, most-values, nameUsed, pliRight, oftenOf, zeroesOf, formOf}
 use Rattle.annex.specs.Digits.{halves, joined, digitOf, codeOf, isCode, isDigit, halvesFault, digitsFault, digitsOf, packed, halvesFor}
-use Rattle.annex.specs.Contents.{formedThen, dialledFault, faultBy, faultOf}
+use Rattle.annex.specs.Contents.{dialledFault, faultUnder, faultOf}
 use Rattle.annex.specs.Items.{valuePart, holdingOf, openBy, itemOf, contentsOf, ownOf}
 use Rattle.annex.specs.Layout.{layoutItem, layoutPart, callOctets}
 use Rattle.annex.specs.Allowed.{every, lengthRight, faultIn}
@@ -48,17 +47,15 @@ use Rattle.annex.specs.Records.{
   lengthsOf,
   transfersSum,
   viewParts,
-  commonsIn,
   isWhole,
   view,
 }
-use Rattle.annex.specs.Writing.{headWriting, itemWriting, overLimits}
-use Rattle.annex.specs.Promises.{Gives, Stores}
+use Rattle.annex.specs.Writing.{headWriting, itemWriting, overLimits, structOver, transfersHeld}
+use Rattle.annex.specs.Promises.{Gives, Keeps}
 use Rattle.annex.specs.Bench.{K, recordOfK, recordOfM}
 use Rattle.annex.specs.Walking.{pars, soughtIn, searchIn, commonPlain, stretchAt, cursorTo, stretchHere, rowHere, nextOf}
-use Rattle.annex.specs.Memory.{put, atFront, spliced, spliceFits}
+use Rattle.annex.specs.Memory.{Request, put, spliced, copying, splicing, packing, unpacking, laying}
 use Rattle.annex.specs.Opening.{headFor, valuesWith, openedHead, openedValues}
-use Rattle.annex.specs.declared.Alphabet.{Alphabet}
 use Rattle.annex.specs.declared.Alphabet.the-variants.{Dialled, Numbered}
 use Rattle.annex.specs.declared.Answer.{Answer}
 use Rattle.annex.specs.declared.Answer.the-variants.{Accepted, Refused}
@@ -78,7 +75,6 @@ use Rattle.annex.specs.declared.Holding.{Holding}
 use Rattle.annex.specs.declared.Holding.the-variants.{AsContents, AsDigits, AsNumber, AsGeneric}
 use Rattle.annex.specs.declared.Key.the-variants.{Header, Name}
 use Rattle.annex.specs.declared.Octets.{Octets}
-use Rattle.annex.specs.declared.Record.{Record}
 use Rattle.annex.specs.declared.Row.{Row}
 use Rattle.annex.specs.declared.Transfer.{Transfer}
 use Rattle.laws.specs.Bools.{and-left, and-right}
@@ -86,26 +82,14 @@ use Rattle.tight.specs.Wrong.{short}
 
 -- ---- the rows, and the programs that each shuts out
 
--- what a function that stores promises at one input: whether the request fits, lent memory with it stored, and as it was
-pub record Storing : Type 0 where
-  pub fits : Bool
-  pub stored : List ℕ
-  pub before : List ℕ
-
-abbrev storing : Bool → List ℕ → List ℕ → Storing
-storing f s b = record { fits = f; stored = s; before = b }
-
-abbrev pub Keeps : Storing → Bool → List ℕ → Type 0
-Keeps a r now = Stores (a .fits) (a .stored) (a .before) r now
-
 -- what a function gives at two inputs, and a number that tells the two apart; or what one that stores promises at two inputs, the first
 -- with room for the request, the second with none
 pub data AtTwo : Type 1 where
   gives : (A : Type 0) → (A → ℕ) → A → A → AtTwo
-  stores : Storing → Storing → AtTwo
+  stores : Request → Request → AtTwo
 
 -- one that says the same at both, whatever lent memory then holds; and at the first one that leaves lent memory as it was, whatever it says
-pub record NoStorer (a b : Storing) : Type 0 where
+pub record NoStorer (a b : Request) : Type 0 where
   pub same-said : (r : Bool) (s t : List ℕ) → Keeps a r s → Keeps b r t → ⊥
   pub nothing-stored : (r : Bool) → Keeps a r (a .before) → ⊥
 
@@ -202,41 +186,6 @@ commons = gives Common
 abbrev transfers : (Transfer → ℕ) → Transfer → Transfer → AtTwo
 transfers = gives Transfer
 
--- ---- what contracts say and no definition of theirs names
-
--- fault_under
-abbrev under : ℕ → Form → List ℕ → Fault
-under zeroes form s = formedThen (clear zeroes (getD s 0 0)) (faultBy form s)
-
--- transfers_held
-abbrev transfersHeld : Record → Answer
-transfersHeld q = refuse (not (isWhole q)) over-limits 0 (Accepted (transfersSum (commonsIn q)))
-
--- over_limits
-abbrev overStruct : Record → Bool
-overStruct q = not (isWhole q) || overLimits (view q)
-
--- pack_digits
-abbrev packing : Alphabet → List ℕ → List ℕ → Storing
-packing z ds room = storing (leb (length (packed z ds)) (length room)) (atFront (packed z ds) room) room
-
--- unpack_digits
-abbrev unpacking : Alphabet → List ℕ → HalfOctets → List ℕ → ℕ → Storing
-unpacking z octets n values used =
-    storing (leb (used + length (digitsOf z n octets)) most-values) (sets values used (digitsOf z n octets)) values
-
--- layout::put
-abbrev laying : Transfer → List ℕ → List ℕ → Storing
-laying t vs room = storing (leb (length (layoutItem (itemFrom t vs))) (length room)) (atFront (layoutItem (itemFrom t vs)) room) room
-
--- copy_in
-abbrev copying : List ℕ → ℕ → List ℕ → Storing
-copying d at s = storing (leb (at + length s) (length d)) (put d at s) d
-
--- splice
-abbrev splicing : List ℕ → ℕ → ℕ → ℕ → List ℕ → Storing
-splicing d n from old new = storing (spliceFits d n from old new) (spliced d n from old new) d
-
 -- lent memory before a call
 abbrev lent : ℕ → List ℕ
 lent n = replicate n 0xEE
@@ -265,7 +214,7 @@ rows =
     tests (pliRight 0x41) (pliRight 0x81) ∷  -- head_of, right
     counts (zeroesOf 0x41) (zeroesOf 0x42) ∷  -- head_of, zeroes
     gives Form formNumber (formOf 0x41) (formOf 0x90) ∷  -- head_of, form
-    faults (under 0xFE (Checked Nothing) (1 ∷ [])) (under 0xFE (Checked Nothing) (2 ∷ [])) ∷  -- fault_under
+    faults (faultUnder 0xFE (Checked Nothing) (1 ∷ [])) (faultUnder 0xFE (Checked Nothing) (2 ∷ [])) ∷  -- fault_under
     counts (getD (halves (0x21 ∷ [])) 0 0) (getD (halves (0x21 ∷ [])) 1 0) ∷  -- half_at
     counts (digitOf Dialled 10) (digitOf Numbered 10) ∷  -- digit_of
     counts (codeOf Dialled 0) (codeOf Numbered 0) ∷  -- code_of
@@ -311,7 +260,7 @@ rows =
     ∷  -- find_both, len
     counts (givenOf (Accepted 9)) (givenOf (Refused 15 0)) ∷  -- given
     counts (lengthsOf (take 0 (pack recordOfM .transfer))) (lengthsOf (take 1 (pack recordOfM .transfer))) ∷  -- values_before
-    tests (overStruct (pack recordOfK)) (overStruct (pack (recordOfK ++ (recordOfK ++ (recordOfK ++ recordOfK))))) ∷  -- over_limits
+    tests (structOver (pack recordOfK)) (structOver (pack (recordOfK ++ (recordOfK ++ (recordOfK ++ recordOfK))))) ∷  -- over_limits
     gives Answer givenOf (transfersHeld (pack recordOfM)) (transfersHeld (pack recordOfK)) ∷  -- transfers_held
     counts (length (layoutPart (valuePart 0x83 0))) (length (layoutPart (valuePart 0x01 0))) ∷  -- head_len
     stores (copying (lent 1) 0 (0x21 ∷ [])) (copying (lent 1) 1 (0x21 ∷ [])) ∷  -- copy_in

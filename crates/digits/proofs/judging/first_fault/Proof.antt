@@ -2,10 +2,10 @@
 use Prim.Native.Nat.{_+_, _-_, _*_, _/_, _≤_}
 use native.Mathlib.Nat.{sub-zero, add-zero, add-assoc}
 use native.Mathlib.Omega.{arith}
-use mathlib.Core.Path.{_≡_, refl, sym, ap, _∙_}
+use mathlib.Core.Path.{_≡_, sym, ap, _∙_}
 use borrow.Author.Needs.{needs}
 use borrow.Author.Tests.{not-true, not-false}
-use lib.ListN.{length, drop}
+use lib.ListN.{drop}
 use Rattle.annex.specs.Units.{halvesIn}
 use Rattle.annex.specs.Digits.{halves, halvesFault, digitsFault}
 use Rattle.annex.specs.declared.HalfOctets.{HalfOctets}
