@@ -69,7 +69,10 @@ added-calling-number = 0x06
 abbrev pub withheld : ℕ
 withheld = 2
 
--- the limits of document 01
+-- the names, of six bits, and the limits of document 01
+abbrev pub name-count : ℕ
+name-count = 64
+
 abbrev pub most-octets : ℕ
 most-octets = 272
 

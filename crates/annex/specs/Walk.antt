@@ -3,16 +3,17 @@
 use Prim.Native.Nat.{ℕ, zero, suc, _+_}
 use mathlib.Core.List.{List, [], _∷_}
 use lib.ListN.{getD, set, take, replicate}
+use Rattle.annex.specs.Heads.{name-count}
 use Rattle.annex.specs.Units.{nameOf}
 use Rattle.annex.specs.declared.Answer.{Answer}
 use Rattle.annex.specs.declared.Answer.the-variants.{Accepted, Refused}
 
--- how often each of the 64 names has been seen
+-- how often each name has been seen
 abbrev pub Seen : Type 0
 Seen = List ℕ
 
 abbrev pub unseen : Seen
-unseen = replicate 64 0
+unseen = replicate name-count 0
 
 abbrev pub timesSeen : Seen → ℕ → ℕ
 timesSeen seen h = getD seen (nameOf h) 0

@@ -8,7 +8,7 @@ ghost use mathlib.Core.Path.{_≡_};
 ghost use Prim.Native.Nat.{_<_};
 ghost use Rattle.annex.specs.Promises.{Gives};
 ghost use Rattle.annex.specs.Units.{pliOf};
-ghost use Rattle.annex.specs.Heads.{among, freeNames, oftenOf, nameUsed, pliRight, zeroesOf, formOf};
+ghost use Rattle.annex.specs.Heads.{among, name-count, freeNames, oftenOf, nameUsed, pliRight, zeroesOf, formOf};
 ghost use Rattle.annex.specs.Writing.{headWriting};
 ghost use Rattle.annex.specs.declared.Answer.the-variants.{Accepted};
 ghost use Rattle.heads.specs.Asked.{layoutOf, nameListed, unlistedForm};
@@ -132,7 +132,7 @@ fn is_free(name: u8) -> bool
 
 // Whether a name is in a list, under any PLI.
 fn name_listed(name: u8) -> bool
-    requires { ⌜ name < 64 ⌝ }
+    requires { ⌜ name < name-count ⌝ }
     ensures { λ r. ⌜ r ≡ nameListed name ⌝ }
 {
     let one = one_octet(64 + name);

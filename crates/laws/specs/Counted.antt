@@ -114,7 +114,7 @@ counted-open m h (x ∷ s) o l c f =
     record {
       contents = rw (v, u, n, e, p .back);
       digits = rw v (p .digits);
-      few = rw (v, n) (le-leb (x % 64) 63 (omega arith));
+      few = rw (v, n) (le-leb (x % 64) most-digits (omega arith));
       right = open-right m h (x / 64) vs (omega arith);
     }
 
@@ -131,7 +131,7 @@ pub counted-closed : (m : Marks) (i : Item) → leb (length (i .values)) most-di
 unfolding afterOf dialledFault
 counted-closed m i l r d =
     let n = length (i .values) in
-    let few : n ≤ 63 = leb-true n 63 l in
+    let few : n ≤ most-digits = leb-true n most-digits l in
     let up = upper-small m i r in
     let x = 64 * upperMarks m i + n in
     let e : x % 64 ≡ n = omega arith in

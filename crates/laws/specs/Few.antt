@@ -10,7 +10,7 @@ use borrow.Author.Tests.{eqb-true, leb-true}
 use lib.Dec.{eqb, leb}
 use lib.ListN.{length, getD, set, take, length-set, length-append, length-map}
 use Rattle.annex.specs.Units.{nameOf}
-use Rattle.annex.specs.Heads.{among, listedHeaders, transfer-data, nameUsed, oftenOf, most-transfers, most-rows}
+use Rattle.annex.specs.Heads.{among, listedHeaders, transfer-data, name-count, nameUsed, oftenOf, most-transfers, most-rows}
 use Rattle.annex.specs.Walk.{Seen, unseen, timesSeen, counted, Par, Step, byStep, walk, listing}
 use Rattle.annex.specs.Reading.{transferStep, transfersOf, commonStep, commonsOf, dataIn, commonsBy, transfersBy}
 use Rattle.annex.specs.Spans.{transferRows, innerRows, commonRows, rowsOf, commonRowsBy, rowsBy}
@@ -43,7 +43,7 @@ module _ (allows : ℕ → ℕ → ℕ) where
       (spends : (seen : Seen) (p h : ℕ) (xs : List ℕ) (n : ℕ) → step seen h xs ≡ Accepted n
       → weight (parAt p h (take n xs)) + allows (nameOf h) (timesSeen seen h + 1) ≤ allows (nameOf h) (timesSeen seen h)) where
     -- if each parameter takes its weight from what its name allows, all weights together are within what all names allow
-    pub spent : (xs : List ℕ) (seen : Seen) (k p : ℕ) → length seen ≡ 64
+    pub spent : (xs : List ℕ) (seen : Seen) (k p : ℕ) → length seen ≡ name-count
         → sumOf weight (walk (listing step) seen k p xs) ≤ allowance allows 0 seen
     unfolding walk
     spent [] seen k p l = omega arith
@@ -52,7 +52,7 @@ module _ (allows : ℕ → ℕ → ℕ) where
       where
         go : (a : Answer) → step seen x xs ≡ a
             →
-            ((k p : ℕ) → length (counted seen x) ≡ 64
+            ((k p : ℕ) → length (counted seen x) ≡ name-count
             → sumOf weight (walk (listing step) (counted seen x) k p xs) ≤ allowance allows 0 (counted seen x))
             → sumOf weight
             (byStep a (λ k r. [])

@@ -7,7 +7,7 @@ use mathlib.Core.List.{List, [], _∷_, map}
 use lib.ListN.{length, getD, length-map, List·getD-eq-default}
 use borrow.Author.Tests.{eqb-true, leb-true}
 use Rattle.annex.specs.Units.{pliOf, afterOf, leadOf, transferByPli, extentOf}
-use Rattle.annex.specs.Heads.{most-transfer-octets}
+use Rattle.annex.specs.Heads.{most-transfer-octets, most-digits}
 use Rattle.annex.specs.declared.Marks.the-variants.{Unmarked, Notified, Verified, Typed}
 use Rattle.annex.specs.Digits.{joined, codeOf, packed}
 use Rattle.annex.specs.Items.{Item, contentsBy, heldAs, contentsOf, ownBy, ownOf}
@@ -157,7 +157,7 @@ unfolding afterOf
 fits-small zero s t = omega (arith, eqb-true (length s) 0 t)
 fits-small (suc zero) s t = omega (arith, eqb-true (length s) 1 t)
 fits-small (suc (suc zero)) s t = omega (arith, eqb-true (length s) _ t)
-fits-small (suc (suc (suc n))) s t = leb-true (length s) 255 t
+fits-small (suc (suc (suc n))) s t = leb-true (length s) most-transfer-octets t
 
 -- contents of the PLI's length are short
 pub length-small : (i : Item) → lengthRight i ≡ true → length (contentsOf i) ≤ most-transfer-octets
@@ -166,7 +166,7 @@ length-small i t = go (heldAs i) refl t
   where
     go : (k : Holding) → heldAs i ≡ k → lengthBy k i ≡ true → length (contentsOf i) ≤ most-transfer-octets
     go AsContents e t = fits-small (pliOf (i .header)) (contentsOf i) t
-    go (AsDigits m) e t = rw e (omega (arith, leb-true (length (i .values)) 63 t, length-packed Dialled (i .values)))
+    go (AsDigits m) e t = rw e (omega (arith, leb-true (length (i .values)) most-digits t, length-packed Dialled (i .values)))
     go (AsNumber w) e t = fits-small (pliOf (i .header)) (contentsOf i) t
     go AsGeneric e t = fits-small (pliOf (i .header)) (contentsOf i) t
 

@@ -9,7 +9,7 @@ use lib.Dec.{eqb}
 use lib.ListN.{length, getD, drop}
 use borrow.Author.Tests.{eqb-true, ne-eqb}
 use Rattle.annex.specs.Units.{extentOf}
-use Rattle.annex.specs.Heads.{clear, pliRight, zeroesOf, formOf}
+use Rattle.annex.specs.Heads.{clear, added-calling-number, pliRight, zeroesOf, formOf}
 use Rattle.annex.specs.declared.Check.{Check}
 use Rattle.annex.specs.declared.Form.{Form}
 use Rattle.annex.specs.declared.Marks.the-variants.{Unmarked, Notified, Verified, Typed}
@@ -102,7 +102,8 @@ open-number w f h s k l n r =
     }
 
 -- DA, by its first octet
-open-generic : (v : Bool) (h : ℕ) (s : List ℕ) → eqb (getD s 0 0) 6 ≡ v → not (eqb (length s) 0) ≡ true → every isOctet s ≡ true
+open-generic : (v : Bool) (h : ℕ) (s : List ℕ) → eqb (getD s 0 0) added-calling-number ≡ v → not (eqb (length s) 0) ≡ true
+    → every isOctet s ≡ true
     → lengthFits (extentOf h) s ≡ true → cond v (numberFault 1 (drop 1 s)) Sound ≡ Sound → faultOf h s ≡ Sound
     → OpenAs Generic (cond v AsGeneric AsContents) h s
 open-generic true h [] e t o l g w = absurd (let z : _≡_ {A = ℕ} 0 1 = cc in omega arith)
@@ -112,7 +113,7 @@ open-generic true h (x ∷ s) e t o l g w =
     let ds = openBy (AsNumber false) h s .values in
     record {
       kept = refl;
-      contents = rw (n .contents h (i .values)) (ap (λ y. y ∷ s) (sym (eqb-true x 6 e)));
+      contents = rw (n .contents h (i .values)) (ap (λ y. y ∷ s) (sym (eqb-true x added-calling-number e)));
       octets = digits-octets ds (n .digits);
       fits = λ c. rw c l;
       faultless = values-sound (fieldsRight i) ds (n .right h (i .values)) (n .digits);
@@ -141,9 +142,9 @@ opens-by Calling h s o t l c g w =
     let k = calling-open h s g in
     open-number true Calling h s (λ x. refl) l (number-open 0 s o (k .number)) (k .withheld)
 opens-by Generic h s o t l c g w =
-    let n = cond (eqb (getD s 0 0) 6) (numberFault 1 (drop 1 s)) Sound in
+    let n = cond (eqb (getD s 0 0) added-calling-number) (numberFault 1 (drop 1 s)) Sound in
     let p = then-sound (not (eqb (length s) 0)) n g in
-    open-generic (eqb (getD s 0 0) 6) h s refl (p .0) o l (p .1) w
+    open-generic (eqb (getD s 0 0) added-calling-number) h s refl (p .0) o l (p .1) w
 
 -- a parameter opened keeps its header, and has nothing that is not its own
 open-header : (k : Holding) (h : ℕ) (s : List ℕ) → openBy k h s .header ≡ h
@@ -245,7 +246,7 @@ first-put x [] e = absurd (omega arith)
 first-put x (v ∷ vs) e = ap (λ y. y ∷ vs) (sym e)
 
 -- DA, by its first value
-close-generic : (v : Bool) (i : Item) → eqb (getD (i .values) 0 0) 6 ≡ v → formOf (i .header) ≡ Generic
+close-generic : (v : Bool) (i : Item) → eqb (getD (i .values) 0 0) added-calling-number ≡ v → formOf (i .header) ≡ Generic
     → eqb (zeroesOf (i .header)) 0 ≡ true → every isOctet (i .values) ≡ true
     → lengthFits (extentOf (i .header)) (contentsBy (cond v AsGeneric AsContents) i) ≡ true
     → faultAs (cond v AsGeneric AsContents) i ≡ Sound → CloseAs Generic (cond v AsGeneric AsContents) i
@@ -259,9 +260,9 @@ close-generic true i e f z o l g =
       kept = refl;
       fits = l;
       sound =
-          sound-by Generic (i .header) s f (none-asked (zeroesOf (i .header)) 6 z)
+          sound-by Generic (i .header) s f (none-asked (zeroesOf (i .header)) added-calling-number z)
           (rw (ne-eqb (suc (suc (suc (length (packed Numbered ds))))) 0 (λ q. omega arith)) (n .sound 1));
-      opens = rw (n .digits, first-put 5 (i .values) (eqb-true (getD (i .values) 0 0) 6 e)) (n .opens);
+      opens = rw (n .digits, first-put 5 (i .values) (eqb-true (getD (i .values) 0 0) added-calling-number e)) (n .opens);
       octets = n .octets;
     }
 close-generic false i e f z o l g = close-plain Generic i (rw e) o l g
@@ -297,7 +298,7 @@ closes-by Calling i e t o c l g =
     let r₂ = and-right (fieldsRight i) (cond (eqb (i .presentation) 2) (withheldRight i) true) (v .0) in
     close-number true Calling i e (λ x. refl) t (rw c at l) (number-closed i (i .values) r₁ (v .1)) (calling-closed i r₁ r₂ (v .1))
 closes-by Generic i e t o c l g =
-    let v = eqb (getD (i .values) 0 0) 6 in
+    let v = eqb (getD (i .values) 0 0) added-calling-number in
     close-generic v i refl e t o (rw (length-generic v i, c) at l) g
 
 closed-by : (f : Form) (i : Item) → formOf (i .header) ≡ f → ownOf i ≡ i → CloseAs f (holdingBy f (getD (i .values) 0 0)) i → Closed i

@@ -31,7 +31,7 @@ fn digit(half: u8) -> u8 {
 
 // Octets in hexadecimal.
 fn print_octets(s: &[u8]) {
-    let mut text = [0u8; 510];
+    let mut text = [0u8; 2 * Transfer::MOST_OCTETS];
     let mut i = 0;
     while i < s.len() {
         if Transfer::MOST_OCTETS <= i {

@@ -10,6 +10,7 @@ use lib.Dec.{eqb}
 use lib.ListN.{length, getD, length-set, replicate}
 use lib.Seq.{getD-set-same, getD-set-other}
 use Rattle.annex.specs.Units.{nameOf}
+use Rattle.annex.specs.Heads.{name-count}
 use Rattle.annex.specs.Allowed.{timesIn}
 use Rattle.annex.specs.Walk.{Seen, unseen, timesSeen, counted, Par, Step}
 use Rattle.annex.specs.declared.Answer.the-variants.{Accepted}
@@ -19,9 +20,9 @@ use Rattle.theorems.specs.Trails.{seenBy, Trail}
 abbrev pub namesIn : List Par → List ℕ
 namesIn qs = map (λ q. nameOf (q .head)) qs
 
--- each of the 64 names is counted
+-- each name is counted
 abbrev pub Full : Seen → Type 0
-Full seen = length seen ≡ 64
+Full seen = length seen ≡ name-count
 
 pub full-unseen : Full unseen
 full-unseen = refl
@@ -30,7 +31,7 @@ pub full-counted : (seen : Seen) (h : ℕ) → Full seen → Full (counted seen 
 full-counted seen h f = length-set seen (nameOf h) _ ∙ f
 
 pub none-seen : (u : ℕ) → getD unseen u 0 ≡ 0
-none-seen u = go 64 u
+none-seen u = go name-count u
   where
     go : (n u : ℕ) → _≡_ {A = ℕ} (getD (replicate n 0) u 0) 0
     go zero u = refl

@@ -4,6 +4,7 @@ use native.Mathlib.Omega.{arith}
 use mathlib.Core.Path.{_≡_}
 use borrow.Author.Needs.{needs}
 use lib.ListN.{length}
+use Rattle.annex.specs.Heads.{most-commons}
 use Rattle.annex.specs.Records.{transfersSum, commonsIn}
 use Rattle.limits.specs.Along.{transfersAt, transfers-next, transfers-end, length-mapped}
 use Rattle.limits.proofs.transfers_sum.Statement.{statement}
@@ -22,7 +23,7 @@ loop-again : tie.Need-loop-again Inv-loop μ-loop
 loop-again c =
     let a = c .before .before .before in
     let q = a .before .args .t1 in
-    let l : length (q .common) ≡ 6 = search (needs, length-mapped) in
+    let l : length (q .common) ≡ most-commons = search (needs, length-mapped) in
     let e = transfers-next q (a .loop .k) (c .before .before .loop-test .taken) (omega (arith, l, a .before .pre)) in
     (omega arith, omega arith, omega (arith, e, c .transfers-in .ensures, a .loop .inv .2))
 

@@ -4,6 +4,7 @@ use native.Mathlib.Omega.{arith}
 use mathlib.Core.Path.{_≡_, sym, _∙_}
 use borrow.Author.Needs.{needs}
 use borrow.Author.Tests.{lt-ltb, le-ltb}
+use Rattle.annex.specs.Heads.{most-transfer-octets}
 use Rattle.annex.specs.Walk.{unseen}
 use Rattle.annex.specs.Writing.{itemsWriting, dataWriting}
 use Rattle.annex.specs.declared.Answer.the-variants.{Accepted}
@@ -36,13 +37,13 @@ sub-if1 c =
 returns-2 : tie.Need-returns-2
 unfolding dataWriting
 returns-2 c =
-    let over : 255 < behind (c .before) = omega (arith, c .if1 .taken) in
+    let over : most-transfer-octets < behind (c .before) = omega (arith, c .if1 .taken) in
     rw (taken (c .before), lt-ltb _ _ over)
 
 returns-3 : tie.Need-returns-3
 unfolding dataWriting
 returns-3 c =
-    let under : behind (c .before) ≤ 255 = omega (arith, c .if1 .left) in
+    let under : behind (c .before) ≤ most-transfer-octets = omega (arith, c .if1 .left) in
     rw (taken (c .before), le-ltb _ _ under)
 
 pub data-refusal-spec : {M : Type 1} → statement M

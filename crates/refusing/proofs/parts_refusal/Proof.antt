@@ -5,6 +5,7 @@ use native.Mathlib.Omega.{arith}
 use mathlib.Core.Path.{_≡_, sym, ap, _∙_}
 use borrow.Author.Needs.{needs}
 use lib.ListN.{length}
+use Rattle.annex.specs.Heads.{most-commons}
 use Rattle.annex.specs.Records.{transfersSum, commonsIn, view}
 use Rattle.annex.specs.Walk.{unseen, timesSeen}
 use Rattle.annex.specs.Writing.{partsWriting}
@@ -48,13 +49,13 @@ loop-holds : tie.Need-loop-holds Inv-loop μ-loop
 loop-holds c = (omega arith, omega arith, omega arith, ap (partsWriting unseen 0) (parts-start (c .args .t1)))
 
 -- the head at k lies within the array
-place : (c : tie.In-loop Inv-loop μ-loop) → c .before .loop .k < 6
+place : (c : tie.In-loop Inv-loop μ-loop) → c .before .loop .k < most-commons
 place c = omega (arith, c .before .before .pre .commons)
 
 long : (c : tie.At-loop Inv-loop μ-loop) → c .before .args .t1 .commons ≤ length (c .before .args .t1 .common)
 long c =
     let q = c .before .args .t1 in
-    let l : length (q .common) ≡ 6 = search (needs, length-mapped) in
+    let l : length (q .common) ≡ most-commons = search (needs, length-mapped) in
     omega (arith, l, c .before .pre .commons)
 
 mul-c : tie.Need-mul-c Inv-loop μ-loop

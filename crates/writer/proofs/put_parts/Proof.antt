@@ -6,7 +6,7 @@ use mathlib.Core.Path.{_≡_, refl, sym, ap, _∙_}
 use mathlib.Core.List.{List, [], _∷_, _++_}
 use borrow.Author.Needs.{needs}
 use lib.ListN.{length, length-set}
-use Rattle.annex.specs.Heads.{end-mark}
+use Rattle.annex.specs.Heads.{end-mark, most-commons}
 use Rattle.annex.specs.Items.{Part}
 use Rattle.annex.specs.Layout.{layoutPart, layout}
 use Rattle.annex.specs.Records.{transfersSum, commonsIn, view}
@@ -45,13 +45,13 @@ loop-holds c =
     (omega arith, omega arith, rw (← parts-start (a .t1)) (laid-start (a .room .now) whole))
 
 -- the head at k lies within the array
-place : (c : tie.In-loop Inv-loop μ-loop) → c .before .loop .k < 6
+place : (c : tie.In-loop Inv-loop μ-loop) → c .before .loop .k < most-commons
 place c = omega (arith, c .before .before .before .pre .0 .commons)
 
 long : (c : tie.At-loop Inv-loop μ-loop) → c .before .before .args .t1 .commons ≤ length (c .before .before .args .t1 .common)
 long c =
     let q = c .before .before .args .t1 in
-    let l : length (q .common) ≡ 6 = search (needs, length-mapped) in
+    let l : length (q .common) ≡ most-commons = search (needs, length-mapped) in
     omega (arith, l, c .before .before .pre .0 .commons)
 
 mul-c : tie.Need-mul-c Inv-loop μ-loop

@@ -9,6 +9,7 @@ use borrow.Author.Needs.{needs}
 use native.Mathlib.Omega.{arith}
 use lib.ListN.{length, getD, take, drop}
 use Rattle.annex.specs.Units.{commonExtentOf}
+use Rattle.annex.specs.Heads.{most-commons}
 use Rattle.annex.specs.Items.{Part}
 use Rattle.annex.specs.Reading.{openCommon}
 use Rattle.annex.specs.Records.{valuesOf, commonHeadOf}
@@ -132,7 +133,7 @@ cast-part-head : tie.Need-cast-part-head Inv-loop μ-loop
 cast-part-head c = omega (arith, put-is (c .before .before) .places, next-is (c .before .before .before) .places)
 
 -- there is a place for the head
-place-here : (c : tie.Joined2 Inv-loop μ-loop) → c .if2 .q .commons < 6
+place-here : (c : tie.Joined2 Inv-loop μ-loop) → c .if2 .q .commons < most-commons
 place-here c =
     let same = ap (λ (r : Record). r .commons) (put-is c .held) in
     omega (arith, next-is (c .before) .commons, same)
