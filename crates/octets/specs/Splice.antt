@@ -32,7 +32,7 @@ told-fitting d n from old new e =
     }
 
 -- an octet stored in a message that the buffer holds
-pub set-holding : (d : List ℕ) (n : ℕ) (m : List ℕ) (i v : ℕ) → i < length m → set (holding d n m) i v ≡ holding d n (set m i v)
+set-holding : (d : List ℕ) (n : ℕ) (m : List ℕ) (i v : ℕ) → i < length m → set (holding d n m) i v ≡ holding d n (set m i v)
 set-holding d n m i v h = rw (length-set m i v) (set-append-left m (cleared (n - length m) (drop (length m) d)) i v h)
 
 module _ (d : List ℕ) (n from old : ℕ) (new : List ℕ) (fit : Fitting d n from old new) where

@@ -243,7 +243,7 @@ module _ (e : Edit) (r : List Part) (a : Allowed r) (d : Parted r) where
         plain-behind = d .plain-behind;
       }
 
-  pub record-allowed : EditRight e (itemsIn r) → OfOctets e → length (layoutItems (itemsIn (edited e r))) ≤ most-transfer-octets
+  record-allowed : EditRight e (itemsIn r) → OfOctets e → length (layoutItems (itemsIn (edited e r))) ≤ most-transfer-octets
       → Allowed (edited e r)
   record-allowed w o l =
       let is = editedItems e (itemsIn r) in

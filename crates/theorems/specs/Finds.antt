@@ -45,7 +45,7 @@ stretch before xs rest j =
     ∙ rw (take-append-add before (xs ++ rest) (length xs), take-append-seam xs rest) (drop-append-add before xs j)
 
 -- what is found of one of a name are its contents
-pub contents-found : (r : List Part) → Allowed r → (d : Parted r) (x which : ℕ) (front : List Item) (one : Item) (back : List Item)
+contents-found : (r : List Part) → Allowed r → (d : Parted r) (x which : ℕ) (front : List Item) (one : Item) (back : List Item)
     → itemsIn r ≡ front ++ (one ∷ back) → nameOf (one .header) ≡ x → timesIn x (namesOf front) ≡ which
     → findPart (layout r) (transferFound x which (layout r)) ≡ contentsIn (extentOf (one .header)) (drop 1 (layoutItem one))
 contents-found r a d x which front one back w n b =

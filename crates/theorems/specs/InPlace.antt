@@ -41,7 +41,7 @@ module _ (before front part back after : List ℕ) where
   m = withPart before front part back after
 
   -- C5's length octet, and what stands before the part
-  abbrev pub lengthOctet : ℕ
+  abbrev lengthOctet : ℕ
   lengthOctet = length (front ++ (part ++ back))
 
   abbrev head : List ℕ
@@ -56,26 +56,26 @@ module _ (before front part back after : List ℕ) where
   long : length head ≡ at
   long = head-length before front back after lengthOctet
 
-  pub ahead-of : (i : ℕ) → i < at → getD m i 0 ≡ getD head i 0
+  ahead-of : (i : ℕ) → i < at → getD m i 0 ≡ getD head i 0
   ahead-of i h = rw parted (List·getD-append head (part ++ (back ++ after)) 0 i (rw long h))
 
-  pub within : (i : ℕ) → i < length part → getD m (at + i) 0 ≡ getD part i 0
+  within : (i : ℕ) → i < length part → getD m (at + i) 0 ≡ getD part i 0
   within i h =
       rw (parted, ← long)
       (getD-append-add head (part ++ (back ++ after)) i 0 ∙ List·getD-append part (back ++ after) 0 i h)
 
-  pub behind : (j : ℕ) → getD m (at + length part + j) 0 ≡ getD (back ++ after) j 0
+  behind : (j : ℕ) → getD m (at + length part + j) 0 ≡ getD (back ++ after) j 0
   behind j =
       let sum : at + length part + j ≡ length head + (length part + j) = omega (arith, long) in
       rw (parted, sum)
       (getD-append-add head (part ++ (back ++ after)) (length part + j) 0 ∙ getD-append-add part (back ++ after) j 0)
 
-  pub at-length : getD m (length before + 1) 0 ≡ lengthOctet
+  at-length : getD m (length before + 1) 0 ≡ lengthOctet
   at-length = getD-append-add before (transfer-data ∷ lengthOctet ∷ (front ++ (part ++ (back ++ after)))) 1 0
 
 -- two such messages that differ in the part alone agree before it, but for C5's length octet
 module _ (before front back after old new : List ℕ) where
-  pub same-ahead : (i : ℕ) → i < length before + 2 + length front → (i ≡ length before + 1 → ⊥)
+  same-ahead : (i : ℕ) → i < length before + 2 + length front → (i ≡ length before + 1 → ⊥)
       → getD (withPart before front new back after) i 0 ≡ getD (withPart before front old back after) i 0
   same-ahead i h n =
       let l = lengthOctet before front old back after in

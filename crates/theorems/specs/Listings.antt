@@ -114,7 +114,7 @@ pub rows-of-record : (r : List Part) → Allowed r → rowsOf (layout r) ≡ par
 unfolding rowsBy
 rows-of-record r a = rw (laid-then-listed r a) (parts-listed r 0 (allowed-parts r a))
 
-pub rows-of-message : (m : List ℕ) → every isOctet m ≡ true → (n : ℕ) → verdictOf m ≡ Accepted n → rowsOf m ≡ partRows 0 (recordOf m)
+rows-of-message : (m : List ℕ) → every isOctet m ≡ true → (n : ℕ) → verdictOf m ≡ Accepted n → rowsOf m ≡ partRows 0 (recordOf m)
 rows-of-message m o n e =
     let w = read-then-laid m o n e in
     ap rowsOf (sym (w .2)) ∙ rows-of-record (recordOf m) (w .1)
@@ -162,7 +162,7 @@ inner-short q a = go (eqb (q .header) transfer-data) refl (isCall (q .header))
     go false e true = rw (plain-items q (a .held) e) (omega arith)
     go false e false = rw (plain-items q (a .held) e) (omega arith)
 
-pub rows-rising : (r : List Part) (p q : ℕ) → Each AllowedPart r → p ≤ q → Rising p (partRows q r)
+rows-rising : (r : List Part) (p q : ℕ) → Each AllowedPart r → p ≤ q → Rising p (partRows q r)
 unfolding partRows
 rows-rising [] p q a l = (l, tt)
 rows-rising (c ∷ r) p q a l = (

@@ -9,7 +9,7 @@ use mathlib.Core.List.{List, [], _∷_, _++_}
 use lib.ListN.{length, getD, replicate}
 use Rattle.annex.specs.Answers.{numberOf, placeOf, givenOf}
 use Rattle.annex.specs.Units.{afterOf, leadOf, commonExtentOf, extentOf}
-use Rattle.annex.specs.Heads.{among, nameUsed, pliRight, oftenOf, zeroesOf, formOf, most-rows}
+use Rattle.annex.specs.Heads.{among, nameUsed, pliRight, oftenOf, zeroesOf, formOf}
 use Rattle.annex.specs.Digits.{halves, joined, digitOf, codeOf, isCode, halvesFault, digitsFault, digitsOf, packed}
 use Rattle.annex.specs.Contents.{numberFault, callingFault, genericFault, dialledFault, twoFault, faultOf}
 use Rattle.annex.specs.Items.{holdingOf, itemOf, contentsOf, ownOf}
@@ -92,7 +92,6 @@ pub record Said : Type 0 where
   pub dialled : findPart M (transferFound 0x18 0 M) ≡ 0x03 ∷ 0x21 ∷ 0x0A ∷ []
   pub dialled-at : findAnswer M (transferFound 0x18 0 M) ≡ Accepted 19
   pub no-name : findAnswer M (transferFound 0x3F 0 M) ≡ Refused 16 0
-  pub nine-rows : spansOf M most-rows ≡ Accepted 9
   pub no-room : spansOf M 8 ≡ Refused 15 0
   pub nothing-held : structWriting (pack []) ≡ Refused 6 0
   pub least-held : structWriting (pack recordOfK) ≡ Accepted 5
@@ -125,7 +124,6 @@ said =
       dialled = refl;
       dialled-at = refl;
       no-name = refl;
-      nine-rows = refl;
       no-room = refl;
       nothing-held = refl;
       least-held = refl;
