@@ -9,12 +9,17 @@ use mathlib.Core.Bool.{Bool, true, false}
 use mathlib.Core.List.{List, [], _∷_, _++_}
 use mathlib.Core.Logic.{_↔_}
 use lib.ListN.{length, take, drop}
+use Rattle.annex.specs.Answers.{numberOf, classNumberOf}
 use Rattle.annex.specs.Units.{nameOf}
+use Rattle.annex.specs.Heads.{among, end-mark}
 use Rattle.annex.specs.Items.{Item, Part, contentsOf}
 use Rattle.annex.specs.Layout.{layout}
 use Rattle.annex.specs.Allowed.{every, timesIn, isOctet, itemsIn, namesOf, Allowed, Writable, headersOf}
 use Rattle.annex.specs.Records.{pack, isWhole, view}
+use Rattle.annex.specs.Finding.{commonFound, transferFound, findAnswer}
 use Rattle.annex.specs.Editing.{Edit, edited, editingOf}
+use Rattle.annex.specs.Classes.{classOf}
+use Rattle.annex.specs.Packed.{imageReading, imageWriting, octetSpans}
 use Rattle.annex.specs.Opening.{hasRoom, valuesWith}
 use Rattle.annex.specs.Promises.{
   ReadPromise,
@@ -30,6 +35,9 @@ use Rattle.annex.specs.Promises.{
   TkReadPromise,
   TkWritePromise,
   TkRowsPromise,
+  TkFindCommonPromise,
+  TkFindTransferPromise,
+  TkClassPromise,
   TkEditPromise,
   Gives,
   Stores,
@@ -41,13 +49,10 @@ use Rattle.annex.specs.Promises.{
 }
 use Rattle.annex.specs.declared.Answer.{Answer}
 use Rattle.annex.specs.declared.Answer.the-variants.{Accepted, Refused}
+use Rattle.annex.specs.declared.ClassAnswer.{ClassAnswer}
 use Rattle.annex.specs.declared.Reading.{Reading}
 use Rattle.annex.specs.declared.Record.{Record}
 use Rattle.annex.specs.declared.Row.{Row}
-use Rattle.annex.specs.Answers.{numberOf}
-use Rattle.annex.specs.declared.ClassAnswer.{ClassAnswer}
-use Rattle.annex.specs.Heads.{among, end-mark}
-use Rattle.annex.specs.Packed.{imageReading, imageWriting, octetSpans}
 use Rattle.theorems.specs.Views.{FitsStruct}
 use Rattle.theorems.specs.Reasons.{NoReason}
 use Rattle.theorems.specs.Edits.{OfOctets}
@@ -87,10 +92,14 @@ pub record Lending {A : Type 0} (before : List A) (P : Answer → List A → Typ
 abbrev pub packedNumber : ℕ → ℕ
 packedNumber r = r / 4294967296
 
--- of a function for Rust and C, whose number is that of the answer d
+-- of a function for Rust and C, whose number is that of an answer
+pub record PackedAnswering (number : ℕ) (P : ℕ → Type 0) : Type 0 where
+  pub fixed : (r s : ℕ) → P r → P s → r ≡ s
+  pub told : (r : ℕ) → P r → packedNumber r ≡ number
+
 pub record PackedLending (before : List ℕ) (d : Answer) (P : ℕ → List ℕ → Type 0) : Type 0 where
   pub fixed : (r s : ℕ) (now then : List ℕ) → P r now → P s then → (r ≡ s) × (now ≡ then)
-  pub number : (r : ℕ) (now : List ℕ) → P r now → packedNumber r ≡ numberOf d
+  pub told : (r : ℕ) (now : List ℕ) → P r now → packedNumber r ≡ numberOf d
   pub numbered : HasNumber d
   pub kept : (r : ℕ) (now : List ℕ) → P r now → 0 < packedNumber r → now ≡ before
 
@@ -102,7 +111,7 @@ pub record Demand1 : Type 0 where
   pub check : (m : List ℕ) (room : ℕ) → Answering (SpansCheckPromise m room)
   pub record-refusal : (q : Record) → Answering (RecordRefusalPromise q)
   pub from-image : (image : List ℕ) → Answering (λ a. (q : Record) × FromImagePromise image (record { answer = a; held = q }))
-  pub class : (h x : ℕ) (r : ClassAnswer) → ClassPromise h x r → ClassHasNumber r
+  pub class : (h x : ℕ) (r s : ClassAnswer) → ClassPromise h x r → ClassPromise h x s → ClassHasNumber r × (r ≡ s)
   pub spans : (m : List ℕ) (table : List Row) → Lending table (SpansPromise m table)
   pub octet-spans : (m table : List ℕ) → Lending table (OctetSpansPromise m table)
   pub write : (q : Record) (room : List ℕ) → Lending room (WritePromise q room)
@@ -111,6 +120,9 @@ pub record Demand1 : Type 0 where
   pub tk-read : (m room : List ℕ) → PackedLending room (imageReading m (length room)) (TkReadPromise m room)
   pub tk-write : (image room : List ℕ) → PackedLending room (imageWriting image (length room)) (TkWritePromise image room)
   pub tk-rows : (m table : List ℕ) → PackedLending table (octetSpans m (length table)) (TkRowsPromise m table)
+  pub tk-find-common : (m : List ℕ) (h : ℕ) → PackedAnswering (numberOf (findAnswer m (commonFound h m))) (TkFindCommonPromise m h)
+  pub tk-find-transfer : (m : List ℕ) (x : ℕ) → PackedAnswering (numberOf (findAnswer m (transferFound x 0 m))) (TkFindTransferPromise m x)
+  pub tk-class : (h x : ℕ) → PackedAnswering (classNumberOf (classOf h x)) (TkClassPromise h x)
   pub tk-edit : (e : Edit) (d : List ℕ) (n : ℕ) → PackedLending d (editingOf e d n) (TkEditPromise e d n)
   -- the functions that serve these: what does not fit is not stored
   pub stores : (fits : Bool) (stored before : List ℕ) (r : Bool) (now : List ℕ) → Stores fits stored before r now → r ≡ false → now ≡ before

@@ -9,7 +9,7 @@ use borrow.Author.Tests.{ltb-true, ltb-false, le-ltb, lt-ltb, ne-eqb}
 use lib.Dec.{ltb}
 use lib.ListN.{length, take, drop}
 use lib.Seq.{take-append-seam}
-use Rattle.annex.specs.Answers.{absent, roomAfter, numberOf}
+use Rattle.annex.specs.Answers.{absent, roomAfter, numberOf, classNumberOf}
 use Rattle.annex.specs.Units.{nameOf}
 use Rattle.annex.specs.Items.{Part}
 use Rattle.annex.specs.Layout.{layout}
@@ -21,7 +21,18 @@ use Rattle.annex.specs.Image.{imagingOf, imagedIn}
 use Rattle.annex.specs.Spans.{rowsOf, spansOf, tableOf, spansBy}
 use Rattle.annex.specs.Finding.{commonFound, transferFound, findAnswer, findPart}
 use Rattle.annex.specs.Editing.{Edit, edited, bufferOf}
-use Rattle.annex.specs.Packed.{packedAnswer, imageReading, imageRead, imageWriting, imageWritten, octetSpans, octetsBy, octetTable}
+use Rattle.annex.specs.Packed.{
+  packedAnswer,
+  imageReading,
+  imageRead,
+  imageWriting,
+  imageWritten,
+  octetSpans,
+  octetsBy,
+  octetTable,
+  packedLength,
+  packedClass,
+}
 use Rattle.annex.specs.Promises.{ReadPromise, FindTransferAnswerPromise, SpansPromise, WritePromise, EditPromise, FindCommonAnswerPromise}
 use Rattle.annex.specs.declared.Answer.{Answer}
 use Rattle.annex.specs.declared.Answer.the-variants.{Accepted, Refused}
@@ -31,6 +42,8 @@ use Rattle.annex.specs.declared.Reading.{Reading}
 use Rattle.annex.specs.declared.Record.{Record}
 use Rattle.annex.specs.declared.Row.{Row}
 use Rattle.annex.specs.Heads.{among, end-mark}
+use Rattle.annex.specs.Classes.{classOf}
+use Rattle.annex.specs.declared.ClassAnswer.{ClassAnswer}
 use Rattle.annex.specs.declared.Imaged.{Imaged}
 use Rattle.laws.specs.Steps.{passed, then-passed}
 use Rattle.theorems.specs.Records.{allowed-within}
@@ -78,6 +91,7 @@ use Rattle.demands.specs.Demands.{
   Answering,
   Lending,
   packedNumber,
+  PackedAnswering,
   PackedLending,
   Demand1,
   Demand2,
@@ -110,6 +124,16 @@ packed-number : (a : Answer) → packedNumber (packedAnswer a) ≡ numberOf a
 packed-number (Accepted n) = omega arith
 packed-number (Refused k p) = omega arith
 
+length-number : (a : Answer) (len : ℕ) → packedNumber (packedLength a len) ≡ numberOf a
+length-number (Accepted s) len = omega arith
+length-number (Refused k p) len = omega arith
+
+class-number : (a : ClassAnswer) → packedNumber (packedClass a) ≡ classNumberOf a
+class-number a = omega arith
+
+packed-answering : {n k : ℕ} → packedNumber n ≡ k → PackedAnswering k (λ r. r ≡ n)
+packed-answering e = record { fixed = λ r s p q. p ∙ sym q; told = λ r p. rw p e }
+
 packed-kept : (a : Answer) (before left : List ℕ) → Kept a before left → 0 < numberOf a → left ≡ before
 packed-kept (Accepted n) before left w h = absurd (omega arith)
 packed-kept (Refused k p) before left w h = w k p refl
@@ -119,7 +143,7 @@ packed-lending : {d : Answer} {before left : List ℕ} → HasNumber d → Kept 
 packed-lending {d} {before} {left} h w =
     record {
       fixed = λ r s now then p q. (p .0 ∙ sym (q .0), p .1 ∙ sym (q .1));
-      number = λ r now p. rw (p .0) (packed-number d);
+      told = λ r now p. rw (p .0) (packed-number d);
       numbered = h;
       kept = λ r now p l. p .1 ∙ packed-kept d before left w (omega (arith, rw (p .0) at l, packed-number d));
     }
@@ -148,7 +172,7 @@ demand-1 =
             fixed = λ r s p q. ap (λ (x : Imaged). x .answer) (p .1 ∙ sym (q .1));
             numbered = λ r p. rw (ap (λ (x : Imaged). x .answer) (p .1)) (imaged-told image);
           };
-      class = λ h x r p. rw p (class-told h x);
+      class = λ h x r s p q. (rw p (class-told h x), p ∙ sym q);
       spans = λ m table. lending (spans-told m (length table)) (after-refusal (spansOf m (length table)) (rowsOf m) table);
       octet-spans = λ m table. lending (spans-told m _) (octets-kept (octetSpans m (length table)) _ table);
       write = λ q room. lending (writing-told q (length room)) (after-refusal (writingOf q (length room)) _ room);
@@ -158,6 +182,9 @@ demand-1 =
       tk-write = λ image room.
           packed-lending (write-image-told image (length room)) (after-refusal (imageWriting image (length room)) _ room);
       tk-rows = λ m table. packed-lending (spans-told m _) (octets-kept (octetSpans m (length table)) _ table);
+      tk-find-common = λ m h. packed-answering (length-number (findAnswer m (commonFound h m)) _);
+      tk-find-transfer = λ m x. packed-answering (length-number (findAnswer m (transferFound x 0 m)) _);
+      tk-class = λ h x. packed-answering (class-number (classOf h x));
       tk-edit = λ e d n. packed-lending (editing-told e d n) (λ k q f. buffer-refused e d n k q f);
       stores = λ fits stored before r now p f. rw f at (p .1);
       opens = λ i used before now p f. p ∙ rw f;
