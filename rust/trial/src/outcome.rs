@@ -40,12 +40,14 @@ impl Outcome {
 }
 
 /// Packs an answer with a value only.
-fn packed(answer: Result<usize, Refusal>) -> u64 {
+#[inline]
+pub fn packed(answer: Result<usize, Refusal>) -> u64 {
     packed_range(answer.map(|value| 0..value))
 }
 
 /// Packs an answer with a place and a length.
-fn packed_range(answer: Result<Range<usize>, Refusal>) -> u64 {
+#[inline]
+pub fn packed_range(answer: Result<Range<usize>, Refusal>) -> u64 {
     match answer {
         Ok(range) => (range.start as u64) << 16 | range.len() as u64,
         Err(refusal) => u64::from(refusal.number) << 32 | (refusal.place as u64) << 16,
@@ -112,7 +114,8 @@ fn row_of(octets: &[u8]) -> Row {
     }
 }
 
-fn octets_of(row: &Row) -> [u8; ROW_LEN] {
+/// A row as it stands in a lent table.
+pub fn octets_of(row: &Row) -> [u8; ROW_LEN] {
     let [offset_low, offset_high] = row.offset.to_le_bytes();
     let [len_low, len_high] = row.len.to_le_bytes();
     [offset_low, offset_high, row.header, len_low, len_high]
