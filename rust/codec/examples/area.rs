@@ -25,7 +25,7 @@ fn text(digits: &[u8]) -> String {
 fn main() -> Result<(), Refusal> {
     let record = codec::read(&MESSAGE)?;
     if let Some(area) = record.transfer(AREA) {
-        println!("area {}", text(&area.values));
+        println!("area {}", text(record.values_of(area)));
     }
 
     let mut buffer = MESSAGE;

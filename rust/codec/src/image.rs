@@ -1,7 +1,7 @@
 //! The record's image, the form in which the static library takes and gives
 //! records. `include/tsurakemobu.h` tells it.
 
-use crate::record::{Common, Record, Transfer, TRANSFER_DATA};
+use crate::record::{Common, Record, Stretch, Transfer, TRANSFER_DATA};
 
 /// Room for the image of any record that is read: the count, 6 common and 52
 /// transfer parameters, and two values for each octet of transfer data.
@@ -12,12 +12,12 @@ pub(crate) const IMAGE_MAX: usize = 1 + 6 * 6 + 52 * 11 + 2 * 255;
 pub(crate) fn image_of(record: &Record) -> Option<Vec<u8>> {
     let mut image = vec![u8::try_from(record.common.len()).ok()?];
     for parameter in &record.common {
-        put_common(parameter, &mut image)?;
+        put_common(record, parameter, &mut image)?;
     }
     Some(image)
 }
 
-fn put_common(parameter: &Common, image: &mut Vec<u8>) -> Option<()> {
+fn put_common(record: &Record, parameter: &Common, image: &mut Vec<u8>) -> Option<()> {
     let transfers = match parameter.header {
         TRANSFER_DATA => &parameter.transfers[..],
         _ => &[],
@@ -25,68 +25,75 @@ fn put_common(parameter: &Common, image: &mut Vec<u8>) -> Option<()> {
     image.push(parameter.header);
     image.extend(parameter.value.to_le_bytes());
     image.push(u8::try_from(transfers.len()).ok()?);
-    transfers.iter().try_for_each(|t| put_transfer(t, image))
+    for parameter in transfers {
+        put_transfer(parameter, record.values_of(parameter), image)?;
+    }
+    Some(())
 }
 
-fn put_transfer(parameter: &Transfer, image: &mut Vec<u8>) -> Option<()> {
-    let count = u16::try_from(parameter.values.len()).ok()?;
+fn put_transfer(parameter: &Transfer, values: &[u8], image: &mut Vec<u8>) -> Option<()> {
+    let count = u16::try_from(values.len()).ok()?;
     image.push(parameter.header);
     image.extend(parameter.fields());
     image.extend(count.to_le_bytes());
-    image.extend_from_slice(&parameter.values);
+    image.extend_from_slice(values);
     Some(())
 }
 
 /// The record of an image that the static library gave. Such an image is whole;
 /// octets that were missing at its end would be read as 0.
 pub(crate) fn record_of(image: &[u8]) -> Record {
-    let mut rest = Rest(image);
+    let mut rest = Rest {
+        octets: image,
+        len: image.len(),
+    };
     let [count] = rest.array();
     let common = (0..count).map(|_| common_of(&mut rest)).collect();
-    Record { common }
+    Record::of(common, image.to_vec())
 }
 
 fn common_of(rest: &mut Rest<'_>) -> Common {
-    let [header] = rest.array();
-    let value = u32::from_le_bytes(rest.array());
-    let [count] = rest.array();
+    let [header, value @ .., count] = rest.array::<6>();
     let transfers = match header {
         TRANSFER_DATA => (0..count).map(|_| transfer_of(rest)).collect(),
         _ => Vec::new(),
     };
     Common {
         header,
-        value,
+        value: u32::from_le_bytes(value),
         transfers,
     }
 }
 
 fn transfer_of(rest: &mut Rest<'_>) -> Transfer {
-    let [header] = rest.array();
-    let fields = rest.array();
-    let count = u16::from_le_bytes(rest.array());
-    let mut parameter = Transfer::new(header, rest.octets(count.into()));
+    let [header, fields @ .., low, high] = rest.array::<11>();
+    let mut parameter = Transfer::new(header);
     parameter.set_fields(fields);
+    parameter.values = rest.stretch(u16::from_le_bytes([low, high]).into());
     parameter
 }
 
 /// The octets of an image that are not read yet.
-struct Rest<'i>(&'i [u8]);
+struct Rest<'i> {
+    octets: &'i [u8],
+    /// How many octets the image has.
+    len: usize,
+}
 
 impl<'i> Rest<'i> {
-    /// The next `len` octets, or those that are left.
-    fn octets(&mut self, len: usize) -> &'i [u8] {
-        let (octets, rest) = self.0.split_at(len.min(self.0.len()));
-        self.0 = rest;
-        octets
+    /// Where the next `len` octets stand, or those that are left.
+    fn stretch(&mut self, len: usize) -> Stretch {
+        let start = self.len - self.octets.len();
+        let len = len.min(self.octets.len());
+        self.octets = &self.octets[len..];
+        Stretch::new(start, start + len)
     }
 
-    /// The next `N` octets, with 0 for those that are missing.
+    /// The next `N` octets, or 0s if they are not all there.
     fn array<const N: usize>(&mut self) -> [u8; N] {
-        let octets = self.octets(N);
-        let mut array = [0; N];
-        array[..octets.len()].copy_from_slice(octets);
-        array
+        let (first, rest) = self.octets.split_first_chunk().unwrap_or((&[0; N], &[]));
+        self.octets = rest;
+        *first
     }
 }
 
@@ -104,52 +111,53 @@ mod tests {
     ];
 
     fn record() -> Record {
-        let mut number = Transfer::new(0xD7, [9]);
+        let mut number = Transfer::new(0xD7);
         number.set_fields([1, 2, 3, 4, 5, 6, 7, 8]);
-        let common = vec![
-            Common::new(0x01, 1),
-            Common::new(0x83, 12345),
-            Common::transfer_data(vec![number]),
-        ];
-        Record { common }
+        let mut record = Record::default();
+        record.push_common(0x01, 1);
+        record.push_common(0x83, 12345);
+        record.push_transfer(number, &[9]);
+        record
     }
 
     #[test]
     fn there_and_back() {
+        let empty = Record::default();
         assert_eq!(image_of(&record()).as_deref(), Some(&IMAGE[..]));
+        assert_eq!(image_of(&empty).as_deref(), Some(&[0][..]));
         assert_eq!(record_of(&IMAGE), record());
-        assert_eq!(record_of(&[0]), Record::default());
+        assert_eq!(record_of(&[0]), empty);
     }
 
     #[test]
     fn an_image_that_is_cut_is_read_with_zeros() {
         assert_eq!(record_of(&[]), Record::default());
         let cut = record_of(&IMAGE[..30]);
-        assert_eq!(cut.common[2].transfers[0].values, []);
+        assert_eq!(cut.values_of(&cut.common[2].transfers[0]), []);
+        let cut = record_of(&IMAGE[..29]);
+        assert_eq!(cut.common[2].transfers[0].header, 0);
+    }
+
+    /// Whether a record with so many common parameters, and with a C5 of so many
+    /// transfer parameters with so many values each, has an image.
+    fn has_image(common: usize, transfers: usize, values: usize) -> bool {
+        let mut record = Record::default();
+        for _ in 0..common {
+            record.push_common(0x04, 0);
+        }
+        for _ in 0..transfers {
+            record.push_transfer(Transfer::new(0xCC), &vec![0; values]);
+        }
+        image_of(&record).is_some()
     }
 
     #[test]
     fn what_an_image_cannot_count() {
-        let many = |count| Record {
-            common: vec![Common::new(0x04, 0); count],
-        };
-        assert!(image_of(&many(255)).is_some());
-        assert_eq!(image_of(&many(256)), None);
-
-        let one = |common| Record {
-            common: vec![common],
-        };
-        let data = |count| one(Common::transfer_data(vec![Transfer::new(0x30, []); count]));
-        assert!(image_of(&data(255)).is_some());
-        assert_eq!(image_of(&data(256)), None);
-
-        let values = |count| {
-            one(Common::transfer_data(vec![Transfer::new(
-                0xCC,
-                vec![0; count],
-            )]))
-        };
-        assert!(image_of(&values(65_535)).is_some());
-        assert_eq!(image_of(&values(65_536)), None);
+        assert!(has_image(255, 0, 0));
+        assert!(!has_image(256, 0, 0));
+        assert!(has_image(0, 255, 0));
+        assert!(!has_image(0, 256, 0));
+        assert!(has_image(0, 1, 65_535));
+        assert!(!has_image(0, 1, 65_536));
     }
 }

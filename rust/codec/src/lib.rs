@@ -13,7 +13,8 @@
 //! ```
 //! let message = [0x01, 0x01, 0x06, 0x11, 0xC5, 0x03, 0x98, 0x02, 0x21, 0x00];
 //! let record = codec::read(&message)?;
-//! assert_eq!(record.transfer(0x18).map(|dialled| &dialled.values[..]), Some(&[1, 2][..]));
+//! let dialled = record.transfer(0x18).map(|found| record.values_of(found));
+//! assert_eq!(dialled, Some(&[1, 2][..]));
 //! assert_eq!(codec::write_to_vec(&record)?, message);
 //!
 //! let refusal = codec::read(&message[..9]).unwrap_err();
@@ -31,7 +32,7 @@ mod image;
 pub mod record;
 mod refusal;
 
-pub use record::{Common, Record, Transfer};
+pub use record::{Common, Record, Stretch, Transfer};
 pub use refusal::Refusal;
 
 use answer::{unpack, Accepted};

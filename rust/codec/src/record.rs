@@ -2,19 +2,46 @@
 //!
 //! A record can hold more than a message can: any header, any number. Writing
 //! refuses what is out of range.
+//!
+//! The values of all transfer parameters stand in one vector of the record, and
+//! each parameter says where its own do: [`Record::values_of`] gives them.
+
+use std::fmt;
+use std::hash::{Hash, Hasher};
+use std::iter;
 
 /// Header of the transfer data.
 pub(crate) const TRANSFER_DATA: u8 = 0xC5;
 
 /// A message's common parameters in their order, without the end mark.
-#[derive(Clone, Debug, Default, PartialEq, Eq, Hash)]
+///
+/// Records are equal if they have the same parameters with the same values,
+/// wherever these stand.
+///
+/// ```
+/// use codec::{Record, Transfer};
+///
+/// let mut record = Record::default();
+/// record.push_common(0x01, 1);
+/// record.push_common(0x06, 0x11);
+/// let dialled = Transfer { dialling: 1, ..Transfer::new(0x98) };
+/// record.push_transfer(dialled, &[1, 2]);
+/// let message = [0x01, 0x01, 0x06, 0x11, 0xC5, 0x03, 0x98, 0x42, 0x21, 0x00];
+/// assert_eq!(codec::write_to_vec(&record)?, message);
+/// assert_eq!(codec::read(&message)?, record);
+/// # Ok::<(), codec::Refusal>(())
+/// ```
+#[derive(Clone, Default)]
 pub struct Record {
     /// The common parameters.
     pub common: Vec<Common>,
+    /// The octets among which the values of all transfer parameters stand; of a
+    /// record that was read, those of its image.
+    octets: Vec<u8>,
 }
 
 /// A common parameter.
-#[derive(Clone, Debug, Default, PartialEq, Eq, Hash)]
+#[derive(Clone, Debug, Default)]
 pub struct Common {
     /// The header.
     pub header: u8,
@@ -31,7 +58,7 @@ pub struct Common {
 /// The header says which of the fields it has; DA, which is a number if its
 /// first value is 06, says so by that value too. Those that it does not have are
 /// 0 where read, and not looked at in writing.
-#[derive(Clone, Debug, Default, PartialEq, Eq, Hash)]
+#[derive(Clone, Copy, Debug, Default)]
 pub struct Transfer {
     /// The header: PLI and name.
     pub header: u8,
@@ -51,14 +78,24 @@ pub struct Transfer {
     pub presentation: u8,
     /// The screening of a number, two bits.
     pub screening: u8,
-    /// Digits under PLI 10, D7 and DC, the first digit first: 0 to 9, 10 for
-    /// `*`, 11 for `#`. For DA with 06, that octet and then digits. For all
-    /// others, and for the names without layout (07, 24, 30, 31, 3B), the
-    /// contents.
-    pub values: Vec<u8>,
+    /// Where its values stand in its record; [`Record::values_of`] gives them.
+    pub values: Stretch,
+}
+
+/// Where the values of a transfer parameter stand in the record that gave it;
+/// by default there are none.
+#[derive(Clone, Copy, Debug, Default)]
+pub struct Stretch {
+    start: usize,
+    end: usize,
 }
 
 impl Record {
+    /// The record of these common parameters, whose values stand in `octets`.
+    pub(crate) fn of(common: Vec<Common>, octets: Vec<u8>) -> Self {
+        Record { common, octets }
+    }
+
     /// The first common parameter with this header, if there is one.
     pub fn common(&self, header: u8) -> Option<&Common> {
         self.common.iter().find(|common| common.header == header)
@@ -71,10 +108,105 @@ impl Record {
         data.flat_map(|c| &c.transfers)
             .find(|t| t.header & 0x3F == name)
     }
+
+    /// The values of a transfer parameter of this record.
+    ///
+    /// They are digits under PLI 10, D7 and DC, the first digit first: 0 to 9,
+    /// 10 for `*`, 11 for `#`. For DA with 06, that octet and then digits. For
+    /// all others, and for the names without layout (07, 24, 30, 31, 3B), the
+    /// contents.
+    ///
+    /// Of a parameter of another record it gives what stands there in this one,
+    /// or none.
+    pub fn values_of(&self, parameter: &Transfer) -> &[u8] {
+        let Stretch { start, end } = parameter.values;
+        self.octets.get(start..end).unwrap_or_default()
+    }
+
+    /// Adds a common parameter, without transfer parameters.
+    pub fn push_common(&mut self, header: u8, value: u32) {
+        self.common.push(Common::new(header, value));
+    }
+
+    /// Adds a transfer parameter with these values to the last C5; where there
+    /// is none, to one that is added for it.
+    pub fn push_transfer(&mut self, parameter: Transfer, values: &[u8]) {
+        if self.common(TRANSFER_DATA).is_none() {
+            self.push_common(TRANSFER_DATA, 0);
+        }
+        let values = self.hold(values);
+        let mut from_last = self.common.iter_mut().rev();
+        if let Some(data) = from_last.find(|c| c.header == TRANSFER_DATA) {
+            data.transfers.push(Transfer {
+                values,
+                ..parameter
+            });
+        }
+    }
+
+    /// Takes up values, and says where they stand: to be set as the `values` of
+    /// a transfer parameter of this record that is to have them. Values that no
+    /// parameter has any more stay in the record.
+    pub fn hold(&mut self, values: &[u8]) -> Stretch {
+        let start = self.octets.len();
+        self.octets.extend_from_slice(values);
+        Stretch::new(start, self.octets.len())
+    }
+
+    /// What the record says, parameter by parameter.
+    fn parts(&self) -> impl Iterator<Item = Part<'_>> {
+        self.common.iter().flat_map(move |common| {
+            let head = Part::Common {
+                header: common.header,
+                value: common.value,
+            };
+            let transfers = common.transfers.iter().map(|t| Part::Transfer {
+                header: t.header,
+                fields: t.fields(),
+                values: self.values_of(t),
+            });
+            iter::once(head).chain(transfers)
+        })
+    }
+}
+
+/// What a record says of one parameter. The transfer parameters of a common one
+/// follow it.
+#[derive(Debug, PartialEq, Eq, Hash)]
+enum Part<'r> {
+    Common {
+        header: u8,
+        value: u32,
+    },
+    Transfer {
+        header: u8,
+        fields: [u8; 8],
+        values: &'r [u8],
+    },
+}
+
+impl PartialEq for Record {
+    fn eq(&self, other: &Self) -> bool {
+        self.parts().eq(other.parts())
+    }
+}
+
+impl Eq for Record {}
+
+impl Hash for Record {
+    fn hash<H: Hasher>(&self, state: &mut H) {
+        self.parts().for_each(|part| part.hash(state));
+    }
+}
+
+impl fmt::Debug for Record {
+    fn fmt(&self, f: &mut fmt::Formatter<'_>) -> fmt::Result {
+        f.debug_list().entries(self.parts()).finish()
+    }
 }
 
 impl Common {
-    /// A common parameter that holds a number: any but C5.
+    /// A common parameter without transfer parameters.
     pub fn new(header: u8, value: u32) -> Self {
         let transfers = Vec::new();
         Common {
@@ -83,23 +215,13 @@ impl Common {
             transfers,
         }
     }
-
-    /// Transfer data.
-    pub fn transfer_data(transfers: Vec<Transfer>) -> Self {
-        Common {
-            header: TRANSFER_DATA,
-            value: 0,
-            transfers,
-        }
-    }
 }
 
 impl Transfer {
-    /// A transfer parameter with these values, and 0 in all fields.
-    pub fn new(header: u8, values: impl Into<Vec<u8>>) -> Self {
+    /// A transfer parameter with 0 in all fields and no values.
+    pub fn new(header: u8) -> Self {
         Transfer {
             header,
-            values: values.into(),
             ..Transfer::default()
         }
     }
@@ -133,16 +255,104 @@ impl Transfer {
     }
 }
 
+impl Stretch {
+    /// From the octet `start` on, up to the octet `end`.
+    pub(crate) fn new(start: usize, end: usize) -> Self {
+        Stretch { start, end }
+    }
+}
+
 #[cfg(test)]
 mod tests {
     use super::*;
+    use std::collections::HashSet;
 
     #[test]
     fn a_transfer_parameter_is_sought_in_every_c5() {
-        let data = |header| Common::transfer_data(vec![Transfer::new(header, [])]);
-        let common = vec![Common::new(0x01, 1), data(0x90), data(0x98)];
-        let record = Record { common };
-        assert_eq!(record.transfer(0x18), Some(&Transfer::new(0x98, [])));
-        assert_eq!(record.transfer(0x17), None);
+        let mut record = Record::default();
+        for header in [0x90, 0x98] {
+            record.push_common(TRANSFER_DATA, 0);
+            record.push_transfer(Transfer::new(header), &[]);
+        }
+        assert_eq!(record.transfer(0x18).map(|t| t.header), Some(0x98));
+        assert!(record.transfer(0x17).is_none());
+    }
+
+    #[test]
+    fn a_transfer_parameter_is_added_to_the_last_c5() {
+        let mut record = Record::default();
+        record.push_transfer(Transfer::new(0x90), &[1]);
+        record.push_common(TRANSFER_DATA, 0);
+        record.push_common(0x01, 1);
+        record.push_transfer(Transfer::new(0x98), &[2, 3]);
+        let headers = |at: usize| {
+            let all = record.common[at].transfers.iter().map(|t| t.header);
+            all.collect::<Vec<_>>()
+        };
+        assert_eq!(
+            [headers(0), headers(1), headers(2)],
+            [&[0x90][..], &[0x98], &[]]
+        );
+        assert_eq!(record.values_of(&record.common[1].transfers[0]), [2, 3]);
+    }
+
+    /// Two transfer parameters, 90 with 1 and 98 with 2 and 3.
+    fn record() -> Record {
+        let mut record = Record::default();
+        record.push_common(0x01, 1);
+        record.push_transfer(Transfer::new(0x90), &[1]);
+        record.push_transfer(Transfer::new(0x98), &[2, 3]);
+        record
+    }
+
+    #[test]
+    fn where_values_stand_makes_no_difference() {
+        let mut other = Record::default();
+        other.push_common(0x01, 1);
+        other.push_transfer(Transfer::new(0x98), &[2, 3]);
+        other.push_transfer(Transfer::new(0x90), &[9, 9, 9]);
+        other.common[1].transfers.swap(0, 1);
+        assert_ne!(other, record());
+        other.common[1].transfers[0].values = other.hold(&[1]);
+        assert_eq!(other, record());
+        assert_eq!(format!("{other:?}"), format!("{:?}", record()));
+        assert_eq!(HashSet::from([other, record()]).len(), 1);
+    }
+
+    #[test]
+    fn all_else_makes_one() {
+        let changes: [fn(&mut Record); 8] = [
+            |record| record.common[0].header = 0x04,
+            |record| record.common[1].value = 1,
+            |record| record.common[1].transfers[0].header = 0x91,
+            |record| record.common[1].transfers[0].screening = 1,
+            |record| record.common[1].transfers.swap(0, 1),
+            |record| record.common[0].transfers = record.common[1].transfers.clone(),
+            |record| record.common[1].transfers[1].values = Stretch::default(),
+            |record| record.push_common(0x04, 1),
+        ];
+        for change in changes {
+            let mut other = record();
+            change(&mut other);
+            assert_ne!(other, record());
+        }
+        assert_ne!(Record::default(), record());
+    }
+
+    #[test]
+    fn parameters_of_other_records_are_no_harm() {
+        let values = |start, end| {
+            let values = Stretch::new(start, end);
+            let parameter = Transfer {
+                values,
+                ..Transfer::new(0x98)
+            };
+            record().values_of(&parameter).to_vec()
+        };
+        assert_eq!(values(0, 3), [1, 2, 3]);
+        assert_eq!(values(3, 3), []);
+        for (start, end) in [(0, 4), (4, 4), (2, 1), (usize::MAX, 0), (0, usize::MAX)] {
+            assert_eq!(values(start, end), []);
+        }
     }
 }

@@ -10,33 +10,6 @@ fn refusal(refusal: plain::Refusal) -> Refusal {
     Refusal::new(refusal.number, refusal.place)
 }
 
-fn transfer(transfer: &plain::Transfer, values: &[u8]) -> Transfer {
-    Transfer {
-        header: transfer.header,
-        notification: transfer.notification,
-        verification: transfer.verification,
-        dialling: transfer.dialling,
-        number_type: transfer.number_type,
-        incomplete: transfer.incomplete,
-        plan: transfer.plan,
-        presentation: transfer.presentation,
-        screening: transfer.screening,
-        values: values.to_vec(),
-    }
-}
-
-fn record(record: &plain::Record) -> Record {
-    let transfer = |t: &plain::Transfer| transfer(t, record.values_of(t));
-    let common = |common: &plain::Common| Common {
-        header: common.header,
-        value: common.value,
-        transfers: common.transfers.iter().map(transfer).collect(),
-    };
-    Record {
-        common: record.common.iter().map(common).collect(),
-    }
-}
-
 fn row(row: plain::Row) -> Row {
     Row {
         offset: row.offset.into(),
@@ -105,20 +78,59 @@ fn reading_agrees(message: &[u8]) -> bool {
         Ok(record) => codec::write_to_vec(record).as_deref() == Ok(message),
         Err(_) => true,
     };
-    let theirs = plain::read(message).map(|read| record(&read));
-    returns && read == theirs.map_err(refusal)
+    let theirs = plain::read(message).map(|read| held_by(&plain::image(&read)));
+    returns && read.map(Some) == theirs.map_err(refusal)
 }
 
+/// The same message or refusal of the record that an image holds, also where
+/// that is over its limits.
 fn writing_agrees(image: &[u8], room: &[u8]) -> bool {
-    let Ok(held) = plain::from_image(image) else {
+    let Some(ours) = held_by(image) else {
         return true;
     };
-    let ours = record(&held);
     same_lent(
         room,
         |room| codec::write(&ours, room),
-        |room| plain::write(&held, room),
+        |room| plain::write(&plain::from_image(image)?, room),
     )
+}
+
+/// The record of an image with all that it has, also what a parameter does not;
+/// none if it is not whole.
+fn held_by(image: &[u8]) -> Option<Record> {
+    let mut record = Record::default();
+    let (&count, mut rest) = image.split_first()?;
+    for _ in 0..count {
+        let (&[header, a, b, c, d, transfers], after) = rest.split_first_chunk()?;
+        rest = after;
+        record.push_common(header, u32::from_le_bytes([a, b, c, d]));
+        if header == 0xC5 {
+            for _ in 0..transfers {
+                rest = push_transfer(&mut record, rest)?;
+            }
+        }
+    }
+    rest.is_empty().then_some(record)
+}
+
+/// Adds the transfer parameter that begins these octets of an image; gives those
+/// behind it.
+fn push_transfer<'i>(record: &mut Record, octets: &'i [u8]) -> Option<&'i [u8]> {
+    let (head, rest) = octets.split_first_chunk::<11>()?;
+    let parameter = Transfer {
+        notification: head[1],
+        verification: head[2],
+        dialling: head[3],
+        number_type: head[4],
+        incomplete: head[5],
+        plan: head[6],
+        presentation: head[7],
+        screening: head[8],
+        ..Transfer::new(head[0])
+    };
+    let count = usize::from(u16::from_le_bytes([head[9], head[10]]));
+    record.push_transfer(parameter, rest.get(..count)?);
+    Some(&rest[count..])
 }
 
 /// The very same octets of the message, or the same refusal.
@@ -153,43 +165,58 @@ fn same_lent(
     ours(&mut by_ours) == theirs(&mut by_theirs).map_err(refusal) && by_ours == by_theirs
 }
 
+const OVER: Refusal = Refusal::new(Refusal::OVER_LIMITS, 0);
+
+/// A record with user class and signal kind.
+fn sound() -> Record {
+    let mut record = Record::default();
+    record.push_common(0x01, 1);
+    record.push_common(0x06, 0x11);
+    record
+}
+
 #[test]
 fn records_over_their_limits() {
-    let over = Err(Refusal::new(Refusal::OVER_LIMITS, 0));
-    let sound = || vec![Common::new(0x01, 1), Common::new(0x06, 0x11)];
-    let with = |transfers| {
-        let mut common = sound();
-        common.push(Common::transfer_data(transfers));
-        codec::write_to_vec(&Record { common })
+    let carried = |count| {
+        let mut record = sound();
+        record.push_transfer(Transfer::new(0xCC), &vec![0; count]);
+        codec::write_to_vec(&record)
     };
-    assert!(with(vec![Transfer::new(0xCC, [0; 253])]).is_ok());
-    assert_eq!(with(vec![Transfer::new(0xCC, [0; 256])]), over);
-    assert_eq!(with(vec![Transfer::new(0xCC, [0; 65_535])]), over);
-    assert_eq!(with(vec![Transfer::new(0xCC, [0; 65_536])]), over);
-    for count in [53, 255, 256, 1000] {
-        assert_eq!(with(vec![Transfer::new(0x30, []); count]), over);
+    assert!(carried(253).is_ok());
+    for count in [256, 65_535, 65_536, 65_537] {
+        assert_eq!(carried(count), Err(OVER));
     }
-    for count in [7, 255, 256, 100_000] {
-        let common = vec![Common::new(0x04, 0); count];
-        assert_eq!(codec::write_to_vec(&Record { common }), over);
+    for count in [53, 255, 256, 257, 1000] {
+        let mut record = sound();
+        for _ in 0..count {
+            record.push_transfer(Transfer::new(0x30), &[]);
+        }
+        assert_eq!(codec::write_to_vec(&record), Err(OVER));
+    }
+    for count in [7, 255, 256, 257, 100_000] {
+        let mut record = Record::default();
+        record.common = vec![Common::new(0x04, 0); count];
+        assert_eq!(codec::write_to_vec(&record), Err(OVER));
     }
 }
 
 #[test]
 fn what_a_parameter_does_not_have_is_not_looked_at() {
+    let mut record = sound();
     let area = Transfer {
         plan: 9,
-        ..Transfer::new(0x90, [1, 2])
+        ..Transfer::new(0x90)
     };
-    let mut common = vec![
-        Common::new(0x01, 1),
-        Common::new(0x06, 0x11),
-        Common::transfer_data(vec![area]),
-    ];
-    common[0].transfers = vec![Transfer::new(0x00, [9; 300]); 300];
-    common[2].value = 9;
+    record.push_transfer(area, &[1, 2]);
+    let values = record.hold(&[9; 300]);
+    let stray = Transfer {
+        values,
+        ..Transfer::new(0x00)
+    };
+    record.common[0].transfers = vec![stray; 300];
+    record.common[2].value = 9;
     let message = [0x01, 0x01, 0x06, 0x11, 0xC5, 0x03, 0x90, 0x02, 0x21, 0x00];
-    let written = codec::write_to_vec(&Record { common });
+    let written = codec::write_to_vec(&record);
     assert_eq!(written.as_deref(), Ok(&message[..]));
 }
 
