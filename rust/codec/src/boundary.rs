@@ -5,6 +5,11 @@
 //! a table of rows. This is the only module with `unsafe`; the functions of the
 //! crate's root are easier to use.
 
+use crate::answer::unpack;
+use crate::refusal::Refusal;
+use crate::IMAGE_MAX;
+use std::mem::MaybeUninit;
+
 // Where the static library cannot be linked, this crate defines its functions.
 #[cfg(not(target_arch = "x86_64"))]
 use far as _;
@@ -92,4 +97,77 @@ pub fn append(buffer: &mut [u8], n: usize, new: &[u8]) -> u64 {
 pub fn remove(buffer: &mut [u8], n: usize, name: u8) -> u64 {
     // SAFETY: pointer and length are a slice's, and `buffer` overlaps nothing.
     unsafe { tk_remove(buffer.as_mut_ptr(), buffer.len(), n, name) }
+}
+
+/// Memory for the image of any record within its limits. It is not cleared
+/// first: an octet of it is set or not.
+pub(crate) struct Room([MaybeUninit<u8>; IMAGE_MAX]);
+
+impl Room {
+    /// Memory of which no octet is set.
+    pub(crate) fn new() -> Self {
+        Room([MaybeUninit::uninit(); IMAGE_MAX])
+    }
+}
+
+/// The record's image of `message`, in `room`.
+///
+/// # Errors
+///
+/// Those of [`read`](crate::read).
+pub(crate) fn read_into<'r>(message: &[u8], room: &'r mut Room) -> Result<&'r [u8], Refusal> {
+    let Room(octets) = room;
+    if cfg!(not(target_arch = "x86_64")) {
+        // `far` reads what is lent to it.
+        octets.fill(MaybeUninit::new(0));
+    }
+    let (image, len) = (octets.as_mut_ptr().cast(), octets.len());
+    // SAFETY: each pointer and length is a slice's, and `image` overlaps nothing.
+    let answer = unsafe { tk_read(message.as_ptr(), message.len(), image, len) };
+    let value = unpack(answer)?.value;
+    let front = octets.get(..value).unwrap_or_default();
+    // SAFETY: where a call is accepted, the first `value` octets are the image's,
+    // whatever was there before. This is proved: `TkReadPromise`.
+    Ok(unsafe { all_set(front) })
+}
+
+/// Octets that are set, as such.
+///
+/// # Safety
+///
+/// All of them must be set.
+unsafe fn all_set(octets: &[MaybeUninit<u8>]) -> &[u8] {
+    &*(octets as *const [MaybeUninit<u8>] as *const [u8])
+}
+
+/// Octets put one after the other into the front of a room.
+pub(crate) struct Draft<'r> {
+    room: &'r mut Room,
+    /// So many octets of the room are set, from its first on.
+    len: usize,
+}
+
+impl<'r> Draft<'r> {
+    /// A draft without octets, in `room`.
+    pub(crate) fn new(room: &'r mut Room) -> Self {
+        Draft { room, len: 0 }
+    }
+
+    /// Puts `octets` behind those that are there; none if they do not fit.
+    pub(crate) fn put(&mut self, octets: &[u8]) -> Option<()> {
+        let rest = self.room.0.get_mut(self.len..)?;
+        let next = rest.get_mut(..octets.len())?;
+        for (next, &octet) in next.iter_mut().zip(octets) {
+            next.write(octet);
+        }
+        self.len += octets.len();
+        Some(())
+    }
+
+    /// The octets that were put.
+    pub(crate) fn octets(self) -> &'r [u8] {
+        let front = self.room.0.get(..self.len).unwrap_or_default();
+        // SAFETY: `put` alone counts octets, and sets all that it counts.
+        unsafe { all_set(front) }
+    }
 }

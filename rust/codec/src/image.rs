@@ -1,43 +1,40 @@
 //! The record's image, the form in which the static library takes and gives
 //! records. `include/tsurakemobu.h` tells it.
 
+use crate::boundary::{Draft, Room};
 use crate::record::{Common, Record, Stretch, Transfer, TRANSFER_DATA};
 
-/// Room for the image of any record that is read: the count, 6 common and 52
-/// transfer parameters, and two values for each octet of transfer data.
-pub(crate) const IMAGE_MAX: usize = 1 + 6 * 6 + 52 * 11 + 2 * 255;
-
-/// The image of `record`; none if it has more parameters or values than an
-/// image can count.
-pub(crate) fn image_of(record: &Record) -> Option<Vec<u8>> {
-    let mut image = vec![u8::try_from(record.common.len()).ok()?];
+/// The image of `record`, in `room`; none if it is longer than that of any
+/// record within its limits, as it is where an image cannot count what the
+/// record has.
+pub(crate) fn image_of<'r>(record: &Record, room: &'r mut Room) -> Option<&'r [u8]> {
+    let mut image = Draft::new(room);
+    image.put(&[u8::try_from(record.common.len()).ok()?])?;
     for parameter in &record.common {
         put_common(record, parameter, &mut image)?;
     }
-    Some(image)
+    Some(image.octets())
 }
 
-fn put_common(record: &Record, parameter: &Common, image: &mut Vec<u8>) -> Option<()> {
+fn put_common(record: &Record, parameter: &Common, image: &mut Draft<'_>) -> Option<()> {
     let transfers = match parameter.header {
         TRANSFER_DATA => &parameter.transfers[..],
         _ => &[],
     };
-    image.push(parameter.header);
-    image.extend(parameter.value.to_le_bytes());
-    image.push(u8::try_from(transfers.len()).ok()?);
+    image.put(&[parameter.header])?;
+    image.put(&parameter.value.to_le_bytes())?;
+    image.put(&[u8::try_from(transfers.len()).ok()?])?;
     for parameter in transfers {
         put_transfer(parameter, record.values_of(parameter), image)?;
     }
     Some(())
 }
 
-fn put_transfer(parameter: &Transfer, values: &[u8], image: &mut Vec<u8>) -> Option<()> {
-    let count = u16::try_from(values.len()).ok()?;
-    image.push(parameter.header);
-    image.extend(parameter.fields());
-    image.extend(count.to_le_bytes());
-    image.extend_from_slice(values);
-    Some(())
+fn put_transfer(parameter: &Transfer, values: &[u8], image: &mut Draft<'_>) -> Option<()> {
+    image.put(&[parameter.header])?;
+    image.put(&parameter.fields())?;
+    image.put(&u16::try_from(values.len()).ok()?.to_le_bytes())?;
+    image.put(values)
 }
 
 /// The record of an image that the static library gave. Such an image is whole;
@@ -100,6 +97,7 @@ impl<'i> Rest<'i> {
 #[cfg(test)]
 mod tests {
     use super::*;
+    use crate::IMAGE_MAX;
 
     #[rustfmt::skip]
     const IMAGE: [u8; 31] = [
@@ -123,8 +121,8 @@ mod tests {
     #[test]
     fn there_and_back() {
         let empty = Record::default();
-        assert_eq!(image_of(&record()).as_deref(), Some(&IMAGE[..]));
-        assert_eq!(image_of(&empty).as_deref(), Some(&[0][..]));
+        assert_eq!(image_of(&record(), &mut Room::new()), Some(&IMAGE[..]));
+        assert_eq!(image_of(&empty, &mut Room::new()), Some(&[0][..]));
         assert_eq!(record_of(&IMAGE), record());
         assert_eq!(record_of(&[0]), empty);
     }
@@ -148,16 +146,28 @@ mod tests {
         for _ in 0..transfers {
             record.push_transfer(Transfer::new(0xCC), &vec![0; values]);
         }
-        image_of(&record).is_some()
+        image_of(&record, &mut Room::new()).is_some()
+    }
+
+    #[test]
+    fn what_is_longer_than_any_image() {
+        assert!(has_image(186, 0, 0));
+        assert!(!has_image(187, 0, 0));
+        assert!(has_image(0, 101, 0));
+        assert!(!has_image(0, 102, 0));
+        assert!(has_image(0, 1, IMAGE_MAX - 18));
+        assert!(!has_image(0, 1, IMAGE_MAX - 17));
+        assert!(!has_image(1, 1, IMAGE_MAX - 18));
     }
 
     #[test]
     fn what_an_image_cannot_count() {
-        assert!(has_image(255, 0, 0));
-        assert!(!has_image(256, 0, 0));
-        assert!(has_image(0, 255, 0));
-        assert!(!has_image(0, 256, 0));
-        assert!(has_image(0, 1, 65_535));
-        assert!(!has_image(0, 1, 65_536));
+        for count in [255, 256, 257, 1000] {
+            assert!(!has_image(count, 0, 0));
+            assert!(!has_image(0, count, 0));
+        }
+        for count in [65_535, 65_536, 65_537] {
+            assert!(!has_image(0, 1, count));
+        }
     }
 }

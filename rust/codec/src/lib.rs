@@ -36,6 +36,7 @@ pub use record::{Common, Record, Stretch, Transfer};
 pub use refusal::Refusal;
 
 use answer::{unpack, Accepted};
+use boundary::Room;
 
 // The example in the README is compiled with the tests.
 #[cfg(doctest)]
@@ -46,6 +47,10 @@ struct Readme;
 pub const MESSAGE_MAX: usize = 272;
 /// The most rows of a message, the end mark's among them.
 pub const ROWS_MAX: usize = 59;
+/// The most octets of the image of a record within its limits, and so of one
+/// that is read: the count, 6 common and 52 transfer parameters, and two values
+/// for each of the 255 octets that their contents can have together.
+pub const IMAGE_MAX: usize = 1 + 6 * 6 + 52 * 11 + 2 * 255;
 /// Octets of a row in the table that the static library fills.
 const ROW_LEN: usize = 5;
 
@@ -77,9 +82,9 @@ pub enum Class {
 ///
 /// Numbers 1 to 13, tried from left to right.
 pub fn read(message: &[u8]) -> Result<Record, Refusal> {
-    let mut octets = [0; image::IMAGE_MAX];
-    let len = unpack(boundary::read(message, &mut octets))?.value;
-    Ok(image::record_of(octets.get(..len).unwrap_or(&octets)))
+    let mut memory = Room::new();
+    let image = boundary::read_into(message, &mut memory)?;
+    Ok(image::record_of(image))
 }
 
 /// Writes the message of `record` into the front of `room`; gives its length.
@@ -90,9 +95,11 @@ pub fn read(message: &[u8]) -> Result<Record, Refusal> {
 /// Number 1, then 2, 3, 5 and 8 to 14 in the reader's order, at the places
 /// where octets would stand, 6 at the end, and 15 if the room is too short.
 pub fn write(record: &Record, room: &mut [u8]) -> Result<usize, Refusal> {
+    // The library's own answer to an image over the limits.
     let over = Refusal::new(Refusal::OVER_LIMITS, 0);
-    let octets = image::image_of(record).ok_or(over)?;
-    Ok(unpack(boundary::write(&octets, room))?.value)
+    let mut memory = Room::new();
+    let image = image::image_of(record, &mut memory).ok_or(over)?;
+    Ok(unpack(boundary::write(image, room))?.value)
 }
 
 /// The message of `record`.

@@ -42,10 +42,6 @@ fn of_the_longest_image() {
     let proved = include_str!("../../../crates/boundary/specs/SmallImages.antt");
     let proved = value(line(proved, "pub image-max : most-image ≡ ", '\n'));
     let header = include_str!("../../../include/tsurakemobu.h");
-    let here = include_str!("../src/image.rs");
     assert_eq!(value(line(header, "#define TK_IMAGE_MAX (", ')')), proved);
-    assert_eq!(
-        value(line(here, "pub(crate) const IMAGE_MAX: usize = ", ';')),
-        proved
-    );
+    assert_eq!(codec::IMAGE_MAX, proved);
 }
