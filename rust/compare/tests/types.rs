@@ -1,6 +1,6 @@
 //! The proved codec in Rust's types answers as the plain one does.
 
-use codec::{Class, Common, Record, Refusal, Row, Transfer};
+use codec::{boundary, Class, Common, Record, Refusal, Row, Transfer, IMAGE_MAX, MESSAGE_MAX};
 use trial::{input_at, Input};
 
 const SEED: u64 = 23;
@@ -197,6 +197,43 @@ fn records_over_their_limits() {
         let mut record = Record::default();
         record.common = vec![Common::new(0x04, 0); count];
         assert_eq!(codec::write_to_vec(&record), Err(OVER));
+    }
+}
+
+/// An image with so many C5, of which the first has so many transfer parameters
+/// with this header, and the first of those so many values.
+fn image(commons: u8, transfers: u8, header: u8, values: u16) -> Vec<u8> {
+    let [low, high] = values.to_le_bytes();
+    let mut image = vec![commons, 0xC5, 0, 0, 0, 0, transfers];
+    image.extend([header, 0, 0, 0, 0, 0, 0, 0, 0, low, high]);
+    image.extend(vec![0; values.into()]);
+    for _ in 1..transfers {
+        image.extend([header, 0, 0, 0, 0, 0, 0, 0, 0, 0, 0]);
+    }
+    for _ in 1..commons {
+        image.extend([0xC5, 0, 0, 0, 0, 0]);
+    }
+    image
+}
+
+/// Of a record whose image is too long to be laid out, the wrapper says what the
+/// static library says of the image.
+#[test]
+fn images_of_any_length() {
+    let headers = [0x30, 0xB0, 0x41, 0x90, 0xCC, 0xD7, 0xDA, 0x08];
+    let values = [
+        0, 1, 2, 63, 255, 256, 506, 510, 511, 512, 1101, 1102, 65_535,
+    ];
+    for (commons, transfers) in [(1, 1), (1, 52), (1, 53), (6, 1), (6, 52), (6, 53), (7, 1)] {
+        for (header, values) in headers.into_iter().flat_map(|h| values.map(|v| (h, v))) {
+            let image = image(commons, transfers, header, values);
+            let packed = boundary::write(&image, &mut [0; MESSAGE_MAX]);
+            let (number, place) = ((packed >> 32) as u8, (packed >> 16) as usize & 0xFFFF);
+            let record = held_by(&image).expect("a whole image");
+            let refused = codec::write(&record, &mut [0; MESSAGE_MAX]);
+            assert_eq!(refused, Err(Refusal::new(number, place)), "{record:02X?}");
+            assert!(image.len() <= IMAGE_MAX || number == Refusal::OVER_LIMITS);
+        }
     }
 }
 
