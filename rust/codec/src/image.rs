@@ -21,9 +21,9 @@ fn put_common(record: &Record, parameter: &Common, image: &mut Draft<'_>) -> Opt
         TRANSFER_DATA => &parameter.transfers[..],
         _ => &[],
     };
-    image.put(&[parameter.header])?;
-    image.put(&parameter.value.to_le_bytes())?;
-    image.put(&[u8::try_from(transfers.len()).ok()?])?;
+    let [a, b, c, d] = parameter.value.to_le_bytes();
+    let count = u8::try_from(transfers.len()).ok()?;
+    image.put(&[parameter.header, a, b, c, d, count])?;
     for parameter in transfers {
         put_transfer(parameter, record.values_of(parameter), image)?;
     }
@@ -31,10 +31,14 @@ fn put_common(record: &Record, parameter: &Common, image: &mut Draft<'_>) -> Opt
 }
 
 fn put_transfer(parameter: &Transfer, values: &[u8], image: &mut Draft<'_>) -> Option<()> {
-    image.put(&[parameter.header])?;
-    image.put(&parameter.fields())?;
-    image.put(&u16::try_from(values.len()).ok()?.to_le_bytes())?;
-    image.put(values)
+    let [a, b, c, d, e, f, g, h] = parameter.fields();
+    let [low, high] = u16::try_from(values.len()).ok()?.to_le_bytes();
+    image.put(&[parameter.header, a, b, c, d, e, f, g, h, low, high])?;
+    match values {
+        // The most frequent case, for which no copy is called.
+        [value] => image.put(&[*value]),
+        _ => image.put(values),
+    }
 }
 
 /// The record of an image that the static library gave. Such an image is whole;

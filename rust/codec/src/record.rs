@@ -120,7 +120,7 @@ impl Record {
     /// or none.
     pub fn values_of(&self, parameter: &Transfer) -> &[u8] {
         let Stretch { start, end } = parameter.values;
-        self.octets.get(start..end).unwrap_or_default()
+        self.octets.get(start..end).unwrap_or_else(no_values)
     }
 
     /// Adds a common parameter, without transfer parameters.
@@ -168,6 +168,13 @@ impl Record {
             iter::once(head).chain(transfers)
         })
     }
+}
+
+/// Apart from its only use, so that the compiler takes that for the rare case.
+#[cold]
+#[inline(never)]
+fn no_values<'r>() -> &'r [u8] {
+    &[]
 }
 
 /// What a record says of one parameter. The transfer parameters of a common one
