@@ -2,60 +2,58 @@
 use Prim.Native.Nat.{ℕ, zero, suc, _+_, _<_}
 use native.Mathlib.Omega.{arith}
 use mathlib.Core.Path.{_≡_, refl, _∙_}
-use mathlib.Core.Bool.{Bool, true, false, cond, not, _||_}
+use mathlib.Core.Bool.{Bool, true, false, cond, not, _&&_, _||_}
 use mathlib.Core.List.{List, [], _∷_, map}
-use borrow.Author.Tests.{eqb-true, eqb-false}
-use lib.Dec.{T, eqb}
+use borrow.Author.Tests.{eqb-true, eqb-false, ne-eqb}
+use lib.Dec.{eqb}
+use lib.ListN.{drop}
 use Rattle.annex.specs.Units.{pliOf, nameOf}
-use Rattle.annex.specs.Heads.{Head, heads, isFree, nameUsed, pliRight, zeroesOf, formOf}
+use Rattle.annex.specs.Answers.{refuse, unused-name, other-pli}
+use Rattle.annex.specs.Heads.{Head, among, heads, isFree, nameUsed, pliRight, zeroesOf, formOf}
+use Rattle.annex.specs.Writing.{headWriting}
+use Rattle.annex.specs.declared.Answer.{Answer}
+use Rattle.annex.specs.declared.Answer.the-variants.{Refused}
 use Rattle.annex.specs.declared.Check.the-variants.{Nothing}
 use Rattle.annex.specs.declared.Marks.the-variants.{Unmarked}
 use Rattle.annex.specs.declared.Form.{Form}
 use Rattle.annex.specs.declared.Form.the-variants.{Checked, Digits}
-use Rattle.laws.specs.Bools.{T-true}
-use Rattle.heads.specs.declared.Layout.{Layout}
+use Rattle.laws.specs.Members.{among-every}
+use Rattle.laws.specs.Octet.{None}
+use Rattle.laws.specs.Steps.{head-right}
 use Rattle.heads.specs.declared.Asked.{Asked}
 
-abbrev asked : Bool → Bool → ℕ → Form → Asked
-asked u r z f = record { used = u; right = r; zeroes = z; form = f }
+abbrev asked : Bool → ℕ → Form → Asked
+asked r z f = record { right = r; zeroes = z; form = f }
 
 -- what the definitions ask of a header
 abbrev askedOf : ℕ → Asked
-askedOf h = asked (nameUsed h) (pliRight h) (zeroesOf h) (formOf h)
+askedOf h = asked (pliRight h) (zeroesOf h) (formOf h)
 
 -- the same thing by thing
 abbrev pub Asks : ℕ → Asked → Type 0
-Asks h r = (r .used ≡ nameUsed h) × (r .right ≡ pliRight h) × (r .zeroes ≡ zeroesOf h) × (r .form ≡ formOf h)
+Asks h r = (r .right ≡ pliRight h) × (r .zeroes ≡ zeroesOf h) × (r .form ≡ formOf h)
 
 -- ---- as the code looks it up
 
-abbrev laid : Bool → ℕ → Form → Layout
-laid b z f = record { 0 = b; 1 = z; 2 = f }
+-- by a row of the lists
+abbrev pub listedAsked : ℕ → Form → Asked
+listedAsked z f = asked true z f
 
-abbrev pub noLayout : Layout
-noLayout = laid false 0 (Checked Nothing)
+-- with no row
+abbrev pub unlistedAsked : ℕ → Asked
+unlistedAsked h = asked (isFree h) 0 (cond (eqb (pliOf h) 2 && not (isFree h)) (Digits Unmarked) (Checked Nothing))
 
--- the row of a header
-abbrev layoutIn : List Head → ℕ → Layout
-layoutIn [] h = noLayout
-layoutIn (r ∷ rs) h = cond (eqb h (r .header)) (laid true (r .zeroes) (r .form)) (layoutIn rs h)
+-- the rows behind the list under PLI 01, and those behind the list under PLI 10
+abbrev pub countedHeads : List Head
+countedHeads = drop 20 heads
 
-unfoldable pub layoutOf : ℕ → Layout
-layoutOf h = layoutIn heads h
+abbrev pub octetHeads : List Head
+octetHeads = drop 25 heads
 
--- a name in some list
-abbrev pub nameListed : ℕ → Bool
-nameListed x = (layoutOf (64 + x) .0 || layoutOf (128 + x) .0) || layoutOf (192 + x) .0
-
-abbrev pub unlistedForm : ℕ → Form
-unlistedForm pli = cond (eqb pli 2) (Digits Unmarked) (Checked Nothing)
-
--- a header by its row
-abbrev pub askedBy : Layout → ℕ → Asked
-askedBy l h =
-    cond (l .0) (asked true true (l .1) (l .2))
-    (cond (isFree h) (asked true true 0 (l .2))
-    (asked (nameListed (nameOf h)) false 0 (unlistedForm (pliOf h))))
+-- by the rows of some lists
+abbrev pub askedIn : List Head → ℕ → Asked
+askedIn [] h = unlistedAsked h
+askedIn (r ∷ rs) h = cond (eqb h (r .header)) (listedAsked (r .zeroes) (r .form)) (askedIn rs h)
 
 -- ---- functions of a number below n, compared as lists of their values
 
@@ -68,7 +66,7 @@ module _ {A : Type 0} (f g : ℕ → A) where
   at-last n h true e p r l = rw (eqb-true h n e) p
   at-last n h false e p r l = r (omega (arith, eqb-false h n e))
 
-  pub same-below : (n : ℕ) → map f (below n) ≡ map g (below n) → (h : ℕ) → h < n → f h ≡ g h
+  same-below : (n : ℕ) → map f (below n) ≡ map g (below n) → (h : ℕ) → h < n → f h ≡ g h
   same-below zero e h l = absurd (omega arith)
   same-below (suc n) e h l =
       let p : f n ≡ g n = cc in
@@ -77,26 +75,60 @@ module _ {A : Type 0} (f g : ℕ → A) where
 
 -- ---- the look-up asks what the definitions ask
 
-abbrev lookedUp : ℕ → Asked
-lookedUp h = askedBy (layoutOf h) h
+asked-same : (h : ℕ) → h < 256 → askedIn heads h ≡ askedOf h
+unfolding pliRight zeroesOf formOf
+asked-same h l = same-below (askedIn heads) askedOf 256 refl h l
 
-asked-same : (h : ℕ) → h < 256 → lookedUp h ≡ askedOf h
-unfolding layoutOf nameUsed pliRight zeroesOf formOf
-asked-same h l = same-below lookedUp askedOf 256 refl h l
+pub asks : (h : ℕ) → h < 256 → (r : Asked) → r ≡ askedIn heads h → Asks h r
+asks h l r e = let f = e ∙ asked-same h l in (rw f, rw f, rw f)
 
-pub asks : (h : ℕ) → h < 256 → (r : Asked) → r ≡ askedBy (layoutOf h) h → Asks h r
-asks h l r e = let f = e ∙ asked-same h l in (rw f, rw f, rw f, rw f)
+-- a name is used where some header of it is right
+abbrev rightUnder : ℕ → Bool
+rightUnder h = (pliRight (64 + nameOf h) || pliRight (128 + nameOf h)) || pliRight (192 + nameOf h)
 
--- ---- a header in no list
+pub used-under : (h : ℕ) → h < 256 → rightUnder h ≡ nameUsed h
+unfolding pliRight nameUsed
+used-under h l = same-below rightUnder nameUsed 256 refl h l
 
-by : (l m : Layout) (b : Bool) → (not (m .0) ≡ true → noLayout ≡ m) → l .0 ≡ true → not (cond b l m .0) ≡ true → noLayout ≡ cond b l m
-by l m true r t u = absurd (let z : _≡_ {A = ℕ} 0 1 = cc in omega arith)
-by l m false r t u = r u
+-- ---- rows passed over
 
-no-row : (rs : List Head) (h : ℕ) → not (layoutIn rs h .0) ≡ true → noLayout ≡ layoutIn rs h
-no-row [] h t = refl
-no-row (r ∷ rs) h t = by (laid true (r .zeroes) (r .form)) (layoutIn rs h) (eqb h (r .header)) (no-row rs h) refl t
+-- the headers of the first k rows as the arms of a match, the last arm first, before others
+abbrev armsOf : ℕ → List Head → List (List ℕ) → List (List ℕ)
+armsOf zero rs kss = kss
+armsOf (suc k) [] kss = kss
+armsOf (suc k) (r ∷ rs) kss = armsOf k rs ((r .header ∷ []) ∷ kss)
 
-pub no-layout : (h : ℕ) → T (not (layoutOf h .0)) → noLayout ≡ layoutOf h
-unfolding layoutOf
-no-layout h t = no-row heads h (T-true (not (layoutOf h .0)) t)
+none-before : (k : ℕ) (rs : List Head) (kss : List (List ℕ)) (h : ℕ) → None (armsOf k rs kss) h → None kss h
+none-before zero rs kss h n = n
+none-before (suc k) [] kss h n = n
+none-before (suc k) (r ∷ rs) kss h n = none-before k rs ((r .header ∷ []) ∷ kss) h n .0
+
+-- a header in none of these arms is asked by the rows behind
+pub passed-over : (k : ℕ) (rs : List Head) (kss : List (List ℕ)) (h : ℕ) → None (armsOf k rs kss) h → askedIn (drop k rs) h ≡ askedIn rs h
+passed-over zero rs kss h n = refl
+passed-over (suc k) [] kss h n = refl
+passed-over (suc k) (r ∷ rs) kss h n =
+    let l = (r .header ∷ []) ∷ kss in
+    rw (ne-eqb h (r .header) (none-before k rs l h n .1)) (passed-over k rs l h n)
+
+-- ---- what refuses a header
+
+right-used : (h : ℕ) → pliRight h ≡ true → nameUsed h ≡ true
+unfolding pliRight nameUsed
+right-used h = go (isFree h) refl
+  where
+    go : (b : Bool) → isFree h ≡ b → b || among h (map (λ (r : Head). r .header) heads) ≡ true → nameUsed h ≡ true
+    go true e r = rw e
+    go false e r = among-every nameUsed (map (λ (r : Head). r .header) heads) refl h r
+
+-- one that is right is not refused
+pub right-head : (p h : ℕ) (a : Answer) → pliRight h ≡ true → headWriting p h a ≡ a
+right-head p h a e = head-right p h a (right-used h e) e
+
+-- and any other is, by its name
+pub wrong-head : (p h : ℕ) (a : Answer) → pliRight h ≡ false → headWriting p h a ≡ Refused (cond (nameUsed h) other-pli unused-name) p
+wrong-head p h a e = rw e (go (nameUsed h))
+  where
+    go : (b : Bool) → refuse (not b) unused-name p (Refused other-pli p) ≡ Refused (cond b other-pli unused-name) p
+    go true = refl
+    go false = refl

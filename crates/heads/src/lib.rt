@@ -5,114 +5,106 @@ use annex::Form;
 use annex::Marks;
 use annex::Transfer;
 ghost use mathlib.Core.Path.{_≡_};
-ghost use Prim.Native.Nat.{_<_};
+ghost use mathlib.Core.Bool.{cond};
 ghost use Rattle.annex.specs.Promises.{Gives};
-ghost use Rattle.annex.specs.Units.{pliOf};
-ghost use Rattle.annex.specs.Heads.{among, name-count, freeNames, oftenOf, nameUsed, pliRight, zeroesOf, formOf};
+ghost use Rattle.annex.specs.Answers.{unused-name, other-pli};
+ghost use Rattle.annex.specs.Heads.{among, heads, freeNames, oftenOf, nameUsed, pliRight, zeroesOf, formOf};
 ghost use Rattle.annex.specs.Writing.{headWriting};
 ghost use Rattle.annex.specs.declared.Answer.the-variants.{Accepted};
-ghost use Rattle.heads.specs.Asked.{layoutOf, nameListed, unlistedForm};
-
-// A row of the lists: whether there is one, the bits of the first octet of the contents that must be 0, the form.
-struct Layout(bool, u8, Form);
+ghost use Rattle.heads.specs.Asked.{listedAsked, unlistedAsked, countedHeads, octetHeads, askedIn};
 
 // What is asked of a header and of the contents under it.
 pub struct Asked {
-    pub used: bool,
     pub right: bool,
     pub zeroes: u8,
     pub form: Form,
 }
 
-// The list under PLI 01.
-fn one_octet(header: u8) -> Layout
-    requires { ⌜ pliOf header ≡ 1 ⌝ }
-    ensures { λ r. ⌜ r ≡ layoutOf header ⌝ }
+// What a row of the lists asks: the bits of the first octet of the contents that must be 0, and the form.
+fn listed(zeroes: u8, form: Form) -> Asked
+    ensures { λ r. ⌜ r ≡ listedAsked zeroes form ⌝ }
+{
+    Asked {
+        right: true,
+        zeroes: zeroes,
+        form: form,
+    }
+}
+
+// The list under PLI 01. A header that is not in it goes on to the next list, and so on, so that the compiler makes one table of the
+// three.
+fn one_octet(header: u8) -> Asked
+    ensures { λ r. ⌜ r ≡ askedIn heads header ⌝ }
 {
     let carried = Form::Checked(Check::Nothing);
     match header {
-        Transfer::CHARGING_REQUEST => Layout(true, 0xFE, carried),
-        Transfer::RELEASE_EVENT => Layout(true, 0xF0, carried),
-        Transfer::CHARGING_RESEND => Layout(true, 0xFE, carried),
-        Transfer::CHANNEL_CHECK => Layout(true, 0xFE, carried),
-        Transfer::RECONTROL_OBJECT => Layout(true, 0xFE, carried),
-        Transfer::INITIAL_SETTING => Layout(true, 0xFC, carried),
-        Transfer::CALLING_USER_CLASS => Layout(true, 0x30, carried),
-        Transfer::HOST_OR_MATE => Layout(true, 0xFE, carried),
-        Transfer::NETWORK_FUNCTION => Layout(true, 0x00, carried),
-        Transfer::CHARGING_FORM => Layout(true, 0xF8, carried),
-        Transfer::REJECTED_CALL => Layout(true, 0x00, carried),
-        Transfer::FUNCTION_LEVEL => Layout(true, 0x80, carried),
-        Transfer::CHANNEL_REQUEST => Layout(true, 0x00, carried),
-        Transfer::ISUP_LINK => Layout(true, 0xFC, carried),
-        Transfer::ANNOUNCEMENTS => Layout(true, 0x00, carried),
-        Transfer::SECTION_MBI => Layout(true, 0x00, carried),
-        Transfer::CONNECTION_RESULT => Layout(true, 0x00, carried),
-        Transfer::ARE_RESULT => Layout(true, 0x00, carried),
-        Transfer::CHARGING_ORDER => Layout(true, 0x00, carried),
-        Transfer::ADJACENT_NETWORK => Layout(true, 0x00, carried),
-        _ => Layout(false, 0x00, carried),
+        Transfer::CHARGING_REQUEST => listed(0xFE, carried),
+        Transfer::RELEASE_EVENT => listed(0xF0, carried),
+        Transfer::CHARGING_RESEND => listed(0xFE, carried),
+        Transfer::CHANNEL_CHECK => listed(0xFE, carried),
+        Transfer::RECONTROL_OBJECT => listed(0xFE, carried),
+        Transfer::INITIAL_SETTING => listed(0xFC, carried),
+        Transfer::CALLING_USER_CLASS => listed(0x30, carried),
+        Transfer::HOST_OR_MATE => listed(0xFE, carried),
+        Transfer::NETWORK_FUNCTION => listed(0x00, carried),
+        Transfer::CHARGING_FORM => listed(0xF8, carried),
+        Transfer::REJECTED_CALL => listed(0x00, carried),
+        Transfer::FUNCTION_LEVEL => listed(0x80, carried),
+        Transfer::CHANNEL_REQUEST => listed(0x00, carried),
+        Transfer::ISUP_LINK => listed(0xFC, carried),
+        Transfer::ANNOUNCEMENTS => listed(0x00, carried),
+        Transfer::SECTION_MBI => listed(0x00, carried),
+        Transfer::CONNECTION_RESULT => listed(0x00, carried),
+        Transfer::ARE_RESULT => listed(0x00, carried),
+        Transfer::CHARGING_ORDER => listed(0x00, carried),
+        Transfer::ADJACENT_NETWORK => listed(0x00, carried),
+        _ => counted_digits(header),
     }
 }
 
 // The list under PLI 10.
-fn counted_digits(header: u8) -> Layout
-    requires { ⌜ pliOf header ≡ 2 ⌝ }
-    ensures { λ r. ⌜ r ≡ layoutOf header ⌝ }
+fn counted_digits(header: u8) -> Asked
+    ensures { λ r. ⌜ r ≡ askedIn countedHeads header ⌝ }
 {
     match header {
-        Transfer::ORIGINATING_AREA => Layout(true, 0x40, Form::Digits(Marks::Notified)),
-        Transfer::ORIGINATING_ID => Layout(true, 0x00, Form::Digits(Marks::Verified)),
-        Transfer::CALLED_TERMINAL => Layout(true, 0x40, Form::Digits(Marks::Notified)),
-        Transfer::DIALLED_DIGITS => Layout(true, 0x00, Form::Digits(Marks::Typed)),
-        Transfer::RECONTROL_DIGITS => Layout(true, 0xC0, Form::Digits(Marks::Unmarked)),
-        _ => Layout(false, 0x00, Form::Checked(Check::Nothing)),
+        Transfer::ORIGINATING_AREA => listed(0x40, Form::Digits(Marks::Notified)),
+        Transfer::ORIGINATING_ID => listed(0x00, Form::Digits(Marks::Verified)),
+        Transfer::CALLED_TERMINAL => listed(0x40, Form::Digits(Marks::Notified)),
+        Transfer::DIALLED_DIGITS => listed(0x00, Form::Digits(Marks::Typed)),
+        Transfer::RECONTROL_DIGITS => listed(0xC0, Form::Digits(Marks::Unmarked)),
+        _ => counted_octets(header),
     }
 }
 
 // The list under PLI 11.
-fn counted_octets(header: u8) -> Layout
-    requires { ⌜ pliOf header ≡ 3 ⌝ }
-    ensures { λ r. ⌜ r ≡ layoutOf header ⌝ }
+fn counted_octets(header: u8) -> Asked
+    ensures { λ r. ⌜ r ≡ askedIn octetHeads header ⌝ }
 {
     let carried = Form::Checked(Check::Nothing);
     match header {
-        Transfer::CARRIERS => Layout(true, 0x00, carried),
-        Transfer::CALLED_IN_NUMBER => Layout(true, 0x00, carried),
-        Transfer::TEST_CALL => Layout(true, 0x00, carried),
-        Transfer::FORWARD_CALL => Layout(true, 0x00, Form::Checked(Check::Two(0x08))),
-        Transfer::CALLED_USER_NUMBER => Layout(true, 0x00, carried),
-        Transfer::ADDED_USER_CLASS => Layout(true, 0x00, carried),
-        Transfer::CALLING_USER_NUMBER => Layout(true, 0x00, Form::Number),
-        Transfer::WITHHELD_REASON => Layout(true, 0x00, carried),
-        Transfer::GENERIC_NUMBER => Layout(true, 0x00, Form::Generic),
-        Transfer::SECOND_FUNCTION => Layout(true, 0x00, Form::Checked(Check::Two(0xFC))),
-        Transfer::CALLING_NUMBER => Layout(true, 0x00, Form::Calling),
-        Transfer::CONNECTION_ORDER => Layout(true, 0x00, carried),
-        Transfer::REJECTION_CONTROL => Layout(true, 0x00, carried),
-        Transfer::SIGNALLING_POINT => Layout(true, 0x00, carried),
-        Transfer::REASON => Layout(true, 0x00, carried),
-        Transfer::USER_SET_NUMBER => Layout(true, 0x00, carried),
-        Transfer::CALL_DURATION => Layout(true, 0x00, Form::Checked(Check::Long(4))),
-        Transfer::CHARGE_NOTICE => Layout(true, 0x00, carried),
-        Transfer::IP_NUMBER => Layout(true, 0x00, carried),
-        Transfer::CHARGING_INFORMATION => Layout(true, 0x00, carried),
-        Transfer::NSP_SETTING => Layout(true, 0x00, carried),
-        Transfer::ORIGINATING_REGION => Layout(true, 0x00, carried),
-        _ => Layout(false, 0x00, carried),
-    }
-}
-
-// The row of a header.
-fn layout_of(header: u8) -> Layout
-    ensures { λ r. ⌜ r ≡ layoutOf header ⌝ }
-{
-    let pli = header / 64;
-    match pli {
-        1 => one_octet(header),
-        2 => counted_digits(header),
-        3 => counted_octets(header),
-        _ => Layout(false, 0x00, Form::Checked(Check::Nothing)),
+        Transfer::CARRIERS => listed(0x00, carried),
+        Transfer::CALLED_IN_NUMBER => listed(0x00, carried),
+        Transfer::TEST_CALL => listed(0x00, carried),
+        Transfer::FORWARD_CALL => listed(0x00, Form::Checked(Check::Two(0x08))),
+        Transfer::CALLED_USER_NUMBER => listed(0x00, carried),
+        Transfer::ADDED_USER_CLASS => listed(0x00, carried),
+        Transfer::CALLING_USER_NUMBER => listed(0x00, Form::Number),
+        Transfer::WITHHELD_REASON => listed(0x00, carried),
+        Transfer::GENERIC_NUMBER => listed(0x00, Form::Generic),
+        Transfer::SECOND_FUNCTION => listed(0x00, Form::Checked(Check::Two(0xFC))),
+        Transfer::CALLING_NUMBER => listed(0x00, Form::Calling),
+        Transfer::CONNECTION_ORDER => listed(0x00, carried),
+        Transfer::REJECTION_CONTROL => listed(0x00, carried),
+        Transfer::SIGNALLING_POINT => listed(0x00, carried),
+        Transfer::REASON => listed(0x00, carried),
+        Transfer::USER_SET_NUMBER => listed(0x00, carried),
+        Transfer::CALL_DURATION => listed(0x00, Form::Checked(Check::Long(4))),
+        Transfer::CHARGE_NOTICE => listed(0x00, carried),
+        Transfer::IP_NUMBER => listed(0x00, carried),
+        Transfer::CHARGING_INFORMATION => listed(0x00, carried),
+        Transfer::NSP_SETTING => listed(0x00, carried),
+        Transfer::ORIGINATING_REGION => listed(0x00, carried),
+        _ => unlisted(header),
     }
 }
 
@@ -130,59 +122,53 @@ fn is_free(name: u8) -> bool
     }
 }
 
-// Whether a name is in a list, under any PLI.
-fn name_listed(name: u8) -> bool
-    requires { ⌜ name < name-count ⌝ }
-    ensures { λ r. ⌜ r ≡ nameListed name ⌝ }
+// A header in no list: right if its name has no layout; else digits under PLI 10.
+fn unlisted(header: u8) -> Asked
+    ensures { λ r. ⌜ r ≡ unlistedAsked header ⌝ }
 {
-    let one = one_octet(64 + name);
-    let digits = counted_digits(128 + name);
-    let octets = counted_octets(192 + name);
-    one.0 | digits.0 | octets.0
-}
-
-// The form under a header that is in no list.
-fn unlisted(pli: u8) -> Form
-    ensures { λ r. ⌜ r ≡ unlistedForm pli ⌝ }
-{
-    if pli == 2 {
-        Form::Digits(Marks::Unmarked)
-    } else {
-        Form::Checked(Check::Nothing)
-    }
-}
-
-// All that is asked of a header: whether its name is used, and under this PLI; which bits of the first octet of its contents must be 0;
-// their form.
-pub fn head_of(header: u8) -> Asked
-    ensures { λ r. ⌜ Gives (nameUsed header) (r .used) × Gives (pliRight header) (r .right) ×
-        Gives (zeroesOf header) (r .zeroes) × Gives (formOf header) (r .form) ⌝ }
-{
-    let row = layout_of(header);
-    let form = row.2;
-    if row.0 {
+    let free = is_free(header % 64);
+    let pli = header / 64;
+    if pli == 2 && !free {
         return Asked {
-            used: true,
-            right: true,
-            zeroes: row.1,
-            form: form,
-        };
-    }
-    if is_free(header % 64) {
-        return Asked {
-            used: true,
-            right: true,
+            right: false,
             zeroes: 0,
-            form: form,
+            form: Form::Digits(Marks::Unmarked),
         };
     }
-    let used = name_listed(header % 64);
-    let other = unlisted(header / 64);
     Asked {
-        used: used,
-        right: false,
+        right: free,
         zeroes: 0,
-        form: other,
+        form: Form::Checked(Check::Nothing),
+    }
+}
+
+// All that is asked of a header: whether its name is used under this PLI; which bits of the first octet of its contents must be 0; their
+// form.
+pub fn head_of(header: u8) -> Asked
+    ensures { λ r. ⌜ Gives (pliRight header) (r .right) × Gives (zeroesOf header) (r .zeroes) × Gives (formOf header) (r .form) ⌝ }
+{
+    one_octet(header)
+}
+
+// Whether the name of a header is used, under any PLI.
+fn name_used(header: u8) -> bool
+    ensures { λ r. ⌜ r ≡ nameUsed header ⌝ }
+{
+    let name = header % 64;
+    let one = head_of(64 + name);
+    let digits = head_of(128 + name);
+    let octets = head_of(192 + name);
+    one.right | digits.right | octets.right
+}
+
+// What refuses a header that is not right: 8 where its name is unused, else 9.
+pub fn head_number(header: u8) -> u8
+    ensures { λ r. ⌜ Gives (cond (nameUsed header) other-pli unused-name) r ⌝ }
+{
+    if name_used(header) {
+        Answer::OTHER_PLI
+    } else {
+        Answer::UNUSED_NAME
     }
 }
 
@@ -191,11 +177,8 @@ pub fn head_writing(header: u8) -> Answer
     ensures { λ r. ⌜ Gives (headWriting 0 header (Accepted 0)) r ⌝ }
 {
     let asked = head_of(header);
-    if !asked.used {
-        return Answer::Refused(Answer::UNUSED_NAME, 0);
-    }
     if !asked.right {
-        return Answer::Refused(Answer::OTHER_PLI, 0);
+        return Answer::Refused(head_number(header), 0);
     }
     Answer::Accepted(0)
 }

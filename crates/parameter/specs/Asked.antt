@@ -11,4 +11,4 @@ use Rattle.heads.specs.declared.Asked.{Asked}
 module _ (h : ℕ) (r : Asked) (e : Asks h r) where
   pub fault-of : (s : List ℕ) → formedThen (clear (r .zeroes) (getD s 0 0)) (faultBy (r .form) s) ≡ faultOf h s
   unfolding faultOf
-  fault-of s = rw (e .2, e .3)
+  fault-of s = rw (e .1, e .2)

@@ -132,7 +132,8 @@ fn form_fault(form: Form, s: &[u8]) -> Fault
     }
 }
 
-// The contents s: first the bits of their first octet that must be 0, then the form.
+// The contents s: first the bits of their first octet that must be 0, then the form. Of most contents no more is asked, which is seen
+// here; the others go to `form_fault` from two places, so that the compiler does not put its body in here.
 pub fn fault_under(zeroes: u8, form: Form, s: &[u8]) -> Fault
     ensures { λ r. ⌜ Gives (faultUnder zeroes form (now (s .entry))) r ⌝ }
 {
@@ -140,7 +141,13 @@ pub fn fault_under(zeroes: u8, form: Form, s: &[u8]) -> Fault
     if first & zeroes != 0 {
         return Fault::Bad(Answer::BAD_FORM, 0);
     }
-    form_fault(form, s)
+    let Form::Checked(check) = form else {
+        return form_fault(form, s);
+    };
+    let Check::Nothing = check else {
+        return form_fault(form, s);
+    };
+    Fault::Sound
 }
 
 // What is wrong with the contents s under a header, any at all.

@@ -3,6 +3,7 @@ use crate::contents::at_header;
 use crate::contents::fault_under;
 use annex::Answer;
 use heads::Asked;
+use heads::head_number;
 use heads::head_of;
 use heads::often_of;
 use octets::octet_at;
@@ -20,11 +21,8 @@ fn judged(asked: Asked, times: u8, header: u8, xs: &[u8]) -> Answer
     requires { ⌜ Asks header asked ⌝ }
     ensures { λ r. ⌜ r ≡ transferOf times header (now (xs .entry)) ⌝ }
 {
-    if !asked.used {
-        return Answer::Refused(Answer::UNUSED_NAME, 0);
-    }
     if !asked.right {
-        return Answer::Refused(Answer::OTHER_PLI, 0);
+        return Answer::Refused(head_number(header), 0);
     }
     let most = often_of(header % 64);
     if most <= times {

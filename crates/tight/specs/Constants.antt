@@ -6,12 +6,12 @@
 use Prim.Native.Nat.{ℕ, _+_, min}
 use native.Mathlib.Omega.{arith}
 use mathlib.Core.Path.{_≡_, refl, sym, ap, _∙_}
-use mathlib.Core.Bool.{Bool, true, false, not, _&&_}
+use mathlib.Core.Bool.{Bool, true, false, cond, not, _&&_}
 use mathlib.Core.List.{List, [], _∷_, _++_}
 use borrow.Author.Tests.{eq-eqb, not-true}
 use lib.Dec.{eqb, leb}
 use lib.ListN.{length, getD, take, drop, replicate}
-use Rattle.annex.specs.Answers.{numberOf, givenOf, faultNumberOf, stopOf, soundThen, headerAt}
+use Rattle.annex.specs.Answers.{numberOf, givenOf, faultNumberOf, stopOf, soundThen, headerAt, unused-name, other-pli}
 use Rattle.annex.specs.Units.{countedBy, octetsOf, halvesIn, afterOf, leadOf, commonExtentOf, extentOf}
 use Rattle.annex.specs.Heads.{among, listedHeaders, isCall, most-values, nameUsed, pliRight, oftenOf, zeroesOf, formOf}
 use Rattle.annex.specs.Digits.{halves, joined, digitOf, codeOf, isCode, isDigit, halvesFault, digitsFault, digitsOf, packed, halvesFor}
@@ -210,7 +210,7 @@ rows =
     counts (afterOf (Counted HalfOctet) 4) (afterOf (Counted Octet) 4) ∷  -- octets_after
     counts (leadOf (Counted HalfOctet)) (leadOf (Counted Octet)) ∷  -- lead
     answers (headWriting 0 0x90 (Accepted 0)) (headWriting 0 0xD0 (Accepted 0)) ∷  -- head_writing
-    tests (nameUsed 0x41) (nameUsed 0x08) ∷  -- head_of, used
+    counts (cond (nameUsed 0x81) other-pli unused-name) (cond (nameUsed 0x08) other-pli unused-name) ∷  -- head_number
     tests (pliRight 0x41) (pliRight 0x81) ∷  -- head_of, right
     counts (zeroesOf 0x41) (zeroesOf 0x42) ∷  -- head_of, zeroes
     gives Form formNumber (formOf 0x41) (formOf 0x90) ∷  -- head_of, form

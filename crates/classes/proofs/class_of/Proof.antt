@@ -9,7 +9,7 @@ use Rattle.classes.proofs.class_of.Tie as tie
 
 -- the bits of the look-up
 zeroes : (c : tie.After-head-of) → c .head-of .result .zeroes ≡ zeroesOf (c .before .before .before .before .args .header)
-zeroes c = c .head-of .ensures .2
+zeroes c = c .head-of .ensures .1
 
 returns : tie.Need-returns
 returns c =

@@ -1,22 +1,19 @@
--- `head_writing` meets its contract: the look-up's two tests are those of the definition, in their order.
+-- `head_writing` meets its contract: a header that is right is not refused, and any other is by its name.
+use mathlib.Core.Path.{sym, _∙_}
 use borrow.Author.Needs.{needs}
+use borrow.Author.Tests.{not-true, not-false}
+use Rattle.heads.specs.Asked.{right-head, wrong-head}
 use Rattle.heads.proofs.head_writing.Statement.{statement}
 use Rattle.heads.proofs.head_writing.Tie as tie
 
 returns : tie.Need-returns
-returns c = rw (← c .before .before .head-of .ensures .0, c .if1 .taken)
+returns c =
+    let t = c .before in
+    rw (c .head-number .ensures)
+    (sym (wrong-head 0 _ _ (sym (t .before .before .head-of .ensures .0) ∙ not-true _ (t .if1 .taken))))
 
 returns-2 : tie.Need-returns-2
-returns-2 c =
-    let u = c .before .before in
-    let a = u .before .before .head-of .ensures in
-    rw (← a .0, u .if1 .left, ← a .1, c .if2 .taken)
-
-returns-3 : tie.Need-returns-3
-returns-3 c =
-    let u = c .before .before in
-    let a = u .before .before .head-of .ensures in
-    rw (← a .0, u .if1 .left, ← a .1, c .if2 .left)
+returns-2 c = sym (right-head 0 _ _ (sym (c .before .before .head-of .ensures .0) ∙ not-false _ (c .if1 .left)))
 
 pub head-writing-spec : {M : Type 1} → statement M
-head-writing-spec = tie.close (tie.spec (λ c κs. search needs) returns returns-2 returns-3)
+head-writing-spec = tie.close (tie.spec (λ c κs. search needs) (λ c κs. search needs) returns returns-2)
