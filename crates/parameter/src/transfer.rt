@@ -7,9 +7,7 @@ use heads::head_number;
 use heads::head_of;
 use heads::often_of;
 use octets::octet_at;
-use units::extent_of;
-use units::lead;
-use units::octets_after;
+use units::after_header;
 ghost use mathlib.Core.Path.{_≡_};
 ghost use Rattle.annex.specs.Promises.{Gives};
 ghost use Rattle.annex.specs.Reading.{transferOf};
@@ -28,12 +26,12 @@ fn judged(asked: Asked, times: u8, header: u8, xs: &[u8]) -> Answer
     if most <= times {
         return Answer::Refused(Answer::REPEATED_NAME, 0);
     }
-    let e = extent_of(header);
-    let n = octets_after(e, octet_at(xs, 0));
+    let after = after_header(header, octet_at(xs, 0));
+    let n = after.octets;
     if xs.len() < n {
         return Answer::Refused(Answer::CUT_CONTENTS, 0);
     }
-    let start = lead(e);
+    let start = after.lead;
     let form = asked.form;
     let f = fault_under(asked.zeroes, form, &xs[start..n]);
     at_header(f, n)

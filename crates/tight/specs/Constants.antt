@@ -209,6 +209,8 @@ rows =
     extents (commonExtentOf 0x01) (commonExtentOf 0x83) ∷  -- common_extent_of
     counts (afterOf (Counted HalfOctet) 4) (afterOf (Counted Octet) 4) ∷  -- octets_after
     counts (leadOf (Counted HalfOctet)) (leadOf (Counted Octet)) ∷  -- lead
+    counts (afterOf (extentOf 0x90) 4) (afterOf (extentOf 0xCC) 4) ∷  -- after_header, octets
+    counts (leadOf (extentOf 0x90)) (leadOf (extentOf 0xCC)) ∷  -- after_header, lead
     answers (headWriting 0 0x90 (Accepted 0)) (headWriting 0 0xD0 (Accepted 0)) ∷  -- head_writing
     counts (cond (nameUsed 0x81) other-pli unused-name) (cond (nameUsed 0x08) other-pli unused-name) ∷  -- head_number
     tests (pliRight 0x41) (pliRight 0x81) ∷  -- head_of, right

@@ -75,3 +75,32 @@ pub fn lead(e: Extent) -> usize
         },
     }
 }
+
+// What follows a transfer header: how many octets, and how many of them stand before the contents.
+pub struct After {
+    pub octets: usize,
+    pub lead: usize,
+}
+
+// Both by one look at the PLI; next is the octet right after the header, or 0.
+pub fn after_header(header: u8, next: u8) -> After
+    ensures { λ r. ⌜ Gives (afterOf (extentOf header) next) (r .octets) × Gives (leadOf (extentOf header)) (r .lead) ⌝ }
+{
+    let pli = header / 64;
+    match pli {
+        0 => After { octets: 0, lead: 0 },
+        1 => After { octets: 1, lead: 0 },
+        2 => {
+            let count = HalfOctets::counted_by(next);
+            let own = count.octets();
+            After {
+                octets: 1 + own.0,
+                lead: 0,
+            }
+        }
+        _ => After {
+            octets: 1 + next as usize,
+            lead: 1,
+        },
+    }
+}

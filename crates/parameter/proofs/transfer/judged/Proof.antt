@@ -37,9 +37,9 @@ returns-2 c =
     sym (right-head 0 _ _ (right (o .before)) ∙ rw (← o .often-of .ensures, le-leb _ _ (c .if2 .taken)))
 
 -- past 10: the length and the contents decide
-past-10 : (c : tie.After-octets-after) →
-    let a = c .before .before .before .before .before .before .before .before .args in
-    let n = c .octets-after .result in
+past-10 : (c : tie.After-after-header) →
+    let a = c .before .before .before .before .before .before .before .args in
+    let n = c .after-header .result .octets in
     let xs = a .xs .now in
     transferOf (a .times) (a .header) xs
     ≡ refuse (ltb (length xs) n) cut-contents 0
@@ -47,36 +47,31 @@ past-10 : (c : tie.After-octets-after) →
     (Accepted n))
 unfolding transferBy
 past-10 c =
-    let x = c .before .before in
+    let x = c .before in
     let o = x .before .before in
     right-head 0 _ _ (right (o .before))
-    ∙ rw (
-      ← o .often-of .ensures,
-      lt-leb _ _ (x .before .if2 .left),
-      ← x .extent-of .ensures,
-      ← c .before .octet-at .ensures,
-      ← c .octets-after .ensures,
-    )
+    ∙ rw (← o .often-of .ensures, lt-leb _ _ (x .before .if2 .left), ← x .octet-at .ensures, ← c .after-header .ensures .0)
 
 returns-3 : tie.Need-returns-3
 returns-3 c = rw (past-10 (c .before), lt-ltb _ _ (c .if3 .taken))
 
 sub-fault-under : tie.Need-sub-fault-under
 sub-fault-under c =
-    rw (c .lead .ensures, c .before .before .octets-after .ensures) (lead-within _ _)
+    let h = c .before .after-header .ensures in
+    rw (h .1, h .0) (lead-within _ _)
 
 -- past 11: the part handed on is the contents
 returns-4 : tie.Need-returns-4
 returns-4 c =
     let f = c .before in
     let l = f .before .before in
-    let n = l .before .before in
-    let st = n .before .before .before .before .before .before .before .before in
+    let n = l .before in
+    let h = n .after-header in
+    let st = n .before .before .before .before .before .before .before in
     let a = st .args in
-    let s = take (n .octets-after .result - l .lead .result) (drop (l .lead .result) (a .xs .now)) in
+    let s = take (h .result .octets - h .result .lead) (drop (h .result .lead) (a .xs .now)) in
     let e = f .fault-under .ensures ∙ fault-of (a .header) (a .asked) (st .pre) s in
-    rw (past-10 n, le-ltb _ _ (l .before .if3 .left), ← n .before .before .extent-of .ensures, ← l .lead .ensures, ← from-to, ← e)
-    (c .at-header .ensures)
+    rw (past-10 n, le-ltb _ _ (l .if3 .left), ← h .ensures .1, ← from-to, ← e) (c .at-header .ensures)
 
 pub judged-spec : {M : Type 1} → statement M
 judged-spec =
@@ -88,9 +83,7 @@ judged-spec =
     returns-2
     (λ c κs. search needs)
     (λ c κs. search needs)
-    (λ c κs. search needs)
     returns-3
-    (λ c κs. search needs)
     sub-fault-under
     sub-fault-under
     (λ c. search needs)
