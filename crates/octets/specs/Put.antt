@@ -3,8 +3,8 @@ use mathlib.Core.Path.{_≡_, refl, sym, ap, _∙_}
 use mathlib.Core.List.{List, _++_, append-assoc}
 use Prim.Native.Nat.{ℕ, _+_, _-_, _≤_, _<_}
 use native.Mathlib.Omega.{arith}
-use lib.ListN.{length, take, drop, getD, length-append, length-take, length-drop}
-use lib.Seq.{getD-take, getD-drop, take-at, drop-at, length-take-le}
+use lib.ListN.{length, take, drop, getD, length-append, length-take, length-drop, take-append-drop}
+use lib.Seq.{getD-take, getD-drop, take-at, drop-at, drop-drop, length-take-le}
 use Rattle.annex.specs.Memory.{put}
 
 -- the k octets of d from index from on
@@ -20,6 +20,12 @@ length-part d from k h = simp (length-take, length-drop) (omega arith)
 pub getD-part : (d : List ℕ) (from k i : ℕ) → i < k → getD (part d from k) i 0 ≡ getD d (from + i) 0
 unfolding part
 getD-part d from k i h = rw (getD-take, getD-drop)
+
+-- written where it stands it changes nothing
+pub put-part : (d : List ℕ) (at k : ℕ) → at + k ≤ length d → put d at (part d at k) ≡ d
+unfolding put part
+put-part d at k h =
+    rw (length-part d at k h, ← drop-drop k at d, take-append-drop k (drop at d)) (take-append-drop at d)
 
 -- ---- octets that s was written over, where it fits
 

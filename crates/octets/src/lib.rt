@@ -92,12 +92,15 @@ fn move_up(d: &mut [u8], from: usize, to: usize, k: usize)
     }
 }
 
-// Moves k octets in the direction that loses nothing.
+// Moves k octets in the direction that loses nothing, or not at all.
 fn move_fitting(d: &mut [u8], from: usize, to: usize, k: usize)
     requires { ⌜ (from + k ≤ length (now d)) × (to + k ≤ length (now d)) ⌝ }
     ensures { λ _. ⌜ now (d .exit) ≡ put (now (d .entry)) to (part (now (d .entry)) from k) ⌝ }
 {
-    if to <= from {
+    if to == from {
+        return;
+    }
+    if to < from {
         move_down(d, from, to, k);
     } else {
         move_up(d, from, to, k);

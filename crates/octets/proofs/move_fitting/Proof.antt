@@ -1,8 +1,15 @@
--- `move_fitting` meets its contract: each direction is taken where it loses nothing.
+-- `move_fitting` meets its contract: octets that stay are as they were, and each direction is taken where it loses nothing.
+use mathlib.Core.Path.{sym}
 use native.Mathlib.Omega.{arith}
 use borrow.Author.Needs.{needs}
+use Rattle.octets.specs.Put.{put-part}
 use Rattle.octets.proofs.move_fitting.Statement.{statement}
 use Rattle.octets.proofs.move_fitting.Tie as tie
+
+returns : tie.Need-returns
+returns c =
+    let s = c .before .before in
+    rw (c .if1 .taken) (sym (put-part (s .args .d .now) (s .args .from) (s .args .k) (s .pre .0)))
 
 move-down-requires : tie.Need-move-down-requires
 move-down-requires c κs = (omega arith, omega arith)
@@ -10,17 +17,14 @@ move-down-requires c κs = (omega arith, omega arith)
 move-up-requires : tie.Need-move-up-requires
 move-up-requires c κs = (omega arith, omega arith)
 
-same-length : tie.Need-same-length
-same-length c = search needs
-
-returns : tie.Need-returns
-returns c = search needs
-
-same-length-2 : tie.Need-same-length-2
-same-length-2 c = search needs
-
-returns-2 : tie.Need-returns-2
-returns-2 c = search needs
-
 pub move-fitting-spec : {M : Type 1} → statement M
-move-fitting-spec = tie.close (tie.spec move-down-requires move-up-requires same-length returns same-length-2 returns-2)
+move-fitting-spec =
+    tie.close
+    (tie.spec
+    returns
+    move-down-requires
+    move-up-requires
+    (λ c. search needs)
+    (λ c. search needs)
+    (λ c. search needs)
+    (λ c. search needs))
