@@ -4,16 +4,19 @@ use native.Mathlib.Omega.{arith}
 use mathlib.Core.Path.{_≡_, refl, sym, _∙_}
 use mathlib.Core.Bool.{Bool, true, false}
 use mathlib.Core.List.{List, [], _∷_}
-use borrow.Author.Tests.{ltb-false}
+use borrow.Author.Tests.{le-ltb, ltb-false}
 use lib.Dec.{ltb}
 use lib.ListN.{length, length-append}
 use lib.Seq.{sets, length-sets}
+use Rattle.annex.specs.Answers.{andThen}
+use Rattle.annex.specs.Heads.{most-rows}
 use Rattle.annex.specs.Reading.{verdictOf}
 use Rattle.annex.specs.Spans.{rowsOf, spansOf, spansBy}
 use Rattle.annex.specs.Packed.{row-octets, rowOctets, rowsOctets, octetSpans, octetTable}
 use Rattle.annex.specs.declared.Answer.{Answer}
 use Rattle.annex.specs.declared.Answer.the-variants.{Accepted, Refused}
 use Rattle.annex.specs.declared.Row.{Row}
+use Rattle.laws.specs.Few.{rows-few}
 use Rattle.laws.specs.Filling.{sets-append}
 use Rattle.laws.specs.Fronts.{front-all}
 use Rattle.laws.specs.Listed.{spansAfter}
@@ -32,6 +35,10 @@ length-rows (r ∷ rs) = omega (arith, length-append (rowOctets r) (rowsOctets r
 pub record Puts (rows : List Row) (at : ℕ) (before : List ℕ) (r : ℕ) (after : List ℕ) : Type 0 where
   pub ends : r ≡ at + length (rowsOctets rows)
   pub put : after ≡ sets before at (rowsOctets rows)
+
+-- where they end tells how many they are
+pub put-count : (rows : List Row) (before : List ℕ) (r : ℕ) (after : List ℕ) → Puts rows 0 before r after → r / row-octets ≡ length rows
+put-count rows before r after p = omega (arith, p .ends, length-rows rows)
 
 -- of the rows `all`, to be stored in `before` from `first` on, `rows` are left, to be stored in `now` from `at` on
 pub record Left (all : List Row) (first : ℕ) (before : List ℕ) (rows : List Row) (at : ℕ) (now : List ℕ) : Type 0 where
@@ -66,6 +73,25 @@ module _ {all : List Row} {first : ℕ} {before : List ℕ} where
       omega (arith, l .ends, l .long, length-rows (x ∷ rows))
 
 -- ---- what the listing answers
+
+-- the count of rows after an answer that is no refusal
+abbrev pub countAfter : Answer → List ℕ → Answer
+countAfter a m = andThen a (λ _. Accepted (length (rowsOf m)))
+
+-- by the room asked for
+pub count-checked : (m : List ℕ) (room : ℕ) → spansOf m room ≡ countAfter (spansOf m room) m
+unfolding spansBy
+count-checked m room = go (verdictOf m) (ltb room (length (rowsOf m)))
+  where
+    go : (a : Answer) (b : Bool) → spansAfter a b m ≡ countAfter (spansAfter a b m) m
+    go (Accepted q) true = refl
+    go (Accepted q) false = refl
+    go (Refused k p) b = refl
+
+-- by the verdict alone, where there is room for the most rows
+pub count-roomy : (m : List ℕ) (octets : ℕ) → most-rows * row-octets ≤ octets → octetSpans m octets ≡ countAfter (verdictOf m) m
+unfolding spansBy
+count-roomy m octets h = rw (le-ltb (octets / row-octets) (length (rowsOf m)) (omega (arith, rows-few m)))
 
 -- an accepted listing: the message is accepted, and there is room for its rows
 pub record Listing (m : List ℕ) (room n : ℕ) : Type 0 where

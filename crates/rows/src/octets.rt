@@ -1,7 +1,9 @@
 // The table of rows as octets, for callers that lend no structs.
 use annex::Answer;
+use annex::Message;
 use annex::Row;
 use reader::rows::check;
+use reader::verdict::verdict;
 use walk::cursor::first;
 use walk::cursor::next;
 use walk::cursor::row_here;
@@ -9,11 +11,11 @@ ghost use mathlib.Core.Path.{_≡_};
 ghost use Prim.Native.Nat.{_+_, _≤_};
 ghost use lib.ListN.{length};
 ghost use lib.Seq.{sets};
-ghost use Rattle.annex.specs.Packed.{rowOctets, rowsOctets, row-octets};
+ghost use Rattle.annex.specs.Packed.{rowOctets, rowsOctets, row-octets, octetSpans};
 ghost use Rattle.annex.specs.Promises.{OctetSpansPromise};
 ghost use Rattle.annex.specs.Spans.{rowsOf};
 ghost use Rattle.laws.specs.Rows.{Accepts};
-ghost use Rattle.rows.specs.Tables.{Puts};
+ghost use Rattle.rows.specs.Tables.{Puts, countAfter};
 
 // Writes a row from `at` on: offset, header, length of the contents; the two numbers in two octets each, least first.
 fn put_row(row: Row, at: usize, table: &mut [u8])
@@ -44,14 +46,25 @@ fn put_rows(m: &[u8], table: &mut [u8]) -> usize
     place
 }
 
+// What refuses a listing into a table of so many octets; else accepted. One with room for the most rows that a message has is not too
+// short for any, so that only for a shorter one are they counted beforehand.
+fn refusal(m: &[u8], octets: usize) -> Answer
+    ensures { λ r. ⌜ octetSpans (now (m .entry)) octets ≡ countAfter r (now (m .entry)) ⌝ }
+{
+    if octets < Message::MOST_ROWS * Row::OCTETS {
+        return check(m, octets / Row::OCTETS);
+    }
+    verdict(m)
+}
+
 // The rows of a message, five octets each, from the table's front on. Octets past the last stay, and a refusal leaves all.
 pub fn octet_spans(m: &[u8], table: &mut [u8]) -> Answer
     ensures { λ r. ⌜ OctetSpansPromise (now (m .entry)) (now (table .entry)) r (now (table .exit)) ⌝ }
 {
-    let a = check(m, table.len() / Row::OCTETS);
+    let a = refusal(m, table.len());
     let Answer::Accepted(_) = a else {
         return a;
     };
-    put_rows(m, table);
-    a
+    let end = put_rows(m, table);
+    Answer::Accepted(end / Row::OCTETS)
 }
