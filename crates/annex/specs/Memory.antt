@@ -40,6 +40,10 @@ abbrev pub spliceFits : List ℕ → ℕ → ℕ → ℕ → List ℕ → Bool
 spliceFits d n from old new =
     leb (from + old) n && (leb n (length d) && leb (n - old + length new) (length d))
 
+-- whether n values, no more than a record holds, fit in room for so many after the `used` ones
+abbrev pub valuesFit : ℕ → ℕ → ℕ → Bool
+valuesFit room used n = leb n most-values && leb (used + n) room
+
 -- ---- what a function that stores is asked for: whether the request fits, lent memory with it stored, and as it was
 
 pub record Request : Type 0 where
@@ -63,7 +67,7 @@ packing z ds room = request (leb (length (packed z ds)) (length room)) (atFront 
 
 abbrev pub unpacking : Alphabet → List ℕ → HalfOctets → List ℕ → ℕ → Request
 unpacking z octets n values used =
-    request (leb (used + length (digitsOf z n octets)) most-values) (sets values used (digitsOf z n octets)) values
+    request (valuesFit (length values) used (length (digitsOf z n octets))) (sets values used (digitsOf z n octets)) values
 
 -- layout::put
 abbrev pub laying : Transfer → List ℕ → List ℕ → Request

@@ -1,5 +1,4 @@
-// Digits packed into octets, and out of them into a record's array of values. Where they do not fit, nothing is written and the answer
-// is false.
+// Digits packed into octets, and out of them into lent room for values. Where they do not fit, nothing is written and the answer is false.
 use annex::Alphabet;
 use annex::HalfOctets;
 use annex::Octets;
@@ -8,15 +7,13 @@ use codes::code_of;
 use codes::digit_of;
 ghost use mathlib.Core.Path.{_≡_};
 ghost use Prim.Native.Nat.{_+_, _≤_, min};
-ghost use lib.Dec.{leb};
 ghost use lib.ListN.{length};
 ghost use lib.Seq.{sets};
-ghost use Rattle.annex.specs.Heads.{most-values};
 ghost use Rattle.annex.specs.Promises.{Gives, Keeps};
 ghost use Rattle.annex.specs.Units.{octetsOf, halvesIn};
 ghost use Rattle.annex.specs.Digits.{isDigit, digitsOf, packed, halvesFor};
 ghost use Rattle.annex.specs.Allowed.{every};
-ghost use Rattle.annex.specs.Memory.{atFront, packing, unpacking};
+ghost use Rattle.annex.specs.Memory.{atFront, packing, unpacking, valuesFit};
 
 // Whether each value is a digit. No turn leaves early, so that the compiler can take many at once.
 pub fn are_digits(values: &[u8]) -> bool
@@ -47,14 +44,17 @@ pub fn digits_in(n: HalfOctets, octets: &[u8]) -> HalfOctets
     if n.0 < most.0 { n } else { most }
 }
 
-// Whether so many more values fit after the used ones.
-pub fn has_room(used: usize, count: usize) -> bool
-    ensures { λ r. ⌜ Gives (leb (used + count) most-values) r ⌝ }
+// Whether so many values, no more than a record holds, fit in the room after the used ones.
+pub fn has_room(room: usize, used: usize, count: usize) -> bool
+    ensures { λ r. ⌜ Gives (valuesFit room used count) r ⌝ }
 {
-    if Transfer::MOST_VALUES < used {
+    if Transfer::MOST_VALUES < count {
         return false;
     }
-    if Transfer::MOST_VALUES - used < count {
+    if room < used {
+        return false;
+    }
+    if room - used < count {
         return false;
     }
     true
@@ -96,14 +96,8 @@ pub fn pack_digits(z: Alphabet, digits: &[u8], room: &mut [u8]) -> bool
 }
 
 // Stores the first `count` digits of `octets` in `values` from `used` on, the two of an octet together.
-fn unpack_fitting(
-    z: Alphabet,
-    octets: &[u8],
-    count: HalfOctets,
-    values: &mut [u8; Transfer::MOST_VALUES],
-    used: usize,
-)
-    requires { ⌜ (used + count .0 ≤ most-values) × (count .0 ≤ halvesIn (now octets) .0) ⌝ }
+fn unpack_fitting(z: Alphabet, octets: &[u8], count: HalfOctets, values: &mut [u8], used: usize)
+    requires { ⌜ (used + count .0 ≤ length (now values)) × (count .0 ≤ halvesIn (now octets) .0) ⌝ }
     ensures { λ r. ⌜ now (values .exit) ≡ sets (now (values .entry)) used (digitsOf z count (now (octets .entry))) ⌝ }
 {
     let pairs = count.0 / 2;
@@ -126,13 +120,13 @@ pub fn unpack_digits(
     z: Alphabet,
     octets: &[u8],
     n: HalfOctets,
-    values: &mut [u8; Transfer::MOST_VALUES],
+    values: &mut [u8],
     used: usize,
 ) -> bool
     ensures { λ r. ⌜ Keeps (unpacking z (now (octets .entry)) n (now (values .entry)) used) r (now (values .exit)) ⌝ }
 {
     let count = digits_in(n, octets);
-    if !has_room(used, count.0) {
+    if !has_room(values.len(), used, count.0) {
         return false;
     }
     unpack_fitting(z, octets, count, values, used);

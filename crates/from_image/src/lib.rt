@@ -7,8 +7,9 @@ use annex::Transfer;
 use parameter::opening::open_contents;
 use reader::reading::empty;
 ghost use mathlib.Core.Path.{_≡_};
-ghost use Prim.Native.Nat.{_≤_};
+ghost use Prim.Native.Nat.{_+_, _≤_};
 ghost use lib.ListN.{length};
+ghost use lib.Seq.{sets};
 ghost use Rattle.annex.specs.Heads.{most-transfers, most-values};
 ghost use Rattle.annex.specs.Image.{headFront, itemsFront, commonFront, partsFront, noImage, imagedBy, common-head, transfer-head};
 ghost use Rattle.annex.specs.Promises.{FromImagePromise};
@@ -93,6 +94,14 @@ fn takes(s: &[u8], k: usize, used: usize) -> bool
     true
 }
 
+// Stores values in the struct's array behind the used ones.
+fn hold_values(header: u8, s: &[u8], values: &mut [u8; Transfer::MOST_VALUES], used: usize)
+    requires { ⌜ used + length (now s) ≤ most-values ⌝ }
+    ensures { λ _. ⌜ now (values .exit) ≡ sets (now (values .entry)) used (now (s .entry)) ⌝ }
+{
+    open_contents(header, s, values, used);
+}
+
 // So many transfer parameters at the front, put into the struct behind those that it has.
 fn with_transfers(begun: Record, s: &[u8], count: usize, transfers: usize, taken: usize) -> Filled
     requires { ⌜ (transfers ≤ most-transfers) × (taken ≤ most-values) ⌝ }
@@ -110,7 +119,7 @@ fn with_transfers(begun: Record, s: &[u8], count: usize, transfers: usize, taken
         let t = transfer_head(&s[i..]);
         let from = i + Imaged::TRANSFER_HEAD;
         let to = from + t.len as usize;
-        open_contents(t.header, &s[from..to], &mut q.values, used);
+        hold_values(t.header, &s[from..to], &mut q.values, used);
         q.transfer[k] = t;
         k += 1;
         used += t.len as usize;

@@ -1,11 +1,17 @@
--- Laws of a run of stores into an array.
-use Prim.Native.Nat.{ℕ, suc, _+_, _<_}
+-- Laws of a run of stores into an array, and of whether values fit there.
+use Prim.Native.Nat.{ℕ, suc, _+_, _≤_, _<_}
 use native.Mathlib.Omega.{arith}
 use native.Mathlib.Nat.{add-zero}
 use mathlib.Core.Path.{_≡_}
+use mathlib.Core.Bool.{true}
 use mathlib.Core.List.{List, [], _∷_, _++_}
+use borrow.Author.Tests.{leb-true, le-leb}
+use lib.Dec.{leb}
 use lib.ListN.{length, getD, take, set}
 use lib.Seq.{sets, take-suc, length-take-le}
+use Rattle.annex.specs.Heads.{most-values}
+use Rattle.annex.specs.Memory.{valuesFit}
+use Rattle.laws.specs.Bools.{and-left, and-right}
 
 module _ {A : Type 0} where
   -- one more store at the end of the run
@@ -22,3 +28,19 @@ module _ {A : Type 0} where
       let e : j + 1 ≡ suc j = omega arith in
       let k : length (take j vs) ≡ j = length-take-le j vs (omega arith) in
       rw (e, take-suc vs j d h, sets-snoc l i (take j vs) (getD vs j d), k)
+
+-- ---- values that fit after the used ones
+
+pub record Fits (room used n : ℕ) : Type 0 where
+  pub few : n ≤ most-values
+  pub within : used + n ≤ room
+
+module _ (room used n : ℕ) where
+  pub told-fits : valuesFit room used n ≡ true → Fits room used n
+  told-fits e =
+      let a = leb n most-values in
+      let b = leb (used + n) room in
+      record { few = leb-true n most-values (and-left a b e); within = leb-true (used + n) room (and-right a b e) }
+
+  pub fits-told : Fits room used n → valuesFit room used n ≡ true
+  fits-told f = rw (le-leb n most-values (f .few), le-leb (used + n) room (f .within))

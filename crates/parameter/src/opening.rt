@@ -1,4 +1,4 @@
-// Opening a transfer parameter: its contents become a head, and values stored in a record's array of values.
+// Opening a transfer parameter: its contents become a head, and values stored in lent room.
 use crate::counting::count_of;
 use annex::Alphabet;
 use annex::Form;
@@ -16,23 +16,13 @@ use octets::octets_from;
 ghost use mathlib.Core.Path.{_≡_};
 ghost use mathlib.Core.Bool.{false};
 ghost use mathlib.Core.List.{List};
-ghost use Prim.Native.Nat.{ℕ, _+_, _≤_};
+ghost use Prim.Native.Nat.{ℕ};
 ghost use lib.ListN.{length};
-ghost use lib.Seq.{sets};
-ghost use Rattle.annex.specs.Heads.{most-values};
 ghost use Rattle.annex.specs.Promises.{Gives};
 ghost use Rattle.annex.specs.Items.{holdingOf, openBy, openMarks};
 ghost use Rattle.annex.specs.declared.Holding.the-variants.{AsContents, AsDigits, AsNumber, AsGeneric};
 ghost use Rattle.annex.specs.Records.{headOf};
 ghost use Rattle.annex.specs.Opening.{headFor, valuesWith, openedHead, openedValues};
-
-// Stores the octets of `s` in `values` from `used` on.
-fn copy_values(s: &[u8], values: &mut [u8; Transfer::MOST_VALUES], used: usize)
-    requires { ⌜ used + length (now s) ≤ most-values ⌝ }
-    ensures { λ r. ⌜ now (values .exit) ≡ sets (now (values .entry)) used (now (s .entry)) ⌝ }
-{
-    copy_in(values, used, s);
-}
 
 // How the values under this header are held; `first` is the first octet of the contents, or 0.
 pub fn holding_of(header: u8, first: u8) -> Holding
@@ -69,32 +59,21 @@ fn marked(marks: Marks, header: u8, upper: u8, len: u16) -> Transfer
 
 // The head of a parameter that holds these octets as they are, whatever its header asks. They go into `values` after the used ones; where
 // they have no room, the head is empty and nothing is stored.
-pub fn open_contents(
-    header: u8,
-    s: &[u8],
-    values: &mut [u8; Transfer::MOST_VALUES],
-    used: usize,
-) -> Transfer
-    ensures head { λ r. ⌜ Gives (headFor (openBy AsContents header (now (s .entry))) used) r ⌝ }
+pub fn open_contents(header: u8, s: &[u8], values: &mut [u8], used: usize) -> Transfer
+    ensures head { λ r. ⌜ Gives (headFor (openBy AsContents header (now (s .entry))) used (now (values .entry))) r ⌝ }
     ensures put { λ r. ⌜ Gives (valuesWith (openBy AsContents header (now (s .entry))) used (now (values .entry))) (now (values .exit)) ⌝ }
 {
     let count = s.len();
-    if !has_room(used, count) {
+    if !has_room(values.len(), used, count) {
         return Transfer::none();
     }
-    copy_values(s, values, used);
+    copy_in(values, used, s);
     Transfer::carried(header, count as u16)
 }
 
 // Digits of PLI 10, after their count octet: as many as it tells, or fewer where the octets end.
-fn open_digits(
-    marks: Marks,
-    header: u8,
-    s: &[u8],
-    values: &mut [u8; Transfer::MOST_VALUES],
-    used: usize,
-) -> Transfer
-    ensures head { λ r. ⌜ r ≡ headFor (openBy (AsDigits marks) header (now (s .entry))) used ⌝ }
+fn open_digits(marks: Marks, header: u8, s: &[u8], values: &mut [u8], used: usize) -> Transfer
+    ensures head { λ r. ⌜ r ≡ headFor (openBy (AsDigits marks) header (now (s .entry))) used (now (values .entry)) ⌝ }
     ensures put { λ r. ⌜ now (values .exit) ≡ valuesWith (openBy (AsDigits marks) header (now (s .entry))) used (now (values .entry)) ⌝ }
 {
     let first = octet_at(s, 0);
@@ -108,13 +87,8 @@ fn open_digits(
 }
 
 // A number, as in D7 and DC: whether it may be withheld is nothing to opening it.
-fn open_number(
-    header: u8,
-    s: &[u8],
-    values: &mut [u8; Transfer::MOST_VALUES],
-    used: usize,
-) -> Transfer
-    ensures head { λ r. ⌜ r ≡ headFor (openBy (AsNumber false) header (now (s .entry))) used ⌝ }
+fn open_number(header: u8, s: &[u8], values: &mut [u8], used: usize) -> Transfer
+    ensures head { λ r. ⌜ r ≡ headFor (openBy (AsNumber false) header (now (s .entry))) used (now (values .entry)) ⌝ }
     ensures put { λ r. ⌜ now (values .exit) ≡ valuesWith (openBy (AsNumber false) header (now (s .entry))) used (now (values .entry)) ⌝ }
 {
     let count = count_of(s);
@@ -125,19 +99,14 @@ fn open_number(
 }
 
 // A number after its first octet 06, which is held before the digits.
-fn open_generic(
-    header: u8,
-    s: &[u8],
-    values: &mut [u8; Transfer::MOST_VALUES],
-    used: usize,
-) -> Transfer
-    ensures head { λ r. ⌜ r ≡ headFor (openBy AsGeneric header (now (s .entry))) used ⌝ }
+fn open_generic(header: u8, s: &[u8], values: &mut [u8], used: usize) -> Transfer
+    ensures head { λ r. ⌜ r ≡ headFor (openBy AsGeneric header (now (s .entry))) used (now (values .entry)) ⌝ }
     ensures put { λ r. ⌜ now (values .exit) ≡ valuesWith (openBy AsGeneric header (now (s .entry))) used (now (values .entry)) ⌝ }
 {
     let number = octets_from(s, 1);
     let count = count_of(number);
     let len = count.0 + 1;
-    if !has_room(used, len) {
+    if !has_room(values.len(), used, len) {
         return Transfer::none();
     }
     values[used] = Transfer::ADDED_CALLING_NUMBER;
@@ -153,13 +122,8 @@ fn open_generic(
 
 // The head of the parameter with this header and contents. Its values go into `values` after the used ones; where they have no room, the
 // head is empty and nothing is stored.
-pub fn open(
-    header: u8,
-    contents: &[u8],
-    values: &mut [u8; Transfer::MOST_VALUES],
-    used: usize,
-) -> Transfer
-    ensures head { λ r. ⌜ Gives (openedHead header (now (contents .entry)) used) r ⌝ }
+pub fn open(header: u8, contents: &[u8], values: &mut [u8], used: usize) -> Transfer
+    ensures head { λ r. ⌜ Gives (openedHead header (now (contents .entry)) used (now (values .entry))) r ⌝ }
     ensures put { λ r. ⌜ Gives (openedValues header (now (contents .entry)) used (now (values .entry))) (now (values .exit)) ⌝ }
 {
     let held = holding_of(header, octet_at(contents, 0));

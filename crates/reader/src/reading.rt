@@ -17,10 +17,12 @@ ghost use mathlib.Core.Path.{_≡_};
 ghost use mathlib.Core.List.{[]};
 ghost use Prim.Native.Nat.{_+_, _≤_};
 ghost use lib.ListN.{length};
+ghost use lib.Seq.{sets};
 ghost use Rattle.annex.specs.Heads.{most-transfers, most-values};
 ghost use Rattle.annex.specs.Reading.{verdictOf, recordOf};
 ghost use Rattle.annex.specs.declared.Answer.the-variants.{Accepted};
-ghost use Rattle.annex.specs.Records.{valuesOf, pack};
+ghost use Rattle.annex.specs.Items.{itemOf};
+ghost use Rattle.annex.specs.Records.{headOf, valuesOf, pack};
 ghost use Rattle.annex.specs.Promises.{ReadPromise, Gives};
 ghost use Rattle.laws.specs.Filling.{partHead};
 ghost use Rattle.reader.specs.Filling.{itemsFrom, filledWith};
@@ -59,6 +61,20 @@ fn part_head(header: u8, own: &[u8], transfers: u8) -> Common
     Common::octet(header, octet_at(own, 0))
 }
 
+// Opens a parameter into the struct's values, behind the used ones.
+fn open_held(
+    header: u8,
+    contents: &[u8],
+    values: &mut [u8; Transfer::MOST_VALUES],
+    used: usize,
+) -> Transfer
+    requires { ⌜ used + length (itemOf header (now contents) .values) ≤ most-values ⌝ }
+    ensures head { λ r. ⌜ r ≡ headOf (itemOf header (now (contents .entry))) ⌝ }
+    ensures put { λ r. ⌜ now (values .exit) ≡ sets (now (values .entry)) used (itemOf header (now (contents .entry)) .values) ⌝ }
+{
+    open(header, contents, values, used)
+}
+
 // The parameters of the transfer data t, put into the struct behind those that it has.
 fn with_transfers(begun: Record, t: &[u8], transfers: usize, taken: usize) -> Filled
     requires { ⌜ (transfers + length (itemsFrom (now t)) ≤ most-transfers)
@@ -74,7 +90,7 @@ fn with_transfers(begun: Record, t: &[u8], transfers: usize, taken: usize) -> Fi
         let Found::At(start, to) = stretch_at(t, i, extent_of(h)) else {
             break;
         };
-        let x = open(h, &t[start..to], &mut q.values, used);
+        let x = open_held(h, &t[start..to], &mut q.values, used);
         q.transfer[k] = x;
         k += 1;
         used += x.len as usize;

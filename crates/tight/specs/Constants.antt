@@ -3,17 +3,17 @@
 -- stores, so does one that says the same at both, and one that stores nothing. For `Common::none`, `Transfer::none`,
 -- `walk::cursor::first`, `reader::reading::empty` and, in the base, where every name may stand once, for `often_of` a constant is right,
 -- and they have no row.
-use Prim.Native.Nat.{ℕ, _+_, min}
+use Prim.Native.Nat.{ℕ, min}
 use native.Mathlib.Omega.{arith}
 use mathlib.Core.Path.{_≡_, refl, sym, ap, _∙_}
 use mathlib.Core.Bool.{Bool, true, false, cond, not, _&&_}
 use mathlib.Core.List.{List, [], _∷_, _++_}
 use borrow.Author.Tests.{eq-eqb, not-true}
-use lib.Dec.{eqb, leb}
+use lib.Dec.{eqb}
 use lib.ListN.{length, getD, take, drop, replicate}
 use Rattle.annex.specs.Answers.{numberOf, givenOf, faultNumberOf, stopOf, soundThen, headerAt, unused-name, other-pli}
 use Rattle.annex.specs.Units.{countedBy, octetsOf, halvesIn, afterOf, leadOf, commonExtentOf, extentOf}
-use Rattle.annex.specs.Heads.{among, listedHeaders, isCall, most-values, nameUsed, pliRight, oftenOf, zeroesOf, formOf}
+use Rattle.annex.specs.Heads.{among, listedHeaders, isCall, nameUsed, pliRight, oftenOf, zeroesOf, formOf}
 use Rattle.annex.specs.Digits.{halves, joined, digitOf, codeOf, isCode, isDigit, halvesFault, digitsFault, digitsOf, packed, halvesFor}
 use Rattle.annex.specs.Contents.{dialledFault, faultUnder, faultOf}
 use Rattle.annex.specs.Items.{valuePart, holdingOf, openBy, itemOf, contentsOf, ownOf}
@@ -54,7 +54,7 @@ use Rattle.annex.specs.Writing.{headWriting, itemWriting, overLimits, structOve
 use Rattle.annex.specs.Promises.{Gives, Keeps}
 use Rattle.annex.specs.Bench.{K, recordOfK, recordOfM}
 use Rattle.annex.specs.Walking.{pars, soughtIn, searchIn, commonPlain, stretchAt, cursorTo, stretchHere, rowHere, nextOf}
-use Rattle.annex.specs.Memory.{Request, put, spliced, copying, splicing, packing, unpacking, laying}
+use Rattle.annex.specs.Memory.{Request, put, spliced, copying, splicing, packing, unpacking, laying, valuesFit}
 use Rattle.annex.specs.Opening.{headFor, valuesWith, openedHead, openedValues}
 use Rattle.annex.specs.declared.Alphabet.the-variants.{Dialled, Numbered}
 use Rattle.annex.specs.declared.Answer.{Answer}
@@ -190,9 +190,6 @@ transfers = gives Transfer
 abbrev lent : ℕ → List ℕ
 lent n = replicate n 0xEE
 
-abbrev arrayLent : List ℕ
-arrayLent = lent most-values
-
 -- ---- the table
 
 abbrev pub rows : List AtTwo
@@ -225,9 +222,9 @@ rows =
     tests (every isDigit (11 ∷ [])) (every isDigit (12 ∷ [])) ∷  -- are_digits
     gives Octets (λ n. n .0) (octetsOf (halvesFor (1 ∷ 2 ∷ []))) (octetsOf (halvesFor (1 ∷ 2 ∷ 3 ∷ []))) ∷  -- packed_len
     counts (min 3 (halvesIn (0x21 ∷ []) .0)) (min 1 (halvesIn (0x21 ∷ []) .0)) ∷  -- digits_in
-    tests (leb (511 + 1) most-values) (leb (most-values + 1) most-values) ∷  -- has_room
+    tests (valuesFit 2 1 1) (valuesFit 2 2 1) ∷  -- has_room
     stores (packing Dialled (1 ∷ 2 ∷ []) (lent 1)) (packing Dialled (1 ∷ 2 ∷ []) (lent 0)) ∷  -- pack_digits
-    stores (unpacking Dialled (0x21 ∷ []) (countedBy 2) arrayLent 0) (unpacking Dialled (0x21 ∷ []) (countedBy 2) arrayLent 511)
+    stores (unpacking Dialled (0x21 ∷ []) (countedBy 2) (lent 2) 0) (unpacking Dialled (0x21 ∷ []) (countedBy 2) (lent 2) 1)
     ∷  -- unpack_digits
     answers (soundThen (headerAt 0) Sound (Accepted 1)) (soundThen (headerAt 0) (Bad 13 2) (Accepted 1)) ∷  -- at_header
     counts (getD (0x21 ∷ 0x43 ∷ []) 0 0) (getD (0x21 ∷ 0x43 ∷ []) 1 0) ∷  -- octet_at
@@ -235,11 +232,12 @@ rows =
     faults (faultOf 0x90 (0x01 ∷ 0x0A ∷ [])) (faultOf 0x90 (0x01 ∷ 0x00 ∷ [])) ∷  -- contents_fault
     answers (transferOf 0 0x41 (0x01 ∷ [])) (transferOf 0 0x41 []) ∷  -- transfer
     gives Holding heldNumber (holdingOf 0xDA 0x06) (holdingOf 0xDA 0x07) ∷  -- holding_of
-    transfers (λ t. t .len) (headFor (openBy AsContents 0xCC (1 ∷ [])) 0) (headFor (openBy AsContents 0xCC []) 0) ∷  -- open_contents, head
-    lists (valuesWith (openBy AsContents 0xCC (1 ∷ [])) 0 arrayLent) (valuesWith (openBy AsContents 0xCC (1 ∷ [])) most-values arrayLent)
+    transfers (λ t. t .len) (headFor (openBy AsContents 0xCC (1 ∷ [])) 0 (lent 2)) (headFor (openBy AsContents 0xCC []) 0 (lent 2))
+    ∷  -- open_contents, head
+    lists (valuesWith (openBy AsContents 0xCC (1 ∷ [])) 0 (lent 2)) (valuesWith (openBy AsContents 0xCC (1 ∷ [])) 2 (lent 2))
     ∷  -- open_contents, values
-    transfers (λ t. t .len) (openedHead 0x90 (0x02 ∷ 0x21 ∷ []) 0) (openedHead 0x90 (0x01 ∷ 0x01 ∷ []) 0) ∷  -- open, head
-    lists (openedValues 0x90 (0x02 ∷ 0x21 ∷ []) 0 arrayLent) (openedValues 0x90 (0x02 ∷ 0x21 ∷ []) most-values arrayLent) ∷  -- open, values
+    transfers (λ t. t .len) (openedHead 0x90 (0x02 ∷ 0x21 ∷ []) 0 (lent 2)) (openedHead 0x90 (0x01 ∷ 0x01 ∷ []) 0 (lent 2)) ∷  -- open, head
+    lists (openedValues 0x90 (0x02 ∷ 0x21 ∷ []) 0 (lent 2)) (openedValues 0x90 (0x02 ∷ 0x21 ∷ []) 1 (lent 2)) ∷  -- open, values
     counts (length (contentsOf (itemFrom (carriedHead 0x41 1) (1 ∷ [])))) (length (contentsOf (itemFrom (carriedHead 0xCC 0) [])))
     ∷  -- contents_len
     answers (itemWriting 0 0 (itemFrom (carriedHead 0x41 1) (1 ∷ []))) (itemWriting 0 0 (itemFrom (carriedHead 0x08 0) [])) ∷  -- refusal

@@ -7,7 +7,7 @@ use mathlib.Core.Bool.{true}
 use mathlib.Core.List.{List}
 use denote.Ref.{now}
 use borrow.Author.Needs.{needs}
-use borrow.Author.Tests.{not-true, not-false, le-leb}
+use borrow.Author.Tests.{not-true, not-false}
 use lib.ListN.{length, take, drop, length-drop}
 use lib.Seq.{sets, length-take-le}
 use Rattle.annex.specs.Heads.{most-transfers, most-values}
@@ -115,25 +115,41 @@ add-from c = omega (arith, ends (c .before .before))
 add-to : tie.Need-add-to Inv-loop μ-loop
 add-to c = omega (arith, ends (c .before .before .before), len-is (c .before))
 
-part-open-contents-end : tie.Need-part-open-contents-end Inv-loop μ-loop
-part-open-contents-end c = omega (arith, ends (c .before .before .before), len-is (c .before))
+part-hold-values-end : tie.Need-part-hold-values-end Inv-loop μ-loop
+part-hold-values-end c = omega (arith, ends (c .before .before .before), len-is (c .before))
 
--- its values are stored
-stored : (c : tie.After-open-contents Inv-loop μ-loop) →
-    let h = c .before .before .before .before in
+-- its values have room, and are stored
+values-are : (c : tie.After-struct-known Inv-loop μ-loop) →
+    let h = c .before in
     let a = h .before .before .before .before .before .before in
-    c .open-contents .last .1 .1 .0
-    ≡ sets (a .loop .q .values) (a .loop .used) (take (headFront (hereOf a) .len) (drop (a .loop .i + transfer-head) (octetsOf a)))
-stored c =
-    let h = c .before .before .before .before in
+    let i = a .loop .i in
+    take (i + transfer-head + h .transfer-head .result .len - (i + transfer-head)) (drop (i + transfer-head) (octetsOf a))
+    ≡ take (headFront (hereOf a) .len) (drop (i + transfer-head) (octetsOf a))
+values-are c =
+    let h = c .before in
+    let a = h .before .before .before .before .before .before in
+    let i = a .loop .i in
+    let m : i + transfer-head + h .transfer-head .result .len - (i + transfer-head) ≡ headFront (hereOf a) .len = omega (arith, len-is h) in
+    rw m
+
+hold-values-requires : tie.Need-hold-values-requires Inv-loop μ-loop
+hold-values-requires c κs =
+    let k = c .before .before in
+    let h = k .before in
     let a = h .before .before .before .before .before .before in
     let s = octetsOf a in
     let n = headFront (hereOf a) .len in
     let i = a .loop .i in
-    let m : i + transfer-head + h .transfer-head .result .len - (i + transfer-head) ≡ n = omega (arith, len-is h) in
     let l : length (take n (drop (i + transfer-head) s)) ≡ n =
     length-take-le n (drop (i + transfer-head) s) (rw (length-drop (i + transfer-head) s) (omega (arith, ends (h .before .before)))) in
-    c .open-contents .ensures .1 ∙ rw (m, l, le-leb (a .loop .used + n) most-values (room (h .before .before) .values))
+    rw (values-are k, l) (room (h .before .before) .values)
+
+stored : (c : tie.After-hold-values Inv-loop μ-loop) →
+    let h = c .before .before .before .before in
+    let a = h .before .before .before .before .before .before in
+    c .hold-values .last .1 .1 .0
+    ≡ sets (a .loop .q .values) (a .loop .used) (take (headFront (hereOf a) .len) (drop (a .loop .i + transfer-head) (octetsOf a)))
+stored c = c .hold-values .ensures ∙ rw (values-are (c .before .before .before))
 
 mul-t : tie.Need-mul-t Inv-loop μ-loop
 mul-t c = omega (arith, room (c .before .before .before .before .before .before) .place)
@@ -205,8 +221,8 @@ with-transfers-spec =
     add-to
     (λ c. search needs)
     (λ c. search needs)
-    part-open-contents-end
-    (λ c κs. search needs)
+    part-hold-values-end
+    hold-values-requires
     mul-t
     element-set-from-t
     add-k

@@ -1,15 +1,14 @@
 -- `open_digits` meets its contract: the octets behind the count octet hold the digits that it tells, or fewer where they end.
 use native.Mathlib.Omega.{arith}
 use mathlib.Core.Path.{_≡_, refl, sym, ap, _∙_}
-use Prim.Native.Nat.{ℕ, _+_, _/_}
+use Prim.Native.Nat.{ℕ, _/_}
 use mathlib.Core.List.{List}
-use lib.Dec.{leb}
 use lib.ListN.{length, getD, drop}
 use lib.Seq.{sets}
-use Rattle.annex.specs.Heads.{most-values}
 use Rattle.annex.specs.Units.{countedBy}
 use Rattle.annex.specs.Digits.{digitsOf}
 use Rattle.annex.specs.Items.{openMarks, openBy}
+use Rattle.annex.specs.Memory.{valuesFit}
 use Rattle.annex.specs.Promises.{Stores}
 use Rattle.annex.specs.Records.{headOf}
 use Rattle.annex.specs.declared.HalfOctets.{HalfOctets}
@@ -35,18 +34,18 @@ digits s = digitsOf Dialled (countedBy (getD s 0 0)) (drop 1 s)
 
 -- what was unpacked are these digits
 unpacked : (c : tie.After-unpack-digits) →
-    let a = c .before .before .before .before .before .before .args in
+    let a = c .before .before .before .before .before .before .before .args in
     let ds = digits (a .s .now) in
-    Stores (leb (a .used + length ds) most-values) (sets (a .values .now) (a .used) ds) (a .values .now) (c .unpack-digits .result)
-    (c .unpack-digits .last .1 .1 .1 .0)
+    Stores (valuesFit (length (a .values .now)) (a .used) (length ds)) (sets (a .values .now) (a .used) ds) (a .values .now)
+    (c .unpack-digits .result) (c .unpack-digits .last .1 .1 .1 .0)
 unpacked c =
     let k = c .before .before in
     rw (k .counted-by .ensures, k .before .octets-from .ensures, k .before .before .octet-at .ensures) at (c .unpack-digits .ensures)
 
 returns : tie.Need-returns
 returns c =
-    let p = c .before .before in
-    let a = p .before .before .before .before .before .before .args in
+    let p = c .before .before .before .before in
+    let a = p .before .before .before .before .before .before .before .args in
     let s = a .s .now in
     let i = openBy (AsDigits (a .marks)) (a .header) s in
     let w =
@@ -57,16 +56,17 @@ returns c =
 cast-marked : tie.Need-cast-marked
 cast-marked c =
     let n = c .before in
-    omega (arith, n .digits-in .ensures, ap (λ (k : HalfOctets). k .0) (n .before .before .before .before .counted-by .ensures))
+    let k = n .before .before .before .before .before .before in
+    omega (arith, n .digits-in .ensures, ap (λ (k : HalfOctets). k .0) (k .counted-by .ensures))
 
 returns-2 : tie.Need-returns-2
 returns-2 c =
     let n = c .before .before in
     let e = n .before in
-    let p = e .before in
+    let p = e .before .before .before in
     let k = p .before .before in
     let o = k .before in
-    let a = p .before .before .before .before .before .before .args in
+    let a = p .before .before .before .before .before .before .before .args in
     let s = a .s .now in
     let i = openBy (AsDigits (a .marks)) (a .header) s in
     let w =
@@ -87,8 +87,10 @@ open-digits-spec =
     (λ c κs. search needs)
     (λ c κs. search needs)
     (λ c κs. search needs)
+    (λ c. search needs)
     returns
     (λ c κs. search needs)
     cast-marked
     (λ c κs. search needs)
+    (λ c. search needs)
     returns-2)

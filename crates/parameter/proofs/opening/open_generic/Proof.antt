@@ -2,11 +2,11 @@
 use native.Mathlib.Omega.{arith}
 use native.Mathlib.Numerals.{add-one}
 use mathlib.Core.Path.{_≡_, ap, _∙_}
-use Prim.Native.Nat.{ℕ, suc, _+_, _≤_}
+use Prim.Native.Nat.{ℕ, suc, _+_}
 use mathlib.Core.List.{List}
-use lib.ListN.{length, getD, drop, length-drop}
+use lib.ListN.{length, getD, drop, set, length-drop, length-set}
 use lib.Seq.{sets, drop-drop, getD-drop}
-use Rattle.annex.specs.Heads.{most-values}
+use Rattle.annex.specs.Heads.{added-calling-number}
 use Rattle.annex.specs.Digits.{digitsOf}
 use Rattle.annex.specs.Contents.{countOf}
 use Rattle.annex.specs.Items.{openBy}
@@ -14,8 +14,9 @@ use Rattle.annex.specs.declared.HalfOctets.{HalfOctets}
 use Rattle.annex.specs.declared.Holding.the-variants.{AsGeneric}
 use Rattle.annex.specs.Records.{headOf}
 use Rattle.annex.specs.declared.Alphabet.the-variants.{Numbered}
+use Rattle.laws.specs.Stores.{Fits, fits-told}
 use Rattle.digits.specs.Unpacked.{length-there}
-use Rattle.parameter.specs.Stored.{stored}
+use Rattle.parameter.specs.Stored.{stored-fitting}
 use Rattle.parameter.specs.Opening.{without-room, with-room, room-left, number-digits}
 use borrow.Author.Needs.{needs}
 use Rattle.parameter.proofs.opening.open_generic.Statement.{statement}
@@ -26,24 +27,26 @@ digits : (s : List ℕ) → digitsOf Numbered (countOf (drop 1 s)) (drop 2 (drop
 digits s = ap (digitsOf Numbered (countOf (drop 1 s))) (drop-drop 2 1 s)
 
 counted : (c : tie.After-count-of)
-    → length (openBy AsGeneric (c .before .before .before .args .header) (c .before .before .before .args .s .now) .values)
+    → length (openBy AsGeneric (c .before .before .before .before .args .header) (c .before .before .before .before .args .s .now) .values)
     ≡ c .count-of .result .0 + 1
 counted c =
-    let s = c .before .before .before .args .s .now in
+    let s = c .before .before .before .before .args .s .now in
     rw (c .count-of .ensures, c .before .octets-from .ensures, add-one, ← digits s) (ap suc (number-digits (drop 1 s)))
 
 fitting : (c : tie.Else1) →
     let n = c .before .before .before in
-    n .before .before .before .args .used + (n .count-of .result .0 + 1) ≤ most-values
+    let a = n .before .before .before .before .args in
+    Fits (length (a .values .now)) (a .used) (n .count-of .result .0 + 1)
 fitting c =
     let n = c .before .before .before in
+    let a = n .before .before .before .before .args in
     let f = c .before .has-room in
-    room-left (n .before .before .before .args .used) (n .count-of .result .0 + 1) (f .result) (f .ensures) (c .if1 .left)
+    room-left (length (a .values .now)) (a .used) (n .count-of .result .0 + 1) (f .result) (f .ensures) (c .if1 .left)
 
 returns : tie.Need-returns
 returns c =
     let n = c .before .before .before .before in
-    let a = n .before .before .before .args in
+    let a = n .before .before .before .before .args in
     let f = c .before .before .has-room in
     let i = openBy AsGeneric (a .header) (a .s .now) in
     let w =
@@ -55,23 +58,44 @@ add-len c =
     let n = c .before in
     omega (arith, ap (λ (k : HalfOctets). k .0) (n .count-of .ensures), length-drop 2 (n .before .octets-from .result .now))
 
-element-write-values : tie.Need-element-write-values
-element-write-values c = omega (arith, fitting c)
+slice-write-values : tie.Need-slice-write-values
+slice-write-values c = omega (arith, fitting c .within)
 
 add-unpack-digits : tie.Need-add-unpack-digits
-add-unpack-digits c = omega (arith, fitting (c .before .before))
+add-unpack-digits c = omega (arith, fitting (c .before .before) .within)
 
 cast-number : tie.Need-cast-number
-cast-number c = omega (arith, fitting (c .before .before .before .before .before))
+cast-number c = omega (arith, fitting (c .before .before .before .before .before .before .before) .few)
+
+-- the digits fit behind 06
+digits-fit : (c : tie.After-unpack-digits) →
+    let o = c .before .before in
+    let r = o .before in
+    let n = r .before .before .before in
+    let a = n .before .before .before .before .args in
+    Fits (length (set (a .values .now) (a .used) added-calling-number)) (a .used + 1)
+    (length (digitsOf Numbered (n .count-of .result) (o .octets-from2 .result .now)))
+digits-fit c =
+    let o = c .before .before in
+    let r = o .before in
+    let n = r .before .before .before in
+    let a = n .before .before .before .before .args in
+    let l = length-there Numbered (n .count-of .result) (o .octets-from2 .result .now) in
+    let f = fitting r in
+    record { few = omega arith; within = rw (length-set (a .values .now) (a .used) added-calling-number) (omega arith) }
+
+same-length : tie.Need-same-length
+same-length c = simp length-set at (c .before .before .before .before .values .given)
 
 returns-2 : tie.Need-returns-2
 returns-2 c =
     let q = c .before in
-    let o = q .before .before .before .before in
+    let u = q .before .before .before .before in
+    let o = u .before .before in
     let r = o .before in
     let n = r .before .before .before in
     let f = n .before in
-    let a = f .before .before .args in
+    let a = f .before .before .before .args in
     let s = a .s .now in
     let i = openBy AsGeneric (a .header) s in
     let g = r .before .has-room in
@@ -80,12 +104,11 @@ returns-2 c =
     rw (q .before .octet-at .ensures, f .octets-from .ensures) (getD-drop 1 s 0 0) in
     let y : q .octet-at2 .result ≡ getD s 2 0 = rw (q .octet-at2 .ensures, f .octets-from .ensures) (getD-drop 1 s 1 0) in
     let h : c .number .result ≡ headOf i = rw (c .number .ensures, x, y, counted n) in
+    let vs = set (a .values .now) (a .used) added-calling-number in
     let ds = digitsOf Numbered (n .count-of .result) (o .octets-from2 .result .now) in
-    let b : a .used + 1 + length ds ≤ most-values =
-    (omega (arith, fitting r, length-there Numbered (n .count-of .result) (o .octets-from2 .result .now))) in
-    let v : q .before .before .unpack-digits .last .1 .1 .1 .0 ≡ sets (a .values .now) (a .used) (i .values) =
+    let v : u .unpack-digits .last .1 .1 .1 .0 ≡ sets (a .values .now) (a .used) (i .values) =
     rw (
-      stored _ _ _ _ _ _ (q .before .before .unpack-digits .ensures) b,
+      stored-fitting _ _ (sets vs (a .used + 1) ds) vs _ (u .unpack-digits .ensures) (fits-told _ _ _ (digits-fit u)),
       o .octets-from2 .ensures,
       n .count-of .ensures,
       f .octets-from .ensures,
@@ -104,7 +127,7 @@ open-generic-spec =
     (λ c κs. search needs)
     (λ c κs. search needs)
     returns
-    element-write-values
+    slice-write-values
     (λ c κs. search needs)
     add-unpack-digits
     (λ c κs. search needs)
@@ -112,4 +135,5 @@ open-generic-spec =
     (λ c κs. search needs)
     cast-number
     (λ c κs. search needs)
+    same-length
     returns-2)

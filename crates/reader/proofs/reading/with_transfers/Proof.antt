@@ -5,14 +5,12 @@ use mathlib.Core.Path.{_≡_, refl, sym, ap, _∙_}
 use mathlib.Core.List.{List, _∷_}
 use denote.Ref.{now}
 use borrow.Author.Needs.{needs}
-use borrow.Author.Tests.{le-leb}
 use native.Mathlib.Omega.{arith}
 use lib.ListN.{length, getD, take, drop, length-append}
 use Rattle.annex.specs.Heads.{most-transfers, most-values}
 use Rattle.annex.specs.Units.{extentOf}
 use Rattle.annex.specs.Items.{Item, itemOf}
-use lib.Seq.{sets}
-use Rattle.annex.specs.Records.{headOf, valuesOf}
+use Rattle.annex.specs.Records.{valuesOf}
 use Rattle.annex.specs.Walking.{stretchAt}
 use Rattle.annex.specs.declared.Transfer.{Transfer}
 use Rattle.walk.specs.Stretches.{Whole, stretch-told}
@@ -79,16 +77,10 @@ room c =
     room-for _ _ _ _ _ (more c) (a .loop .inv .1) (a .loop .inv .2)
 
 -- so it is opened
-opened : (c : tie.After-open Inv-loop μ-loop) →
-    let l = c .before .before .before .before in
-    let a = l .before .before .before .before .before in
-    (c .«open» .result ≡ headOf (itemAt l)) × (c .«open» .last .1 .1 .0 ≡ sets (a .loop .q .values) (a .loop .used) (itemAt l .values))
-opened c =
-    let l = c .before .before .before .before in
-    let a = l .before .before .before .before .before in
-    let m = room l in
-    let r = le-leb (a .loop .used + length (itemAt l .values)) most-values (omega arith) in
-    (c .«open» .ensures .0 ∙ rw r, c .«open» .ensures .1 ∙ rw r)
+open-held-requires : tie.Need-open-held-requires Inv-loop μ-loop
+open-held-requires c κs =
+    let m = room (c .before .before .before) in
+    omega (arith, m .values)
 
 mul-x : tie.Need-mul-x Inv-loop μ-loop
 mul-x c = omega (arith, room (c .before .before .before .before) .place)
@@ -99,8 +91,8 @@ element-set-from-x c = omega (arith, room (c .before .before .before .before) .p
 add-k : tie.Need-add-k Inv-loop μ-loop
 add-k c = omega (arith, room (c .before .before .before .before) .place)
 
-len-is : (c : tie.After-open Inv-loop μ-loop) → c .«open» .result .len ≡ length (itemAt (c .before .before .before .before) .values)
-len-is c = ap (λ (x : Transfer). x .len) (opened c .0)
+len-is : (c : tie.After-open-held Inv-loop μ-loop) → c .open-held .result .len ≡ length (itemAt (c .before .before .before .before) .values)
+len-is c = ap (λ (x : Transfer). x .len) (c .open-held .ensures .0)
 
 cast-used : tie.Need-cast-used Inv-loop μ-loop
 cast-used c = omega (arith, len-is (c .before), room (c .before .before .before .before .before) .values)
@@ -114,7 +106,7 @@ loop-again c =
     let l = o .before .before .before .before in
     let a = l .before .before .before .before .before in
     let m = room l in (
-      a .loop .inv .0 ∙ rw (more l, filled-turn (a .loop .q) (itemAt l) _ _ _, ← opened o .0, ← opened o .1, ← len-is o),
+      a .loop .inv .0 ∙ rw (more l, filled-turn (a .loop .q) (itemAt l) _ _ _, ← o .open-held .ensures .0, ← o .open-held .ensures .1, ← len-is o),
       m .place,
       rw (len-is o) (m .values),
     )
@@ -139,7 +131,7 @@ with-transfers-spec =
     (λ c. whole (c .before) .ordered)
     (λ c. whole (c .before) .ordered)
     (λ c. whole (c .before) .within)
-    (λ c κs. search needs)
+    open-held-requires
     mul-x
     element-set-from-x
     add-k
