@@ -7,7 +7,7 @@
 
 use crate::answer::unpack;
 use crate::refusal::Refusal;
-use crate::IMAGE_MAX;
+use crate::{IMAGE_MAX, MESSAGE_MAX, ROW_LEN, TABLE_MAX};
 use std::mem::MaybeUninit;
 
 // Where the static library cannot be linked, this crate defines its functions.
@@ -99,14 +99,33 @@ pub fn remove(buffer: &mut [u8], n: usize, name: u8) -> u64 {
     unsafe { tk_remove(buffer.as_mut_ptr(), buffer.len(), n, name) }
 }
 
-/// Memory for the image of any record within its limits. It is not cleared
-/// first: an octet of it is set or not.
-pub(crate) struct Room([MaybeUninit<u8>; IMAGE_MAX]);
+/// Memory for octets. It is not cleared first: an octet of it is set or not.
+pub(crate) struct Room<const N: usize>([MaybeUninit<u8>; N]);
 
-impl Room {
+impl<const N: usize> Room<N> {
     /// Memory of which no octet is set.
     pub(crate) fn new() -> Self {
-        Room([MaybeUninit::uninit(); IMAGE_MAX])
+        Room([MaybeUninit::uninit(); N])
+    }
+
+    /// What `call` writes at the front of the memory. It is handed the memory's
+    /// pointer and length, and answers as the static library does.
+    ///
+    /// # Safety
+    ///
+    /// Where `call` accepts, it must have set `unit` octets for each of its value.
+    unsafe fn filled(
+        &mut self,
+        unit: usize,
+        call: impl FnOnce(*mut u8, usize) -> u64,
+    ) -> Result<&[u8], Refusal> {
+        if cfg!(not(target_arch = "x86_64")) {
+            // `far` reads what is lent to it.
+            self.0.fill(MaybeUninit::new(0));
+        }
+        let value = unpack(call(self.0.as_mut_ptr().cast(), N))?.value;
+        let front = self.0.get(..unit * value).unwrap_or_default();
+        Ok(all_set(front))
     }
 }
 
@@ -115,20 +134,52 @@ impl Room {
 /// # Errors
 ///
 /// Those of [`read`](crate::read).
-pub(crate) fn read_into<'r>(message: &[u8], room: &'r mut Room) -> Result<&'r [u8], Refusal> {
-    let Room(octets) = room;
-    if cfg!(not(target_arch = "x86_64")) {
-        // `far` reads what is lent to it.
-        octets.fill(MaybeUninit::new(0));
+pub(crate) fn read_into<'r>(
+    message: &[u8],
+    room: &'r mut Room<IMAGE_MAX>,
+) -> Result<&'r [u8], Refusal> {
+    // SAFETY: each pointer and length is a slice's, and `room` overlaps nothing.
+    // Where the call is accepted, its value counts the octets of the image, which
+    // then stands at the front. This is proved: `TkReadPromise`.
+    unsafe {
+        room.filled(1, |image, len| {
+            tk_read(message.as_ptr(), message.len(), image, len)
+        })
     }
-    let (image, len) = (octets.as_mut_ptr().cast(), octets.len());
-    // SAFETY: each pointer and length is a slice's, and `image` overlaps nothing.
-    let answer = unsafe { tk_read(message.as_ptr(), message.len(), image, len) };
-    let value = unpack(answer)?.value;
-    let front = octets.get(..value).unwrap_or_default();
-    // SAFETY: where a call is accepted, the first `value` octets are the image's,
-    // whatever was there before. This is proved: `TkReadPromise`.
-    Ok(unsafe { all_set(front) })
+}
+
+/// The message of a record's `image`, in `room`.
+///
+/// # Errors
+///
+/// Those of [`write_to_vec`](crate::write_to_vec).
+pub(crate) fn write_into<'r>(
+    image: &[u8],
+    room: &'r mut Room<MESSAGE_MAX>,
+) -> Result<&'r [u8], Refusal> {
+    // SAFETY: as in `read_into`, of the message's octets: `TkWritePromise`.
+    unsafe {
+        room.filled(1, |message, len| {
+            tk_write(image.as_ptr(), image.len(), message, len)
+        })
+    }
+}
+
+/// The table of the rows of `message`, in `room`.
+///
+/// # Errors
+///
+/// Those of [`read`](crate::read).
+pub(crate) fn rows_into<'r>(
+    message: &[u8],
+    room: &'r mut Room<TABLE_MAX>,
+) -> Result<&'r [u8], Refusal> {
+    // SAFETY: as in `read_into`, of the rows, which the value counts: `TkRowsPromise`.
+    unsafe {
+        room.filled(ROW_LEN, |table, len| {
+            tk_rows(message.as_ptr(), message.len(), table, len)
+        })
+    }
 }
 
 /// Octets that are set, as such.
@@ -142,14 +193,14 @@ unsafe fn all_set(octets: &[MaybeUninit<u8>]) -> &[u8] {
 
 /// Octets put one after the other into the front of a room.
 pub(crate) struct Draft<'r> {
-    room: &'r mut Room,
+    room: &'r mut Room<IMAGE_MAX>,
     /// So many octets of the room are set, from its first on.
     len: usize,
 }
 
 impl<'r> Draft<'r> {
     /// A draft without octets, in `room`.
-    pub(crate) fn new(room: &'r mut Room) -> Self {
+    pub(crate) fn new(room: &'r mut Room<IMAGE_MAX>) -> Self {
         Draft { room, len: 0 }
     }
 

@@ -3,11 +3,12 @@
 
 use crate::boundary::{Draft, Room};
 use crate::record::{Common, Record, Stretch, Transfer, TRANSFER_DATA};
+use crate::IMAGE_MAX;
 
 /// The image of `record`, in `room`; none if it is longer than that of any
 /// record within its limits, as it is where an image cannot count what the
 /// record has.
-pub(crate) fn image_of<'r>(record: &Record, room: &'r mut Room) -> Option<&'r [u8]> {
+pub(crate) fn image_of<'r>(record: &Record, room: &'r mut Room<IMAGE_MAX>) -> Option<&'r [u8]> {
     let mut image = Draft::new(room);
     image.put(&[u8::try_from(record.common.len()).ok()?])?;
     for parameter in &record.common {
@@ -101,7 +102,6 @@ impl<'i> Rest<'i> {
 #[cfg(test)]
 mod tests {
     use super::*;
-    use crate::IMAGE_MAX;
 
     #[rustfmt::skip]
     const IMAGE: [u8; 31] = [

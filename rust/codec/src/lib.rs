@@ -53,6 +53,8 @@ pub const ROWS_MAX: usize = 59;
 pub const IMAGE_MAX: usize = 1 + 6 * 6 + 52 * 11 + 2 * 255;
 /// Octets of a row in the table that the static library fills.
 const ROW_LEN: usize = 5;
+/// The most octets of that table.
+const TABLE_MAX: usize = ROWS_MAX * ROW_LEN;
 
 /// Where a parameter stands in a message.
 #[derive(Clone, Copy, Debug, PartialEq, Eq, Hash)]
@@ -95,10 +97,8 @@ pub fn read(message: &[u8]) -> Result<Record, Refusal> {
 /// Number 1, then 2, 3, 5 and 8 to 14 in the reader's order, at the places
 /// where octets would stand, 6 at the end, and 15 if the room is too short.
 pub fn write(record: &Record, room: &mut [u8]) -> Result<usize, Refusal> {
-    // The library's own answer to an image over the limits.
-    let over = Refusal::new(Refusal::OVER_LIMITS, 0);
     let mut memory = Room::new();
-    let image = image::image_of(record, &mut memory).ok_or(over)?;
+    let image = image_within(record, &mut memory)?;
     Ok(unpack(boundary::write(image, room))?.value)
 }
 
@@ -108,10 +108,15 @@ pub fn write(record: &Record, room: &mut [u8]) -> Result<usize, Refusal> {
 ///
 /// As [`write()`], but never 15.
 pub fn write_to_vec(record: &Record) -> Result<Vec<u8>, Refusal> {
-    let mut message = vec![0; MESSAGE_MAX];
-    let len = write(record, &mut message)?;
-    message.truncate(len);
-    Ok(message)
+    let (mut memory, mut room) = (Room::new(), Room::new());
+    let image = image_within(record, &mut memory)?;
+    Ok(boundary::write_into(image, &mut room)?.to_vec())
+}
+
+/// The image of `record`, in `memory`. One that is too long for that is over the
+/// limits, and is refused as the static library does it.
+fn image_within<'m>(record: &Record, memory: &'m mut Room<IMAGE_MAX>) -> Result<&'m [u8], Refusal> {
+    image::image_of(record, memory).ok_or(Refusal::new(Refusal::OVER_LIMITS, 0))
 }
 
 /// A row for each parameter of `message` in the order of their offsets, the
@@ -121,13 +126,9 @@ pub fn write_to_vec(record: &Record) -> Result<Vec<u8>, Refusal> {
 ///
 /// Those of [`read`].
 pub fn rows(message: &[u8]) -> Result<Vec<Row>, Refusal> {
-    let mut table = [0; ROWS_MAX * ROW_LEN];
-    let count = unpack(boundary::rows(message, &mut table))?.value;
-    Ok(table
-        .chunks_exact(ROW_LEN)
-        .take(count)
-        .map(row_of)
-        .collect())
+    let mut memory = Room::new();
+    let table = boundary::rows_into(message, &mut memory)?;
+    Ok(table.chunks_exact(ROW_LEN).map(row_of).collect())
 }
 
 fn row_of(octets: &[u8]) -> Row {
