@@ -1,4 +1,9 @@
 // A record from its image: the struct is filled parameter by parameter, as far as the octets are a whole record within the limits.
+pub mod heads;
+
+use crate::heads::common_head;
+use crate::heads::is_whole;
+use crate::heads::transfer_head;
 use annex::Answer;
 use annex::Common;
 use annex::Imaged;
@@ -11,7 +16,7 @@ ghost use Prim.Native.Nat.{_+_, _≤_};
 ghost use lib.ListN.{length};
 ghost use lib.Seq.{sets};
 ghost use Rattle.annex.specs.Heads.{most-transfers, most-values};
-ghost use Rattle.annex.specs.Image.{headFront, itemsFront, commonFront, partsFront, noImage, imagedBy, common-head, transfer-head};
+ghost use Rattle.annex.specs.Image.{itemsFront, partsFront, noImage, imagedBy};
 ghost use Rattle.annex.specs.Promises.{FromImagePromise};
 ghost use Rattle.from_image.specs.Filling.{fitsAt, unfilled, filledBy};
 
@@ -50,44 +55,19 @@ fn refused() -> Imaged
     }
 }
 
-// The head of the transfer parameter at the front.
-fn transfer_head(s: &[u8]) -> Transfer
-    requires { ⌜ transfer-head ≤ length (now s) ⌝ }
-    ensures { λ r. ⌜ r ≡ headFront (now (s .entry)) ⌝ }
-{
-    let low = s[9] as u16;
-    let high = s[10] as u16;
-    let len = low + 256 * high;
-    Transfer {
-        header: s[0],
-        notification: s[1],
-        verification: s[2],
-        dialling: s[3],
-        number_type: s[4],
-        incomplete: s[5],
-        plan: s[6],
-        presentation: s[7],
-        screening: s[8],
-        len: len,
-    }
-}
-
 // Whether the transfer parameter at the front is whole, and has room in the array after k others, and room for its values after the used
 // ones.
 fn takes(s: &[u8], k: usize, used: usize) -> bool
     requires { ⌜ used ≤ most-values ⌝ }
     ensures { λ r. ⌜ r ≡ fitsAt (now (s .entry)) k used ⌝ }
 {
-    if s.len() < Imaged::TRANSFER_HEAD {
-        return false;
-    }
-    let n = transfer_head(s).len as usize;
-    if s.len() - Imaged::TRANSFER_HEAD < n {
+    if !is_whole(s) {
         return false;
     }
     if Transfer::MOST <= k {
         return false;
     }
+    let n = transfer_head(s).len as usize;
     if Transfer::MOST_VALUES - used < n {
         return false;
     }
@@ -132,31 +112,6 @@ fn with_transfers(begun: Record, s: &[u8], count: usize, transfers: usize, taken
         transfers: k,
         used: used,
         octets: i,
-    }
-}
-
-// The head of the common parameter at the front.
-fn common_head(s: &[u8]) -> Common
-    requires { ⌜ common-head ≤ length (now s) ⌝ }
-    ensures { λ r. ⌜ r ≡ commonFront (now (s .entry)) ⌝ }
-{
-    let header = s[0];
-    let first = s[1] as u32;
-    let second = s[2] as u32;
-    let third = s[3] as u32;
-    let fourth = s[4] as u32;
-    let value = first + 256 * second + 65536 * third + 16777216 * fourth;
-    if header == Common::TRANSFER_DATA {
-        return Common {
-            header: header,
-            value: value,
-            transfers: s[5],
-        };
-    }
-    Common {
-        header: header,
-        value: value,
-        transfers: 0,
     }
 }
 

@@ -39,6 +39,7 @@ use Rattle.annex.specs.Records.{
   carriedHead,
   dialledHead,
   numberHead,
+  noTransfer,
   itemFrom,
   pad,
   valuesOf,
@@ -51,6 +52,7 @@ use Rattle.annex.specs.Records.{
   view,
 }
 use Rattle.annex.specs.Writing.{headWriting, itemWriting, overLimits, structOver, transfersHeld}
+use Rattle.annex.specs.Image.{imageHead, headFront, itemSize, commonFront}
 use Rattle.annex.specs.Promises.{Gives, Keeps}
 use Rattle.annex.specs.Bench.{K, recordOfK, recordOfM}
 use Rattle.annex.specs.Walking.{pars, soughtIn, searchIn, commonPlain, stretchAt, cursorTo, stretchHere, rowHere, nextOf}
@@ -263,6 +265,9 @@ rows =
     tests (structOver (pack recordOfK)) (structOver (pack (recordOfK ++ (recordOfK ++ (recordOfK ++ recordOfK))))) ∷  -- over_limits
     gives Answer givenOf (transfersHeld (pack recordOfM)) (transfersHeld (pack recordOfK)) ∷  -- transfers_held
     counts (length (layoutPart (valuePart 0x83 0))) (length (layoutPart (valuePart 0x01 0))) ∷  -- head_len
+    transfers (λ t. t .header) (headFront (0x41 ∷ [])) (headFront (0x42 ∷ [])) ∷  -- transfer_head
+    commons (λ c. c .value) (commonFront (0x06 ∷ 0x11 ∷ [])) (commonFront (0x06 ∷ 0x12 ∷ [])) ∷  -- common_head
+    tests (leb (itemSize (imageHead noTransfer)) (length (imageHead noTransfer))) (leb (itemSize short) (length short)) ∷  -- is_whole
     stores (copying (lent 1) 0 (0x21 ∷ [])) (copying (lent 1) 1 (0x21 ∷ [])) ∷  -- copy_in
     stores (splicing (lent 1) 1 0 1 (0x21 ∷ [])) (splicing (lent 1) 2 0 1 (0x21 ∷ [])) ∷ []  -- splice
 

@@ -91,11 +91,6 @@ head-here c =
     let a = c .before .before .before in
     rw (length-drop (a .loop .i) (octetsOf a)) (c .if2 .left)
 
-common-head-requires : tie.Need-common-head-requires Inv-loop μ-loop
-common-head-requires c κs =
-    let a = c .before .before .before .before in
-    rw (to-end (a .loop .i) (octetsOf a)) (head-here (c .before))
-
 head-is : (c : tie.After-common-head Inv-loop μ-loop) → let a =
     c .before .before .before .before .before in c .common-head .result ≡ commonFront (drop (a .loop .i) (octetsOf a))
 head-is c =
@@ -253,7 +248,7 @@ fill-spec =
     (λ c. search needs)
     (λ c. search needs)
     (λ c. search needs)
-    common-head-requires
+    (λ c κs. search needs)
     add-from
     within
     part-with-transfers-start

@@ -92,11 +92,6 @@ ends c =
     let a = c .before .before .before .before in
     omega (arith, room c .whole, length-drop (a .loop .i) (octetsOf a))
 
-transfer-head-requires : tie.Need-transfer-head-requires Inv-loop μ-loop
-transfer-head-requires c κs =
-    let a = c .before .before .before .before .before in
-    rw (to-end (a .loop .i) (octetsOf a)) (omega (arith, room (c .before) .whole))
-
 head-is : (c : tie.After-transfer-head Inv-loop μ-loop) →
     let a = c .before .before .before .before .before .before in
     c .transfer-head .result ≡ headFront (hereOf a)
@@ -215,7 +210,7 @@ with-transfers-spec =
     (λ c. search needs)
     (λ c. search needs)
     (λ c. search needs)
-    transfer-head-requires
+    (λ c κs. search needs)
     add-from
     (λ c. search needs)
     add-to
