@@ -164,3 +164,8 @@ andThen (Refused k p) f = Refused k p
 abbrev pub shifted : ℕ → Answer → Answer
 shifted s (Accepted n) = Accepted n
 shifted s (Refused k p) = Refused k (s + p)
+
+-- the same answer, a refusal told at the place p
+abbrev pub placedAt : ℕ → Answer → Answer
+placedAt p (Accepted n) = Accepted n
+placedAt p (Refused k q) = Refused k p

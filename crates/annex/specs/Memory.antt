@@ -1,17 +1,20 @@
 -- What lent memory holds after the functions that serve the codec: octets written over others, numbers at the front of lent room, a
 -- stretch of a message replaced in its buffer. No rule of document 01.
 use Prim.Native.Nat.{ℕ, _+_, _-_, _%_}
-use mathlib.Core.Bool.{Bool, _&&_}
-use mathlib.Core.List.{List, _++_, map}
+use mathlib.Core.Bool.{Bool, cond, _&&_}
+use mathlib.Core.List.{List, [], _++_, map}
 use lib.Dec.{leb}
 use lib.ListN.{length, take, drop}
 use lib.Seq.{sets}
 use Rattle.annex.specs.Heads.{most-values}
 use Rattle.annex.specs.Digits.{digitsOf, packed}
-use Rattle.annex.specs.Layout.{layoutItem}
-use Rattle.annex.specs.Records.{itemFrom}
+use Rattle.annex.specs.Layout.{layoutItem, layoutPart}
+use Rattle.annex.specs.Records.{rawPart, itemFrom}
 use Rattle.annex.specs.Editing.{holding}
 use Rattle.annex.specs.declared.Alphabet.{Alphabet}
+use Rattle.annex.specs.declared.Answer.{Answer}
+use Rattle.annex.specs.declared.Answer.the-variants.{Accepted, Refused}
+use Rattle.annex.specs.declared.Common.{Common}
 use Rattle.annex.specs.declared.HalfOctets.{HalfOctets}
 use Rattle.annex.specs.declared.Transfer.{Transfer}
 
@@ -26,6 +29,11 @@ lowOctets xs = map (λ x. x % 256) xs
 -- numbers written at the front of the room, and behind them what it held
 abbrev pub atFront : List ℕ → List ℕ → List ℕ
 atFront xs room = lowOctets xs ++ drop (length xs) room
+
+-- numbers written from index at on where an answer accepts and they fit there; else the room as it was
+abbrev pub laidAt : Answer → List ℕ → ℕ → List ℕ → List ℕ
+laidAt (Accepted n) xs at room = cond (leb (at + length xs) (length room)) (put room at (lowOctets xs)) room
+laidAt (Refused k p) xs at room = room
 
 -- the message in the first n octets of d, with its old octets from index from on replaced by new
 abbrev pub splicedMessage : List ℕ → ℕ → ℕ → ℕ → List ℕ → List ℕ
@@ -72,3 +80,8 @@ unpacking z octets n values used =
 -- layout::put
 abbrev pub laying : Transfer → List ℕ → List ℕ → Request
 laying t vs room = request (leb (length (layoutItem (itemFrom t vs))) (length room)) (atFront (layoutItem (itemFrom t vs)) room) room
+
+-- common::laying::lay_head: a common parameter, its transfer parameters aside, from index at on
+abbrev pub layingHead : Common → List ℕ → ℕ → Request
+layingHead c room at =
+    request (leb (at + length (layoutPart (rawPart c []))) (length room)) (put room at (lowOctets (layoutPart (rawPart c [])))) room

@@ -84,9 +84,13 @@ partWriting times p q =
     (cond (eqb (q .header) transfer-data) (dataWriting p (q .items))
     (Accepted (p + length (layoutPart q)))))))
 
+-- the end mark at the place p: 6, or the place behind it. whole: 01 and 06 have been seen
+abbrev pub endWriting : Bool → ℕ → Answer
+endWriting whole p = refuse (not whole) missing p (Accepted (p + 1))
+
 -- the parameters from the place p on, and the end mark: 6, or the message's length
 unfoldable pub partsWriting : Seen → ℕ → List Part → Answer
-partsWriting seen p [] = refuse (not (wholeIn seen)) missing p (Accepted (p + 1))
+partsWriting seen p [] = endWriting (wholeIn seen) p
 partsWriting seen p (q ∷ qs) =
     andThen (partWriting (timesSeen seen (q .header)) p q) (λ p′. partsWriting (counted seen (q .header)) p′ qs)
 

@@ -1,9 +1,8 @@
--- Writing from a place farther on gives the same answer, farther on: no test of writing looks at the place. A transfer parameter is refused
+-- Writing from a place on tells of it what is judged at place 0: no test of writing looks at the place, and a transfer parameter is refused
 -- at its header.
 use Prim.Native.Nat.{ℕ, _+_, _≤_}
-use native.Mathlib.Nat.{add-zero}
 use native.Mathlib.Omega.{arith}
-use mathlib.Core.Path.{_≡_, refl, sym, ap, _∙_}
+use mathlib.Core.Path.{_≡_, refl, ap}
 use mathlib.Core.Bool.{Bool, true, false, not}
 use lib.Dec.{leb}
 use lib.ListN.{length}
@@ -20,41 +19,30 @@ use Rattle.annex.specs.declared.Fault.{Fault}
 use Rattle.annex.specs.declared.Fault.the-variants.{Sound, Bad}
 use Rattle.laws.specs.Steps.{head-refuse, PlaceTo, accepted-place, refuse-place, head-place, sound-place}
 
--- the answer s places farther on: the place behind what was written, or the place of the refusal
-abbrev pub farther : ℕ → Answer → Answer
-farther s (Accepted p) = Accepted (s + p)
-farther s (Refused k p) = Refused k (s + p)
+-- what was judged at place 0, told of the place s: the place behind what was written, or the place of the refusal
+abbrev pub toldAt : ℕ → Answer → Answer
+toldAt s (Accepted n) = Accepted (s + n)
+toldAt s (Refused k p) = Refused k s
 
-refuse-farther : (s : ℕ) (b : Bool) (k p : ℕ) (a c : Answer) → a ≡ farther s c → refuse b k (s + p) a ≡ farther s (refuse b k p c)
-refuse-farther s true k p a c e = refl
-refuse-farther s false k p a c e = e
+pub refuse-told : (s : ℕ) (b : Bool) (k : ℕ) (a c : Answer) → a ≡ toldAt s c → refuse b k s a ≡ toldAt s (refuse b k 0 c)
+refuse-told s true k a c e = refl
+refuse-told s false k a c e = e
 
--- a placing, and the same farther on
-sound-farther : (s : ℕ) (there here : ℕ → ℕ → ℕ) (f : Fault) (a c : Answer) → ((k i : ℕ) → there k i ≡ s + here k i) → a ≡ farther s c
-    → soundThen there f a ≡ farther s (soundThen here f c)
-sound-farther s there here Sound a c h e = e
-sound-farther s there here (Bad k i) a c h e = ap (λ (p : ℕ). Refused k p) (h k i)
+sound-told : (s : ℕ) (f : Fault) (a c : Answer) → a ≡ toldAt s c → soundThen (headerAt s) f a ≡ toldAt s (soundThen (headerAt 0) f c)
+sound-told s Sound a c e = e
+sound-told s (Bad k i) a c e = refl
 
-module _ (s : ℕ) where
-  item-farther : (times p : ℕ) (i : Item) → itemWriting times (s + p) i ≡ farther s (itemWriting times p i)
-  unfolding itemWriting
-  item-farther times p i =
-      let e : s + p + length (layoutItem i) ≡ s + (p + length (layoutItem i)) = omega arith in
-      let o = head-refuse (i .header) in
-      rw (o .2 (s + p), o .2 p)
-      (refuse-farther s (o .0) (o .1) p _ _
-      (refuse-farther s (leb (oftenOf (nameOf (i .header))) times) _ p _ _
-      (refuse-farther s (not (lengthRight i)) _ p _ _
-      (sound-farther s (headerAt (s + p)) (headerAt p) (faultIn i) _ (Accepted (p + length (layoutItem i))) (λ k j. refl)
-      (ap Accepted e)))))
-
--- ---- so what is written from a place on is told by what would be written from the start
-
-from-start : (f : ℕ → Answer) → ((s p : ℕ) → f (s + p) ≡ farther s (f p)) → (p : ℕ) → f p ≡ farther p (f 0)
-from-start f h p = ap f (sym (add-zero p)) ∙ h p 0
-
-pub item-from : (times p : ℕ) (i : Item) → itemWriting times p i ≡ farther p (itemWriting times 0 i)
-item-from times p i = from-start (λ q. itemWriting times q i) (λ s q. item-farther s times q i) p
+pub item-told : (times s : ℕ) (i : Item) → itemWriting times s i ≡ toldAt s (itemWriting times 0 i)
+unfolding itemWriting
+item-told times s i =
+    let o = head-refuse (i .header) in
+    let e : length (layoutItem i) ≡ 0 + length (layoutItem i) = omega arith in
+    rw (o .2 s, o .2 0)
+    (refuse-told s (o .0) (o .1) _ _
+    (refuse-told s (leb (oftenOf (nameOf (i .header))) times) _ _ _
+    (refuse-told s (not (lengthRight i)) _ _ _
+    (sound-told s (faultIn i) _ (Accepted (0 + length (layoutItem i)))
+    (ap (λ (n : ℕ). Accepted (s + n)) e)))))
 
 -- ---- a refusal's place
 

@@ -6,8 +6,8 @@ use mathlib.Core.List.{List, [], _∷_, _++_, map-append, append-nil, append-ass
 use borrow.Rule.Slice.PartMut.{putMid}
 use lib.ListN.{length, take, drop, set, length-append, length-drop}
 use lib.Seq.{sets}
-use Rattle.annex.specs.Memory.{lowOctets, atFront}
-use Rattle.laws.specs.Written.{length-low, written-length, written-then}
+use Rattle.annex.specs.Memory.{put, lowOctets, atFront}
+use Rattle.laws.specs.Written.{length-low, written-length, put-behind, put-part}
 use Rattle.laws.specs.Fronts.{front-all}
 use Rattle.laws.specs.Parts.{to-end}
 use Rattle.laws.specs.Stores.{sets-snoc}
@@ -54,20 +54,20 @@ module _ {w room whole left : List ℕ} {at : ℕ} (y : Laid w room whole left a
     pub laid-room : length xs ≤ length (take (length room - at) (drop at room))
     laid-room = rw (to-end at room, length-drop at room) (omega (arith, laid-fits))
 
-    -- the room from `at` on is lent, and xs written at its front
-    pub laid-turn : (ys : List ℕ) (n : ℕ) → ys ≡ atFront xs (take (length room - at) (drop at room)) → n ≡ length xs
-        → Laid w (putMid at (length room - at) room ys) whole rest (at + n)
-    laid-turn ys n f g =
-        let low = lowOctets (y .done) in
-        let k : at ≡ length low = y .out ∙ sym (length-low (y .done)) in
-        let few : length (y .done) + length xs ≤ length w = omega (arith, laid-fits, laid-length, y .out) in
-        let r : room ≡ sets w 0 low = y .so-far ∙ stored w (y .done) (omega arith) in
+    -- xs written from `at` on
+    pub laid-put : (n : ℕ) → n ≡ length xs → Laid w (put room at (lowOctets xs)) whole rest (at + n)
+    laid-put n g =
         record {
           done = y .done ++ xs;
           out = rw (length-append (y .done) xs) (omega (arith, y .out));
           parts = y .parts ∙ rw e (sym (append-assoc (y .done) xs rest));
-          so-far = rw (k, r) (written-then w low (y .done) xs ys refl few (rw (k, r) at f));
+          so-far = rw (y .out, y .so-far) (put-behind w (y .done) xs);
         }
+
+    -- the room from `at` on is lent, and xs written at its front
+    pub laid-turn : (ys : List ℕ) (n : ℕ) → ys ≡ atFront xs (take (length room - at) (drop at room)) → n ≡ length xs
+        → Laid w (putMid at (length room - at) room ys) whole rest (at + n)
+    laid-turn ys n f g = rw (put-part room xs ys at laid-at f) (laid-put n g)
 
   -- the last octet is stored
   pub laid-last : (x : ℕ) → left ≡ x ∷ [] → set room at (x % 256) ≡ atFront whole w

@@ -11,20 +11,7 @@ use lib.Seq.{sets, sets-eq, take-at, drop-append-add, drop-drop}
 use Rattle.annex.specs.Allowed.{every, isOctet}
 use Rattle.annex.specs.Promises.{Stores}
 use Rattle.annex.specs.Memory.{lowOctets, atFront, put}
-use Rattle.laws.specs.Written.{low-octets, length-low, written-length}
-
-put-behind : (room first s : List ℕ) → every isOctet s ≡ true → put (atFront first room) (length first) s ≡ atFront (first ++ s) room
-unfolding put
-put-behind room first s o =
-    let low = lowOctets first in
-    let n = length first in
-    let l : length low ≡ n = length-low first in
-    let before : take n (atFront first room) ≡ low = take-at low (drop n room) n l in
-    let behind : drop (n + length s) (atFront first room) ≡ drop (length (first ++ s)) room =
-    ap (λ (k : ℕ). drop (k + length s) (atFront first room)) (sym l) ∙ drop-append-add low (drop n room) (length s)
-    ∙ drop-drop (length s) n room ∙ ap (λ (k : ℕ). drop k room) (sym (length-append first s)) in
-    let same : lowOctets (first ++ s) ≡ low ++ s = map-append (λ x. x % 256) first s ∙ ap (λ (t : List ℕ). low ++ t) (low-octets s o) in
-    rw (before, behind, same) (sym (append-assoc low s (drop (length (first ++ s)) room)))
+use Rattle.laws.specs.Written.{low-octets, written-length, put-behind}
 
 module _ (d : List ℕ) (at : ℕ) (s ys : List ℕ) (b : Bool) (fits : at + length s ≤ length d)
     (c : Stores (leb (at + length s) (length d)) (put d at s) d b ys) where
@@ -46,7 +33,8 @@ pub copied-behind : (room first s w ys : List ℕ) (b : Bool) → length first +
     → ys ≡ atFront (first ++ s) room
 copied-behind room first s w ys b h o e c =
     let l : length w ≡ length room = ap (λ (t : List ℕ). length t) e ∙ written-length room first (omega arith) in
-    copied w (length first) s ys b (omega arith) c ∙ rw e (put-behind room first s o)
+    copied w (length first) s ys b (omega arith) c
+    ∙ rw e (ap (put (atFront first room) (length first)) (sym (low-octets s o)) ∙ put-behind room first s)
 
 -- at the front
 pub copied-front : (room s ys : List ℕ) (b : Bool) → length s ≤ length room → every isOctet s ≡ true

@@ -8,9 +8,9 @@ use borrow.Author.Tests.{eqb-true, ne-eqb}
 use lib.Dec.{eqb}
 use lib.ListN.{length}
 use Rattle.annex.specs.Heads.{transfer-data, isCall}
-use Rattle.annex.specs.Items.{Item, valuePart}
+use Rattle.annex.specs.Items.{Item}
 use Rattle.annex.specs.Layout.{layoutItems, callOctets, dataOctets, layoutPart}
-use Rattle.annex.specs.Records.{valueHead}
+use Rattle.annex.specs.Records.{rawPart}
 use Rattle.annex.specs.declared.Common.{Common}
 use Rattle.limits.specs.Along.{partFrom}
 
@@ -25,35 +25,25 @@ head-long h = go (isCall h)
     go true = omega arith
     go false = omega arith
 
--- one that is no C5
-abbrev pub headOctets : Common → List ℕ
-headOctets c = c .header ∷ cond (isCall (c .header)) (callOctets (c .value)) (c .value ∷ [])
-
 -- C5
 abbrev pub dataLaid : List Item → List ℕ
 dataLaid is = transfer-data ∷ dataOctets (layoutItems is)
 
-pub length-head : (c : Common) → length (headOctets c) ≡ headLength (c .header)
-length-head c = go (isCall (c .header))
-  where
-    go : (b : Bool) → suc (length (cond b (callOctets (c .value)) (c .value ∷ []))) ≡ cond b 4 2
-    go true = refl
-    go false = refl
-
--- as many as one with no transfer parameters is laid out to
-pub head-laid : (h : ℕ) → length (layoutPart (valuePart h 0)) ≡ headLength h
+-- as many as it is laid out to
+pub head-laid : (c : Common) → length (layoutPart (rawPart c [])) ≡ headLength (c .header)
 unfolding layoutPart layoutItems
-head-laid h = go (eqb h transfer-data) refl
+head-laid c = go (eqb (c .header) transfer-data) refl (isCall (c .header)) refl
   where
-    go : (a : Bool) → eqb h transfer-data ≡ a
-        → suc (length (cond a (dataOctets (layoutItems [])) (cond (isCall h) (callOctets 0) (0 ∷ [])))) ≡ headLength h
-    go true e = rw (eqb-true h transfer-data e)
-    go false e = length-head (valueHead h 0)
+    go : (a : Bool) → eqb (c .header) transfer-data ≡ a → (b : Bool) → isCall (c .header) ≡ b
+        → suc (length (cond a (dataOctets (layoutItems [])) (cond b (callOctets (c .value)) (c .value ∷ [])))) ≡ headLength (c .header)
+    go true e b f = rw (eqb-true (c .header) transfer-data e)
+    go false e true f = rw f
+    go false e false f = rw f
 
 module _ (c : Common) (is : List Item) where
-  pub plain-laid : (c .header ≡ transfer-data → ⊥) → layoutPart (partFrom c is) ≡ headOctets c
-  unfolding layoutPart
-  plain-laid u = rw (ne-eqb (c .header) transfer-data u, ne-eqb (c .header) transfer-data u)
+  -- one that is no C5
+  pub plain-laid : (c .header ≡ transfer-data → ⊥) → layoutPart (partFrom c is) ≡ layoutPart (rawPart c [])
+  plain-laid u = rw (ne-eqb (c .header) transfer-data u)
 
   pub data-laid : c .header ≡ transfer-data → layoutPart (partFrom c is) ≡ dataLaid is
   unfolding layoutPart

@@ -32,32 +32,24 @@ use Rattle.annex.specs.declared.Answer.the-variants.{Accepted, Refused}
 use Rattle.annex.specs.declared.Common.{Common}
 use Rattle.laws.specs.Bools.{and-left, and-right}
 use Rattle.laws.specs.Steps.{passed, then-passed, refuse-then}
-use Rattle.laws.specs.Places.{farther, item-from, item-place}
+use Rattle.laws.specs.Places.{toldAt, item-told}
 use Rattle.theorems.specs.Writings.{item-written}
 use Rattle.limits.specs.Along.{partFrom}
-use Rattle.refusing.specs.Laying.{headLength, head-long, length-head, plain-laid}
+use Rattle.refusing.specs.Laying.{headLength, head-long, head-laid, plain-laid}
 
 -- ---- a transfer parameter
-
--- a refusal, told at the place p
-abbrev pub placedAt : ℕ → Answer → Answer
-placedAt p (Accepted n) = Accepted n
-placedAt p (Refused k q) = Refused k p
 
 -- a parameter with the header h, judged at place 0, first among those from the place p on
 module _ (seen : Seen) (p h : ℕ) (i : Item) (is : List Item) (a : Answer) (same : i .header ≡ h)
     (e : itemWriting (timesSeen seen h) 0 i ≡ a) where
-  told : itemsWriting seen p (i ∷ is) ≡ andThen (farther p a) (λ q. itemsWriting (counted seen h) q is)
+  told : itemsWriting seen p (i ∷ is) ≡ andThen (toldAt p a) (λ q. itemsWriting (counted seen h) q is)
   unfolding itemsWriting
   told =
       ap (λ (x : ℕ). andThen (itemWriting (timesSeen seen x) p i) (λ q. itemsWriting (counted seen x) q is)) same
-      ∙ ap (λ (x : Answer). andThen x (λ q. itemsWriting (counted seen h) q is)) (item-from (timesSeen seen h) p i ∙ ap (farther p) e)
+      ∙ ap (λ (x : Answer). andThen x (λ q. itemsWriting (counted seen h) q is)) (item-told (timesSeen seen h) p i ∙ ap (toldAt p) e)
 
   pub items-refused : (k z : ℕ) → a ≡ Refused k z → itemsWriting seen p (i ∷ is) ≡ Refused k p
-  items-refused k z r =
-      let none : z ≡ 0 = omega (arith, item-place (timesSeen seen h) 0 i .at k z (e ∙ r)) in
-      let here : p + z ≡ p = omega arith in
-      rw (told, r) (ap (Refused k) here)
+  items-refused k z r = rw (told, r)
 
   pub items-accepted : (n : ℕ) → a ≡ Accepted n → itemsWriting seen p (i ∷ is) ≡ itemsWriting (counted seen h) (p + n) is
   items-accepted n r = rw (told, r)
@@ -151,7 +143,7 @@ part-checked times p c is =
         ≡ cond b (dataWriting p is) (Accepted (p + headLength (c .header)))
     go true e = rw e
     go false e =
-        ap (λ n. Accepted (p + n)) (ap (λ (l : List ℕ). length l) (plain-laid c is (eqb-false (c .header) transfer-data e)) ∙ length-head c)
+        ap (λ n. Accepted (p + n)) (ap (λ (l : List ℕ). length l) (plain-laid c is (eqb-false (c .header) transfer-data e)) ∙ head-laid c)
 
 -- a common parameter: first without its transfer parameters, then those of C5
 part-stepped : (times p : ℕ) (c : Common) (is : List Item)

@@ -13,6 +13,7 @@ use limits::values_before;
 ghost use mathlib.Core.Path.{_≡_};
 ghost use Prim.Native.Nat.{_+_, _≤_};
 ghost use lib.ListN.{length};
+ghost use Rattle.annex.specs.Answers.{placedAt};
 ghost use Rattle.annex.specs.Promises.{Gives, RecordRefusalPromise};
 ghost use Rattle.annex.specs.Items.{valuePart};
 ghost use Rattle.annex.specs.Layout.{layoutPart};
@@ -21,7 +22,7 @@ ghost use Rattle.annex.specs.Records.{view};
 ghost use Rattle.annex.specs.Walk.{unseen};
 ghost use Rattle.annex.specs.Writing.{itemsWriting, dataWriting, partsWriting};
 ghost use Rattle.limits.specs.Along.{itemsAt, Within, Whole};
-ghost use Rattle.refusing.specs.Refusing.{placedAt, headFits, partHeadWriting, endWriting};
+ghost use Rattle.refusing.specs.Refusing.{headFits, partHeadWriting, endWriting};
 
 // A refusal, told at the place p.
 fn placed(a: Answer, p: usize) -> Answer

@@ -56,7 +56,7 @@ use Rattle.annex.specs.Image.{imageHead, headFront, itemSize, commonFront}
 use Rattle.annex.specs.Promises.{Gives, Keeps}
 use Rattle.annex.specs.Bench.{K, recordOfK, recordOfM}
 use Rattle.annex.specs.Walking.{pars, soughtIn, searchIn, commonPlain, stretchAt, cursorTo, stretchHere, rowHere, nextOf}
-use Rattle.annex.specs.Memory.{Request, put, spliced, copying, splicing, packing, unpacking, laying, valuesFit}
+use Rattle.annex.specs.Memory.{Request, put, spliced, copying, splicing, packing, unpacking, laying, layingHead, valuesFit}
 use Rattle.annex.specs.Opening.{headFor, valuesWith, openedHead, openedValues}
 use Rattle.annex.specs.declared.Alphabet.the-variants.{Dialled, Numbered}
 use Rattle.annex.specs.declared.Answer.{Answer}
@@ -251,6 +251,7 @@ rows =
     tests (isCall 0x83) (isCall 0x04) ∷  -- is_call
     counts (callNumber (0x01 ∷ [])) (callNumber (0x02 ∷ [])) ∷  -- call_value
     lists (callOctets 0x01) (callOctets 0x02) ∷  -- call_octets
+    stores (layingHead (valueHead 0x06 0x11) (lent 2) 0) (layingHead (valueHead 0x06 0x11) (lent 2) 1) ∷  -- lay_head
     finds (stretchAt K 0 (Counted Octet)) (stretchAt [] 0 (Counted Octet)) ∷  -- stretch_at
     gives Row (λ r. r .offset) (rowHere K (cursorTo 0 0)) (rowHere K (cursorTo 2 2)) ∷  -- row_here
     gives Cursor (λ c. c .at) (nextOf K (cursorTo 0 0)) (nextOf K (cursorTo 2 2)) ∷  -- next

@@ -1,34 +1,14 @@
--- The octets of a common parameter as a run of stores: its head, and C5's header and length octet, which are stored last.
-use Prim.Native.Nat.{ℕ, suc, _+_, _-_, _/_, _%_, _<_, _≤_}
+-- The octets of a C5 as a run of stores: its header and length octet are stored last.
+use Prim.Native.Nat.{ℕ, suc, _+_, _-_, _%_, _<_, _≤_}
 use native.Mathlib.Omega.{arith}
 use mathlib.Core.Path.{_≡_}
-use mathlib.Core.Bool.{true, false}
 use mathlib.Core.List.{List, [], _∷_, append-nil}
 use borrow.Rule.Slice.PartMut.{putMid}
 use lib.ListN.{length, take, drop, set}
 use lib.Seq.{take-length, drop-length}
-use Rattle.annex.specs.Heads.{transfer-data, isCall}
+use Rattle.annex.specs.Heads.{transfer-data}
 use Rattle.annex.specs.Layout.{dataOctets}
-use Rattle.annex.specs.Memory.{lowOctets, atFront}
-use Rattle.annex.specs.declared.Common.{Common}
-use Rattle.refusing.specs.Laying.{headOctets}
-
--- the octets of a head, each modulo 256: a call number's are its 24 bits, least octet first
-module _ (c : Common) (octet : c .header < 256) where
-  same : c .header % 256 ≡ c .header
-  same = omega arith
-
-  pub low-call : isCall (c .header) ≡ true
-      → lowOctets (headOctets c) ≡ c .header ∷ c .value % 256 ∷ c .value / 256 % 256 ∷ c .value / 65536 % 256 ∷ []
-  low-call e =
-      let v = c .value in
-      let a : v % 256 % 256 ≡ v % 256 = omega arith in
-      let b : v / 256 % 256 % 256 ≡ v / 256 % 256 = omega arith in
-      let d : v / 65536 % 256 % 256 ≡ v / 65536 % 256 = omega arith in
-      rw (e, same, a, b, d)
-
-  pub low-plain : isCall (c .header) ≡ false → lowOctets (headOctets c) ≡ c .header ∷ c .value % 256 ∷ []
-  low-plain e = rw (e, same)
+use Rattle.annex.specs.Memory.{atFront}
 
 -- C5: its parameters written from the third octet on, then its header and its length octet. Two octets of room stay there for those
 pub two-kept : (room ys : List ℕ) (k x : ℕ) → 2 ≤ length room → 1 < length (set (putMid 2 k room ys) 0 x)

@@ -3,8 +3,7 @@ use annex::Answer;
 use annex::Common;
 use annex::Record;
 use annex::Transfer;
-use common::call::call_octets;
-use common::call::is_call;
+use common::laying::lay_head;
 use layout::contents_len;
 use layout::put;
 use limits::values_before;
@@ -21,7 +20,7 @@ ghost use Rattle.annex.specs.Records.{view, itemFrom};
 ghost use Rattle.annex.specs.Promises.{WritePromise};
 ghost use Rattle.annex.specs.Memory.{atFront};
 ghost use Rattle.limits.specs.Along.{itemsAt, Within, Whole};
-ghost use Rattle.refusing.specs.Laying.{headOctets, dataLaid};
+ghost use Rattle.refusing.specs.Laying.{dataLaid};
 
 // How many octets a transfer parameter takes.
 fn item_len(t: Transfer, values: &[u8]) -> usize
@@ -68,23 +67,6 @@ fn put_data(q: Record, first: usize, n: usize, room: &mut [u8]) -> usize
     whole
 }
 
-// Lays out a common parameter that is no C5.
-fn put_head(c: Common, room: &mut [u8])
-    requires { ⌜ length (headOctets c) ≤ length (now room) ⌝ }
-    ensures { λ r. ⌜ now (room .exit) ≡ atFront (headOctets c) (now (room .entry)) ⌝ }
-{
-    let value = c.value;
-    room[0] = c.header;
-    if is_call(c.header) {
-        let octets = call_octets(value);
-        room[1] = octets[0];
-        room[2] = octets[1];
-        room[3] = octets[2];
-        return;
-    }
-    room[1] = (value % 256) as u8;
-}
-
 // Lays out a record within its limits: its common parameters in their order, then the end mark.
 fn put_parts(q: Record, room: &mut [u8])
     requires { ⌜ Whole q × (length (layout (view q)) ≤ length (now room)) ⌝ }
@@ -98,7 +80,7 @@ fn put_parts(q: Record, room: &mut [u8])
         let c = q.common[k];
         k += 1;
         if c.header != Common::TRANSFER_DATA {
-            put_head(c, &mut room[at..]);
+            lay_head(c, room, at);
             at += head_len(c.header);
             continue;
         }

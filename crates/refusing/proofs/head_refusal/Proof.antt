@@ -5,6 +5,7 @@ use mathlib.Core.Bool.{true}
 use borrow.Author.Needs.{needs}
 use borrow.Author.Tests.{ne-eqb, lt-ltb, le-ltb, not-true, not-false}
 use Rattle.annex.specs.Heads.{among, commonHeaders}
+use Rattle.annex.specs.Records.{valueHead}
 use Rattle.refusing.specs.Laying.{headLength, head-laid, head-long}
 use Rattle.refusing.proofs.head_refusal.Statement.{statement}
 use Rattle.refusing.proofs.head_refusal.Tie as tie
@@ -50,7 +51,7 @@ returns-5 c =
 
 head-is : (c : tie.After-head-len) →
     c .head-len .result ≡ headLength (c .before .before .before .before .before .before .before .before .before .args .c .header)
-head-is c = c .head-len .ensures ∙ head-laid _
+head-is c = c .head-len .ensures ∙ head-laid (valueHead _ 0)
 
 add-end : tie.Need-add-end
 add-end c =

@@ -5,11 +5,13 @@ use native.Mathlib.Omega.{arith}
 use mathlib.Core.Path.{_≡_, refl, sym, ap, _∙_}
 use mathlib.Core.List.{List, [], _∷_, _++_}
 use borrow.Author.Needs.{needs}
+use borrow.Author.Tests.{le-leb}
 use lib.ListN.{length, length-set}
 use Rattle.annex.specs.Heads.{end-mark, most-commons}
 use Rattle.annex.specs.Items.{Part}
 use Rattle.annex.specs.Layout.{layoutPart, layout}
-use Rattle.annex.specs.Records.{transfersSum, commonsIn, view}
+use Rattle.annex.specs.Memory.{put, lowOctets}
+use Rattle.annex.specs.Records.{valueHead, transfersSum, rawPart, commonsIn, view}
 use Rattle.limits.specs.Along.{
   partFrom,
   commonAt,
@@ -24,8 +26,8 @@ use Rattle.limits.specs.Along.{
   data-turn,
   length-mapped,
 }
-use Rattle.refusing.specs.Laying.{headOctets, dataLaid, length-head, head-laid, plain-laid, data-laid}
-use Rattle.laws.specs.Rooms.{Laid, laid-start, laid-length, laid-at, laid-fits, laid-room, laid-turn, laid-last}
+use Rattle.refusing.specs.Laying.{dataLaid, head-laid, plain-laid, data-laid}
+use Rattle.laws.specs.Rooms.{Laid, laid-start, laid-length, laid-at, laid-fits, laid-room, laid-put, laid-turn, laid-last}
 use Rattle.writer.proofs.put_parts.Statement.{statement}
 use Rattle.writer.proofs.put_parts.Tie as tie
 
@@ -77,11 +79,16 @@ plain-here c =
     let a = i .before in
     plain-turn (a .before .before .args .t1) (a .loop .k) (i .loop-test .taken) (long a) (a .loop .first) (a .loop .inv .1) (c .if1 .taken)
 
+abbrev headAt : (c : tie.Then1 Inv-loop μ-loop) → List ℕ
+headAt c =
+    let a = c .before .before .before .before in
+    layoutPart (rawPart (commonAt (a .before .before .args .t1) (a .loop .k)) [])
+
 plain-left : (c : tie.Then1 Inv-loop μ-loop) →
     let a = c .before .before .before .before in
     let q = a .before .before .args .t1 in
     layout (partsAt q (a .loop .k) (a .loop .first))
-    ≡ headOctets (commonAt q (a .loop .k)) ++ layout (partsAt q (a .loop .k + 1) (a .loop .first))
+    ≡ headAt c ++ layout (partsAt q (a .loop .k + 1) (a .loop .first))
 plain-left c =
     let a = c .before .before .before .before in
     let q = a .before .before .args .t1 in
@@ -116,38 +123,32 @@ data-left c =
     ap layout (data-here c .parts) ∙ layout-cons (partFrom h is) rest
     ∙ ap (λ (l : List ℕ). l ++ layout rest) (data-laid h is (c .if1 .left))
 
-sub-put-head : tie.Need-sub-put-head Inv-loop μ-loop
-sub-put-head c =
+-- there is room for them, so they are laid out
+head-fits : (c : tie.Then1 Inv-loop μ-loop) →
+    let l = c .before .before .before .before .loop in
+    l .at + length (headAt c) ≤ length (l .room)
+head-fits c =
     let a = c .before .before .before .before in
-    laid-at (a .loop .inv .2) (a .before .before .pre .1)
+    laid-fits (a .loop .inv .2) (a .before .before .pre .1) (headAt c) _ (plain-left c)
 
-put-head-requires : tie.Need-put-head-requires Inv-loop μ-loop
-put-head-requires c κs =
-    let t = c .before in
-    let a = t .before .before .before .before in
-    laid-room (a .loop .inv .2) (a .before .before .pre .1) (headOctets (commonAt (a .before .before .args .t1) (a .loop .k))) _
-    (plain-left t)
+head-put : (c : tie.After-lay-head Inv-loop μ-loop) →
+    let t = c .before .before in
+    let l = t .before .before .before .before .loop in
+    c .lay-head .last .1 .0 ≡ put (l .room) (l .at) (lowOctets (headAt t))
+head-put c = c .lay-head .ensures .1 ∙ rw (c .lay-head .ensures .0 ∙ le-leb _ _ (head-fits (c .before .before)))
 
 -- how many octets it takes
-head-is : (c : tie.After-head-len Inv-loop μ-loop) →
-    let a = c .before .before .before .before .before .before .before .before .before in
-    c .head-len .result ≡ length (headOctets (commonAt (a .before .before .args .t1) (a .loop .k)))
+head-is : (c : tie.After-head-len Inv-loop μ-loop) → c .head-len .result ≡ length (headAt (c .before .before .before .before .before))
 head-is c =
     let a = c .before .before .before .before .before .before .before .before .before in
-    c .head-len .ensures ∙ head-laid _ ∙ sym (length-head (commonAt (a .before .before .args .t1) (a .loop .k)))
+    c .head-len .ensures ∙ head-laid (valueHead _ 0) ∙ sym (head-laid (commonAt (a .before .before .args .t1) (a .loop .k)))
 
 add-at : tie.Need-add-at Inv-loop μ-loop
 add-at c =
     let t = c .before .before .before .before .before in
     let a = t .before .before .before .before in
     let st = a .before .before in
-    omega (
-      arith,
-      head-is c,
-      laid-fits (a .loop .inv .2) (st .pre .1) (headOctets (commonAt (st .args .t1) (a .loop .k))) _ (plain-left t),
-      laid-length (a .loop .inv .2) (st .pre .1),
-      st .good,
-    )
+    omega (arith, head-is c, head-fits t, laid-length (a .loop .inv .2) (st .pre .1), st .good)
 
 loop-less : tie.Need-loop-less Inv-loop μ-loop
 loop-less c = omega (arith, c .before .before .before .before .before .before .before .before .loop-test .taken)
@@ -161,8 +162,7 @@ loop-again c =
     let st = a .before .before in (
       omega (arith, i .loop-test .taken),
       plain-here t .sum,
-      laid-turn (a .loop .inv .2) (st .pre .1) (headOctets (commonAt (st .args .t1) (a .loop .k))) _ (plain-left t)
-          (p .put-head .last .1 .0) (c .head-len .result) (p .put-head .ensures) (head-is c),
+      rw (head-put p) (laid-put (a .loop .inv .2) (st .pre .1) (headAt t) _ (plain-left t) (c .head-len .result) (head-is c)),
     )
 
 sub-put-data : tie.Need-sub-put-data Inv-loop μ-loop
@@ -244,10 +244,7 @@ put-parts-spec =
     mul-c
     element-copy-out-c
     add-k
-    sub-put-head
-    sub-put-head
-    (λ c. search needs)
-    put-head-requires
+    (λ c κs. search needs)
     (λ c κs. search needs)
     add-at
     loop-less

@@ -1,0 +1,27 @@
+// Laying a common parameter out, its transfer parameters aside, within lent room.
+use crate::call::call_octets;
+use crate::call::is_call;
+use annex::Common;
+use octets::copy_in;
+ghost use Rattle.annex.specs.Memory.{layingHead};
+ghost use Rattle.annex.specs.Promises.{Keeps};
+
+// Writes the parameter from index at on, each number modulo 256: its header, and a call number's octets or its own; of a C5 the length octet
+// 0. Where the room is too short, nothing.
+pub fn lay_head(c: Common, room: &mut [u8], at: usize) -> bool
+    ensures { λ r. ⌜ Keeps (layingHead c (now (room .entry)) at) r (now (room .exit)) ⌝ }
+{
+    let header = c.header;
+    let value = c.value;
+    if header == Common::TRANSFER_DATA {
+        let octets = [header, 0];
+        return copy_in(room, at, &octets);
+    }
+    if is_call(header) {
+        let own = call_octets(value);
+        let octets = [header, own[0], own[1], own[2]];
+        return copy_in(room, at, &octets);
+    }
+    let octets = [header, (value % 256) as u8];
+    copy_in(room, at, &octets)
+}
