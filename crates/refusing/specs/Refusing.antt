@@ -1,9 +1,9 @@
--- The steps of refusing a record, as the code takes them: a transfer parameter is judged at place 0, and a common parameter without its
--- transfer parameters first.
+-- The steps of refusing a record, as the code takes them: each parameter is judged at place 0, and a common parameter without its transfer
+-- parameters first.
 use Prim.Native.Nat.{ℕ, _+_, _-_, _≤_}
 use native.Mathlib.Omega.{arith}
 use mathlib.Core.Path.{_≡_, refl, sym, ap, _∙_}
-use mathlib.Core.Bool.{Bool, true, false, cond, not, _&&_}
+use mathlib.Core.Bool.{Bool, true, false, cond, not}
 use mathlib.Core.List.{List, [], _∷_}
 use borrow.Author.Tests.{ltb-true, ltb-false, eq-eqb, ne-eqb, eqb-true, eqb-false}
 use lib.Dec.{eqb, ltb}
@@ -15,27 +15,25 @@ use Rattle.annex.specs.Heads.{
   user-class,
   signal-kind,
   signalKinds,
-  sequence,
   transfer-data,
-  isCall,
-  call-number-below,
   most-transfer-octets,
 }
 use Rattle.annex.specs.Items.{Item, Part}
 use Rattle.annex.specs.Layout.{layoutItems, layoutPart}
 use Rattle.annex.specs.Allowed.{every, isOctet, valueRight, valueFits}
 use Rattle.annex.specs.Walk.{Seen, unseen, timesSeen, counted}
-use Rattle.annex.specs.Reading.{octetAllowed}
-use Rattle.annex.specs.Writing.{itemWriting, itemsWriting, dataWriting, partWriting, partsWriting}
+use Rattle.annex.specs.Reading.{octetAllowed, wholeIn}
+use Rattle.annex.specs.Records.{rawPart}
+use Rattle.annex.specs.Writing.{itemWriting, itemsWriting, dataWriting, partWriting, endWriting, partsWriting}
 use Rattle.annex.specs.declared.Answer.{Answer}
 use Rattle.annex.specs.declared.Answer.the-variants.{Accepted, Refused}
 use Rattle.annex.specs.declared.Common.{Common}
 use Rattle.laws.specs.Bools.{and-left, and-right}
 use Rattle.laws.specs.Steps.{passed, then-passed, refuse-then}
-use Rattle.laws.specs.Places.{toldAt, item-told}
+use Rattle.laws.specs.Places.{toldAt, refuse-told, item-told}
 use Rattle.theorems.specs.Writings.{item-written}
 use Rattle.limits.specs.Along.{partFrom}
-use Rattle.refusing.specs.Laying.{headLength, head-long, head-laid, plain-laid}
+use Rattle.refusing.specs.Laying.{headLength, head-laid, plain-laid}
 
 -- ---- a transfer parameter
 
@@ -89,10 +87,6 @@ octet-over h v o u = rw (ne-eqb h user-class u, among-over signalKinds refl v o)
     go true = refl
     go false = refl
 
--- by its head: 04 one octet, call numbers 24 bits
-abbrev pub headFits : Common → Bool
-headFits c = cond (eqb (c .header) sequence) (isOctet (c .value)) (cond (isCall (c .header)) (ltb (c .value) call-number-below) true)
-
 module _ (c : Common) (is : List Item) where
   part-header : partFrom c is .header ≡ c .header
   part-header = go (eqb (c .header) transfer-data) refl
@@ -110,26 +104,41 @@ module _ (c : Common) (is : List Item) where
       go true e = rw (e, eqb-true (c .header) transfer-data e)
       go false e = rw e
 
-  part-fits : valueFits (partFrom c is) ≡ headFits c
+  part-fits : valueFits (partFrom c is) ≡ valueFits (rawPart c [])
   unfolding valueFits
   part-fits = go (eqb (c .header) transfer-data) refl
     where
-      go : (b : Bool) → eqb (c .header) transfer-data ≡ b → valueFits (partFrom c is) ≡ headFits c
+      go : (b : Bool) → eqb (c .header) transfer-data ≡ b → valueFits (partFrom c is) ≡ valueFits (rawPart c [])
       go true e = rw (e, eqb-true (c .header) transfer-data e)
       go false e = rw e
 
 -- the tests of a common parameter, 2, 3, 5 and 12, before what then follows
-abbrev headThen : ℕ → ℕ → Common → Answer → Answer
+abbrev pub headThen : ℕ → ℕ → Common → Answer → Answer
 headThen times p c a =
     refuse (not (among (c .header) commonHeaders)) unlisted p
     (refuse (ltb 0 times) repeated p
     (refuse (not (octetAllowed (c .header) (c .value))) not-allowed p
-    (refuse (not (headFits c)) bad-form p
+    (refuse (not (valueFits (rawPart c []))) bad-form p
     a)))
 
--- a common parameter, its transfer parameters aside: refused, or the place behind it
-abbrev pub partHeadWriting : ℕ → ℕ → Common → Answer
-partHeadWriting times p c = headThen times p c (Accepted (p + headLength (c .header)))
+-- at the place 0, its transfer parameters aside: refused, or how many octets it takes
+pub head-checked : (times : ℕ) (c : Common) → partWriting times 0 (rawPart c []) ≡ headThen times 0 c (Accepted (headLength (c .header)))
+unfolding partWriting dataWriting itemsWriting valueRight octetAllowed
+head-checked times c = ap (headThen times 0 c) (go (eqb (c .header) transfer-data) refl)
+  where
+    go : (b : Bool) → eqb (c .header) transfer-data ≡ b
+        → cond b (dataWriting 0 []) (Accepted (0 + length (layoutPart (rawPart c [])))) ≡ Accepted (headLength (c .header))
+    go true e = rw (eqb-true (c .header) transfer-data e)
+    go false e = ap Accepted (omega (arith, head-laid c))
+
+-- told of the place p
+head-told : (times p n : ℕ) (c : Common) → headThen times p c (Accepted (p + n)) ≡ toldAt p (headThen times 0 c (Accepted n))
+head-told times p n c =
+    refuse-told p (not (among (c .header) commonHeaders)) unlisted _ _
+    (refuse-told p (ltb 0 times) repeated _ _
+    (refuse-told p (not (octetAllowed (c .header) (c .value))) not-allowed _ _
+    (refuse-told p (not (valueFits (rawPart c []))) bad-form _ (Accepted n)
+    refl)))
 
 part-checked : (times p : ℕ) (c : Common) (is : List Item)
     → partWriting times p (partFrom c is)
@@ -148,22 +157,25 @@ part-checked times p c is =
 -- a common parameter: first without its transfer parameters, then those of C5
 part-stepped : (times p : ℕ) (c : Common) (is : List Item)
     → partWriting times p (partFrom c is)
-    ≡ andThen (partHeadWriting times p c) (λ n. cond (eqb (c .header) transfer-data) (dataWriting p is) (Accepted n))
+    ≡ andThen (toldAt p (partWriting times 0 (rawPart c [])))
+    (λ n. cond (eqb (c .header) transfer-data) (dataWriting p is) (Accepted n))
 part-stepped times p c is =
-    let f : ℕ → Answer = λ n. cond (eqb (c .header) transfer-data) (dataWriting p is) (Accepted n) in
-    let e : andThen (partHeadWriting times p c) f ≡ headThen times p c (f (p + headLength (c .header))) = simp refuse-then in
-    part-checked times p c is ∙ sym e
+    let n = headLength (c .header) in
+    let f : ℕ → Answer = λ m. cond (eqb (c .header) transfer-data) (dataWriting p is) (Accepted m) in
+    let e : andThen (headThen times p c (Accepted (p + n))) f ≡ headThen times p c (f (p + n)) = simp refuse-then in
+    part-checked times p c is ∙ sym e ∙ ap (λ (a : Answer). andThen a f) (head-told times p n c ∙ ap (toldAt p) (sym (head-checked times c)))
 
 -- what an accepted head says
-pub part-head-passed : (times p : ℕ) (c : Common) (n : ℕ) → partHeadWriting times p c ≡ Accepted n → (times ≡ 0) × (n ≤ p + 4)
-part-head-passed times p c n e =
-    let e₁ = passed (not (among (c .header) commonHeaders)) _ p n _ e in
-    let e₂ = passed (ltb 0 times) _ p n _ (e₁ .1) in
-    let e₃ = passed (not (octetAllowed (c .header) (c .value))) _ p n _ (e₂ .1) in
-    let e₄ = passed (not (headFits c)) _ p n (Accepted (p + headLength (c .header))) (e₃ .1) in
-    let end : Accepted (p + headLength (c .header)) ≡ Accepted n = e₄ .1 in
-    let same : p + headLength (c .header) ≡ n = cc in
-    (omega (arith, ltb-false 0 times (e₂ .0)), omega (arith, head-long (c .header) .1))
+pub part-head-passed : (times : ℕ) (c : Common) (n : ℕ) → partWriting times 0 (rawPart c []) ≡ Accepted n
+    → (times ≡ 0) × (n ≡ headLength (c .header))
+part-head-passed times c n e =
+    let e₁ = passed (not (among (c .header) commonHeaders)) _ 0 n _ (sym (head-checked times c) ∙ e) in
+    let e₂ = passed (ltb 0 times) _ 0 n _ (e₁ .1) in
+    let e₃ = passed (not (octetAllowed (c .header) (c .value))) _ 0 n _ (e₂ .1) in
+    let e₄ = passed (not (valueFits (rawPart c []))) _ 0 n (Accepted (headLength (c .header))) (e₃ .1) in
+    let end : Accepted (headLength (c .header)) ≡ Accepted n = e₄ .1 in
+    let same : headLength (c .header) ≡ n = cc in
+    (omega (arith, ltb-false 0 times (e₂ .0)), sym same)
 
 -- and what accepted transfer data says
 pub data-passed : (p : ℕ) (is : List Item) (n : ℕ) → dataWriting p is ≡ Accepted n → n ≤ p + 257
@@ -177,53 +189,46 @@ data-passed p is n e =
     let same : t .0 ≡ n = cc in
     omega (arith, ltb-false most-transfer-octets (t .0 - (p + 2)) (o .0))
 
--- a common parameter with these transfer parameters, first among those from the place p on
-module _ (seen : Seen) (p : ℕ) (c : Common) (is : List Item) (ps : List Part) where
+-- a common parameter with these transfer parameters, its head judged at place 0, first among those from the place p on
+module _ (seen : Seen) (p : ℕ) (c : Common) (is : List Item) (ps : List Part) (a : Answer)
+    (e : partWriting (timesSeen seen (c .header)) 0 (rawPart c []) ≡ a) where
   parts-told : partsWriting seen p (partFrom c is ∷ ps)
-      ≡ andThen
-      (andThen (partHeadWriting (timesSeen seen (c .header)) p c)
-      (λ n. cond (eqb (c .header) transfer-data) (dataWriting p is) (Accepted n)))
+      ≡ andThen (andThen (toldAt p a) (λ n. cond (eqb (c .header) transfer-data) (dataWriting p is) (Accepted n)))
       (λ q. partsWriting (counted seen (c .header)) q ps)
   unfolding partsWriting
   parts-told =
       ap (λ (h : ℕ). andThen (partWriting (timesSeen seen h) p (partFrom c is)) (λ q. partsWriting (counted seen h) q ps))
       (part-header c is)
       ∙ ap (λ (x : Answer). andThen x (λ q. partsWriting (counted seen (c .header)) q ps))
-      (part-stepped (timesSeen seen (c .header)) p c is)
+      (part-stepped (timesSeen seen (c .header)) p c is
+      ∙ ap (λ (x : Answer). andThen (toldAt p x) (λ n. cond (eqb (c .header) transfer-data) (dataWriting p is) (Accepted n))) e)
 
-  pub part-head-refused : (k z : ℕ) → partHeadWriting (timesSeen seen (c .header)) p c ≡ Refused k z
-      → partsWriting seen p (partFrom c is ∷ ps) ≡ Refused k z
-  part-head-refused k z e =
-      parts-told
-      ∙ ap
-      (λ (x : Answer). andThen (andThen x (λ n. cond (eqb (c .header) transfer-data) (dataWriting p is) (Accepted n)))
-      (λ q. partsWriting (counted seen (c .header)) q ps)) e
+  pub head-refused : (k z : ℕ) → a ≡ Refused k z → partsWriting seen p (partFrom c is ∷ ps) ≡ Refused k p
+  head-refused k z r = rw (parts-told, r)
 
-  module _ (n : ℕ) (e : partHeadWriting (timesSeen seen (c .header)) p c ≡ Accepted n) where
-    after-head : partsWriting seen p (partFrom c is ∷ ps)
-        ≡ andThen (cond (eqb (c .header) transfer-data) (dataWriting p is) (Accepted n)) (λ q. partsWriting (counted seen (c .header)) q ps)
-    after-head =
-        parts-told
-        ∙ ap
-        (λ (x : Answer). andThen (andThen x (λ m. cond (eqb (c .header) transfer-data) (dataWriting p is) (Accepted m)))
-        (λ q. partsWriting (counted seen (c .header)) q ps)) e
-
+  module _ (n : ℕ) (r : a ≡ Accepted n) where
     pub plain-accepted : (c .header ≡ transfer-data → ⊥)
-        → partsWriting seen p (partFrom c is ∷ ps) ≡ partsWriting (counted seen (c .header)) n ps
-    plain-accepted u = rw (after-head, ne-eqb (c .header) transfer-data u)
+        → partsWriting seen p (partFrom c is ∷ ps) ≡ partsWriting (counted seen (c .header)) (p + n) ps
+    plain-accepted u = rw (parts-told, r, ne-eqb (c .header) transfer-data u)
 
     pub data-refused : (k z : ℕ) → c .header ≡ transfer-data → dataWriting p is ≡ Refused k z
         → partsWriting seen p (partFrom c is ∷ ps) ≡ Refused k z
-    data-refused k z h d = rw (after-head, eq-eqb (c .header) transfer-data h, d)
+    data-refused k z h d = rw (parts-told, r, eq-eqb (c .header) transfer-data h, d)
 
     pub data-accepted : (m : ℕ) → c .header ≡ transfer-data → dataWriting p is ≡ Accepted m
         → partsWriting seen p (partFrom c is ∷ ps) ≡ partsWriting (counted seen (c .header)) m ps
-    data-accepted m h d = rw (after-head, eq-eqb (c .header) transfer-data h, d)
+    data-accepted m h d = rw (parts-told, r, eq-eqb (c .header) transfer-data h, d)
 
--- the end mark: 6 where 01 stood so many times, or 06
-abbrev pub endWriting : ℕ → ℕ → ℕ → Answer
-endWriting class kind p = refuse (not (ltb 0 class && ltb 0 kind)) missing p (Accepted (p + 1))
+-- the end mark
+pub end-told : (whole : Bool) (p : ℕ) → endWriting whole p ≡ toldAt p (endWriting whole 0)
+end-told whole p = refuse-told p (not whole) missing (Accepted (p + 1)) (Accepted 1) refl
 
-pub parts-over : (seen : Seen) (p : ℕ) → partsWriting seen p [] ≡ endWriting (timesSeen seen user-class) (timesSeen seen signal-kind) p
+pub end-passed : (whole : Bool) (n : ℕ) → endWriting whole 0 ≡ Accepted n → n ≡ 1
+end-passed whole n e =
+    let t : Accepted 1 ≡ Accepted n = passed (not whole) missing 0 n (Accepted 1) e .1 in
+    let same : 1 ≡ n = cc in
+    sym same
+
+pub parts-over : (seen : Seen) (p : ℕ) → partsWriting seen p [] ≡ endWriting (wholeIn seen) p
 unfolding partsWriting
 parts-over seen p = refl

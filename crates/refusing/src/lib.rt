@@ -11,22 +11,25 @@ use layout::refusal;
 use limits::over_limits;
 use limits::values_before;
 ghost use mathlib.Core.Path.{_≡_};
+ghost use mathlib.Core.Bool.{_&&_};
+ghost use mathlib.Core.List.{[]};
 ghost use Prim.Native.Nat.{_+_, _≤_};
+ghost use lib.Dec.{ltb};
 ghost use lib.ListN.{length};
 ghost use Rattle.annex.specs.Answers.{placedAt};
 ghost use Rattle.annex.specs.Promises.{Gives, RecordRefusalPromise};
 ghost use Rattle.annex.specs.Items.{valuePart};
 ghost use Rattle.annex.specs.Layout.{layoutPart};
+ghost use Rattle.annex.specs.Allowed.{valueFits};
 ghost use Rattle.annex.specs.Reading.{octetAllowed};
-ghost use Rattle.annex.specs.Records.{view};
+ghost use Rattle.annex.specs.Records.{rawPart, view};
 ghost use Rattle.annex.specs.Walk.{unseen};
-ghost use Rattle.annex.specs.Writing.{itemsWriting, dataWriting, partsWriting};
+ghost use Rattle.annex.specs.Writing.{itemsWriting, dataWriting, partWriting, endWriting, partsWriting};
 ghost use Rattle.limits.specs.Along.{itemsAt, Within, Whole};
-ghost use Rattle.refusing.specs.Refusing.{headFits, partHeadWriting, endWriting};
 
-// A refusal, told at the place p.
-fn placed(a: Answer, p: usize) -> Answer
-    ensures { λ r. ⌜ r ≡ placedAt p a ⌝ }
+// The same answer, a refusal told at the place p.
+pub fn placed(a: Answer, p: usize) -> Answer
+    ensures { λ r. ⌜ Gives (placedAt p a) r ⌝ }
 {
     match a {
         Answer::Accepted(n) => Answer::Accepted(n),
@@ -97,7 +100,7 @@ fn value_right(c: Common) -> bool
 
 // Whether the value of 04 is an octet, and a call number has 24 bits.
 fn value_fits(c: Common) -> bool
-    ensures { λ r. ⌜ r ≡ headFits c ⌝ }
+    ensures { λ r. ⌜ r ≡ valueFits (rawPart c []) ⌝ }
 {
     let value = c.value;
     if c.header == Common::SEQUENCE {
@@ -116,44 +119,54 @@ pub fn head_len(header: u8) -> usize
     if is_call(header) { 4 } else { 2 }
 }
 
-// A common parameter, its transfer parameters aside, whose name stood so many times before and whose header stands at the place `at`:
-// 2, 3, 5, a number too large for its bits 12, or the place behind it.
-fn head_refusal(times: u8, c: Common, at: usize) -> Answer
-    requires { ⌜ at ≤ 4096 ⌝ }
-    ensures { λ r. ⌜ r ≡ partHeadWriting times at c ⌝ }
+// A common parameter, its transfer parameters aside, whose name stood so many times before: 2, 3, 5, a number too large for its bits 12, at
+// place 0, or accepted with how many octets it takes.
+pub fn head_refusal(times: u8, c: Common) -> Answer
+    ensures { λ r. ⌜ Gives (partWriting times 0 (rawPart c [])) r ⌝ }
 {
     let header = c.header;
     if header == Common::END_MARK {
-        return Answer::Refused(Answer::UNLISTED, at);
+        return Answer::Refused(Answer::UNLISTED, 0);
     }
     if !listed(header) {
-        return Answer::Refused(Answer::UNLISTED, at);
+        return Answer::Refused(Answer::UNLISTED, 0);
     }
     if 0 < times {
-        return Answer::Refused(Answer::REPEATED, at);
+        return Answer::Refused(Answer::REPEATED, 0);
     }
     if !value_right(c) {
-        return Answer::Refused(Answer::NOT_ALLOWED, at);
+        return Answer::Refused(Answer::NOT_ALLOWED, 0);
     }
     if !value_fits(c) {
-        return Answer::Refused(Answer::BAD_FORM, at);
+        return Answer::Refused(Answer::BAD_FORM, 0);
     }
-    let end = at + head_len(header);
-    Answer::Accepted(end)
+    let len = head_len(header);
+    Answer::Accepted(len)
 }
 
-// The end mark at the place `at`, where 01 and 06 stood so many times: 6, or the place behind it.
-fn end_refusal(class: u8, kind: u8, at: usize) -> Answer
-    requires { ⌜ at ≤ 4096 ⌝ }
-    ensures { λ r. ⌜ r ≡ endWriting class kind at ⌝ }
+// The end mark, where 01 and 06 stood so many times: 6 at place 0, or accepted with its one octet.
+pub fn end_refusal(class: u8, kind: u8) -> Answer
+    ensures { λ r. ⌜ Gives (endWriting (ltb 0 class && ltb 0 kind) 0) r ⌝ }
 {
     if class == 0 {
-        return Answer::Refused(Answer::MISSING, at);
+        return Answer::Refused(Answer::MISSING, 0);
     }
     if kind == 0 {
-        return Answer::Refused(Answer::MISSING, at);
+        return Answer::Refused(Answer::MISSING, 0);
     }
-    let end = at + 1;
+    Answer::Accepted(1)
+}
+
+// The same of the end mark at the place `at`: 6, or the place behind it.
+fn ended(class: u8, kind: u8, at: usize) -> Answer
+    requires { ⌜ at ≤ 4096 ⌝ }
+    ensures { λ r. ⌜ r ≡ endWriting (ltb 0 class && ltb 0 kind) at ⌝ }
+{
+    let a = end_refusal(class, kind);
+    let Answer::Accepted(len) = a else {
+        return placed(a, at);
+    };
+    let end = at + len;
     Answer::Accepted(end)
 }
 
@@ -171,14 +184,14 @@ fn parts_refusal(q: Record) -> Answer
         let c = q.common[k];
         let name = (c.header % 64) as usize;
         let times = seen[name];
-        let a = head_refusal(times, c, at);
-        let Answer::Accepted(end) = a else {
-            return a;
+        let a = head_refusal(times, c);
+        let Answer::Accepted(len) = a else {
+            return placed(a, at);
         };
         seen[name] = times + 1;
         k += 1;
         if c.header != Common::TRANSFER_DATA {
-            at = end;
+            at += len;
             continue;
         }
         let count = c.transfers as usize;
@@ -191,7 +204,7 @@ fn parts_refusal(q: Record) -> Answer
     }
     let class = (Common::USER_CLASS % 64) as usize;
     let kind = (Common::SIGNAL_KIND % 64) as usize;
-    end_refusal(seen[class], seen[kind], at)
+    ended(seen[class], seen[kind], at)
 }
 
 // A record, room aside: the first refusal, or the message's length.

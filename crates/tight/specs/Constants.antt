@@ -9,16 +9,27 @@ use mathlib.Core.Path.{_≡_, refl, sym, ap, _∙_}
 use mathlib.Core.Bool.{Bool, true, false, cond, not, _&&_}
 use mathlib.Core.List.{List, [], _∷_, _++_}
 use borrow.Author.Tests.{eq-eqb, not-true}
-use lib.Dec.{eqb}
+use lib.Dec.{eqb, leb, ltb}
 use lib.ListN.{length, getD, take, drop, replicate}
-use Rattle.annex.specs.Answers.{numberOf, givenOf, faultNumberOf, stopOf, soundThen, headerAt, unused-name, other-pli}
+use Rattle.annex.specs.Answers.{
+  numberOf,
+  placeOf,
+  givenOf,
+  faultNumberOf,
+  stopOf,
+  soundThen,
+  headerAt,
+  placedAt,
+  unused-name,
+  other-pli,
+}
 use Rattle.annex.specs.Units.{countedBy, octetsOf, halvesIn, afterOf, leadOf, commonExtentOf, extentOf}
 use Rattle.annex.specs.Heads.{among, listedHeaders, isCall, nameUsed, pliRight, oftenOf, zeroesOf, formOf}
 use Rattle.annex.specs.Digits.{halves, joined, digitOf, codeOf, isCode, isDigit, halvesFault, digitsFault, digitsOf, packed, halvesFor}
 use Rattle.annex.specs.Contents.{dialledFault, faultUnder, faultOf}
 use Rattle.annex.specs.Items.{valuePart, holdingOf, openBy, itemOf, contentsOf, ownOf}
 use Rattle.annex.specs.Layout.{layoutItem, layoutPart, callOctets}
-use Rattle.annex.specs.Allowed.{every, lengthRight, faultIn}
+use Rattle.annex.specs.Allowed.{every, lengthRight, faultIn, valueRight, valueFits}
 use Rattle.annex.specs.Walk.{walk}
 use Rattle.annex.specs.Reading.{
   transferOf,
@@ -44,6 +55,7 @@ use Rattle.annex.specs.Records.{
   pad,
   valuesOf,
   pack,
+  rawPart,
   viewItems,
   lengthsOf,
   transfersSum,
@@ -51,7 +63,7 @@ use Rattle.annex.specs.Records.{
   isWhole,
   view,
 }
-use Rattle.annex.specs.Writing.{headWriting, itemWriting, overLimits, structOver, transfersHeld}
+use Rattle.annex.specs.Writing.{headWriting, itemWriting, partWriting, endWriting, overLimits, structOver, transfersHeld}
 use Rattle.annex.specs.Image.{imageHead, headFront, itemSize, commonFront}
 use Rattle.annex.specs.Promises.{Gives, Keeps}
 use Rattle.annex.specs.Bench.{K, recordOfK, recordOfM}
@@ -266,6 +278,9 @@ rows =
     tests (structOver (pack recordOfK)) (structOver (pack (recordOfK ++ (recordOfK ++ (recordOfK ++ recordOfK))))) ∷  -- over_limits
     gives Answer givenOf (transfersHeld (pack recordOfM)) (transfersHeld (pack recordOfK)) ∷  -- transfers_held
     counts (length (layoutPart (valuePart 0x83 0))) (length (layoutPart (valuePart 0x01 0))) ∷  -- head_len
+    answers (partWriting 0 0 (rawPart (valueHead 0x06 0x11) [])) (partWriting 1 0 (rawPart (valueHead 0x06 0x11) [])) ∷  -- head_refusal
+    answers (endWriting (ltb 0 1 && ltb 0 1) 0) (endWriting (ltb 0 1 && ltb 0 0) 0) ∷  -- end_refusal
+    gives Answer placeOf (placedAt 3 (Refused 12 0)) (placedAt 4 (Refused 12 0)) ∷  -- placed
     transfers (λ t. t .header) (headFront (0x41 ∷ [])) (headFront (0x42 ∷ [])) ∷  -- transfer_head
     commons (λ c. c .value) (commonFront (0x06 ∷ 0x11 ∷ [])) (commonFront (0x06 ∷ 0x12 ∷ [])) ∷  -- common_head
     tests (leb (itemSize (imageHead noTransfer)) (length (imageHead noTransfer))) (leb (itemSize short) (length short)) ∷  -- is_whole
@@ -274,10 +289,10 @@ rows =
 
 rows-differ : allDiffer rows ≡ true
 unfolding afterOf extentOf commonExtentOf leadOf nameUsed pliRight oftenOf zeroesOf formOf halves joined digitOf codeOf isCode halvesFault
-    digitsFault digitsOf packed dialledFault faultOf holdingOf itemOf contentsOf ownOf layoutItem lengthRight faultIn walk transferBy
-    octetAllowed commonForm endOf commonBy messageVerdictBy verdictBy commonsBy commonIn commonFound pad valuesOf pack lengthsOf
-    transfersSum isWhole viewItems viewParts view overLimits itemWriting layoutPart pars soughtIn stretchAt stretchHere rowHere nextOf put
-    spliced
+    digitsFault digitsOf packed dialledFault faultOf holdingOf itemOf contentsOf ownOf layoutItem lengthRight faultIn valueRight valueFits
+    walk transferBy octetAllowed commonForm endOf commonBy messageVerdictBy verdictBy commonsBy commonIn commonFound pad valuesOf pack
+    lengthsOf transfersSum isWhole viewItems viewParts view overLimits itemWriting partWriting layoutPart pars soughtIn stretchAt
+    stretchHere rowHere nextOf put spliced
 rows-differ = refl
 
 -- every row's programs are shut out

@@ -1,6 +1,5 @@
 -- `end_refusal` meets its contract: 01 and 06 stood at least once where neither count is 0.
 use native.Mathlib.Omega.{arith}
-use borrow.Author.Needs.{needs}
 use borrow.Author.Tests.{lt-ltb}
 use Rattle.refusing.proofs.end_refusal.Statement.{statement}
 use Rattle.refusing.proofs.end_refusal.Tie as tie
@@ -17,4 +16,4 @@ returns-3 c =
     rw (lt-ltb 0 (a .class) (omega arith), lt-ltb 0 (a .kind) (omega arith))
 
 pub end-refusal-spec : {M : Type 1} → statement M
-end-refusal-spec = tie.close (tie.spec returns returns-2 (λ c. search needs) returns-3)
+end-refusal-spec = tie.close (tie.spec returns returns-2 returns-3)

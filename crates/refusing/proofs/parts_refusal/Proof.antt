@@ -2,13 +2,14 @@
 -- place `at`, with what has been seen; their transfer parameters start at the place `first`.
 use Prim.Native.Nat.{_+_, _-_, _*_, _≤_, _<_}
 use native.Mathlib.Omega.{arith}
-use mathlib.Core.Path.{_≡_, sym, ap, _∙_}
+use mathlib.Core.Path.{_≡_, refl, sym, ap, _∙_}
+use mathlib.Core.List.{[]}
 use borrow.Author.Needs.{needs}
 use lib.ListN.{length}
 use Rattle.annex.specs.Heads.{most-commons}
-use Rattle.annex.specs.Records.{transfersSum, commonsIn, view}
+use Rattle.annex.specs.Records.{transfersSum, rawPart, commonsIn, view}
 use Rattle.annex.specs.Walk.{unseen, timesSeen}
-use Rattle.annex.specs.Writing.{partsWriting}
+use Rattle.annex.specs.Writing.{partWriting, partsWriting}
 use Rattle.annex.specs.declared.Answer.the-variants.{Accepted}
 use Rattle.limits.specs.Along.{
   commonAt,
@@ -22,11 +23,11 @@ use Rattle.limits.specs.Along.{
   data-turn,
   length-mapped,
 }
+use Rattle.refusing.specs.Laying.{head-long}
 use Rattle.refusing.specs.Refusing.{
-  partHeadWriting,
   part-head-passed,
   data-passed,
-  part-head-refused,
+  head-refused,
   plain-accepted,
   data-refused,
   data-accepted,
@@ -64,36 +65,41 @@ mul-c c = omega (arith, place c)
 element-copy-out-c : tie.Need-element-copy-out-c Inv-loop μ-loop
 element-copy-out-c c = place c
 
-head-refusal-requires : tie.Need-head-refusal-requires Inv-loop μ-loop
-head-refusal-requires c κs = omega (arith, place (c .before .before))
-
 returns : tie.Need-returns Inv-loop μ-loop
 returns c =
-    let r = c .before .before in
+    let r = c .before .before .before in
     let i = r .before .before .before in
     let a = i .before in
     let q = a .before .args .t1 in
     let k = a .loop .k in
-    let e = c .enum-told .given .1 in
-    rw e (sym (a .loop .inv .3 ∙ rw (parts-next q k (i .loop-test .taken) (long a) (a .loop .first))
-    (part-head-refused (a .loop .seen) (a .loop .at) (commonAt q k) _ _ _ _ (sym (r .head-refusal .ensures) ∙ e))))
+    let e = c .before .enum-told .given .1 in
+    c .placed .ensures ∙ rw e (sym (a .loop .inv .3 ∙ rw (parts-next q k (i .loop-test .taken) (long a) (a .loop .first))
+    (head-refused (a .loop .seen) (a .loop .at) (commonAt q k) _ _ _ (sym (r .head-refusal .ensures)) _ _ e)))
 
 -- the head is accepted
 taken : (c : tie.After-known-told Inv-loop μ-loop) →
     let a = c .before .before .before .before .before .before .before in
     let h = commonAt (a .before .args .t1) (a .loop .k) in
-    partHeadWriting (timesSeen (a .loop .seen) (h .header)) (a .loop .at) h ≡ Accepted (c .before .a .given .0 .0)
+    partWriting (timesSeen (a .loop .seen) (h .header)) 0 (rawPart h []) ≡ Accepted (c .before .a .given .0 .0)
 taken c = sym (c .before .before .before .head-refusal .ensures) ∙ c .before .a .given .1
 
 head-taken : (c : tie.After-known-told Inv-loop μ-loop) →
     let a = c .before .before .before .before .before .before .before in
-    (timesSeen (a .loop .seen) (commonAt (a .before .args .t1) (a .loop .k) .header) ≡ 0) × (c .before .a .given .0 .0 ≤ a .loop .at + 4)
+    (timesSeen (a .loop .seen) (commonAt (a .before .args .t1) (a .loop .k) .header) ≡ 0) × (c .before .a .given .0 .0 ≤ 4)
 head-taken c =
     let a = c .before .before .before .before .before .before .before in
-    part-head-passed _ _ (commonAt (a .before .args .t1) (a .loop .k)) _ (taken c)
+    let h = commonAt (a .before .args .t1) (a .loop .k) in
+    let t = part-head-passed _ h _ (taken c) in
+    (t .0, omega (arith, t .1, head-long (h .header) .1))
 
 add-seen : tie.Need-add-seen Inv-loop μ-loop
 add-seen c = omega (arith, head-taken c .0)
+
+add-at : tie.Need-add-at Inv-loop μ-loop
+add-at c =
+    let t = c .before .before in
+    let i = t .before .before .before .before .before .before in
+    omega (arith, head-taken t .1, place i, i .before .loop .inv .1)
 
 loop-less : tie.Need-loop-less Inv-loop μ-loop
 loop-less c = omega arith
@@ -109,7 +115,7 @@ loop-again c =
       omega arith,
       omega (arith, head-taken t .1, a .loop .inv .1),
       x .sum,
-      a .loop .inv .3 ∙ rw (x .parts) (plain-accepted (a .loop .seen) (a .loop .at) (commonAt q k) _ _ _ (taken t) (c .if1 .taken)),
+      a .loop .inv .3 ∙ rw (x .parts) (plain-accepted (a .loop .seen) (a .loop .at) (commonAt q k) _ _ _ (taken t) _ refl (c .if1 .taken)),
     )
 
 -- a C5, with its transfer parameters
@@ -137,7 +143,7 @@ returns-2 c =
     let a = i .before in
     let e = c .enum-told2 .given .1 in
     rw e (sym (a .loop .inv .3 ∙ rw (data-here x .parts)
-    (data-refused (a .loop .seen) (a .loop .at) (commonAt (a .before .args .t1) (a .loop .k)) _ _ _ (taken t) _ _ (x .if1 .left)
+    (data-refused (a .loop .seen) (a .loop .at) (commonAt (a .before .args .t1) (a .loop .k)) _ _ _ (taken t) _ refl _ _ (x .if1 .left)
     (sym (d .data-refusal .ensures) ∙ e))))
 
 add-first : tie.Need-add-first Inv-loop μ-loop
@@ -160,11 +166,12 @@ loop-again-2 c =
       omega (arith, data-passed _ _ _ e, a .loop .inv .1),
       data-here x .sum,
       a .loop .inv .3 ∙ rw (data-here x .parts)
-          (data-accepted (a .loop .seen) (a .loop .at) (commonAt (a .before .args .t1) (a .loop .k)) _ _ _ (taken t) _ (x .if1 .left) e),
+          (data-accepted (a .loop .seen) (a .loop .at) (commonAt (a .before .args .t1) (a .loop .k)) _ _ _ (taken t) _ refl _ (x .if1 .left)
+          e),
     )
 
-end-refusal-requires : tie.Need-end-refusal-requires Inv-loop μ-loop
-end-refusal-requires c κs =
+ended-requires : tie.Need-ended-requires Inv-loop μ-loop
+ended-requires c κs =
     let a = c .before in
     omega (arith, a .before .pre .commons)
 
@@ -172,7 +179,7 @@ returns-3 : tie.Need-returns-3 Inv-loop μ-loop
 returns-3 c =
     let a = c .before .before in
     let q = a .before .args .t1 in
-    c .end-refusal .ensures
+    c .ended .ensures
     ∙ sym
     (a .loop .inv .3
     ∙ rw (parts-end q (a .loop .k) (c .before .loop-test .left) (a .loop .first)) (parts-over (a .loop .seen) (a .loop .at)))
@@ -189,13 +196,15 @@ parts-refusal-spec =
     element-copy-out-c
     (λ c. search needs)
     (λ c. search needs)
-    head-refusal-requires
+    (λ c κs. search needs)
     (λ c. search needs)
     (λ c. search needs)
+    (λ c κs. search needs)
     returns
     add-seen
     (λ c. search needs)
     (λ c. omega arith)
+    add-at
     loop-less
     loop-again
     (λ c. search needs)
@@ -210,5 +219,5 @@ parts-refusal-spec =
     (λ c. search needs)
     (λ c. search needs)
     (λ c. search needs)
-    end-refusal-requires
+    ended-requires
     returns-3)
