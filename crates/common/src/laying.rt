@@ -6,8 +6,8 @@ use octets::copy_in;
 ghost use Rattle.annex.specs.Memory.{layingHead};
 ghost use Rattle.annex.specs.Promises.{Keeps};
 
-// Writes the parameter from index at on, each number modulo 256: its header, and a call number's octets or its own; of a C5 the length octet
-// 0. Where the room is too short, nothing.
+// Writes the parameter from index at on, each number modulo 256: its header, then a call number's octets or its own, and of a C5 the length
+// octet 0. Where the room is too short, nothing.
 pub fn lay_head(c: Common, room: &mut [u8], at: usize) -> bool
     ensures { λ r. ⌜ Keeps (layingHead c (now (room .entry)) at) r (now (room .exit)) ⌝ }
 {

@@ -104,12 +104,6 @@ head-right p h a u r = rw (u, r)
 pub head-then : (p h : ℕ) (a : Answer) (f : ℕ → Answer) → andThen (headWriting p h a) f ≡ headWriting p h (andThen a f)
 head-then p h a f = let o = head-refuse h in rw (o .2 p a, o .2 p (andThen a f)) (refuse-then (o .0) (o .1) p a f)
 
-pub head-passed : (p h n : ℕ) (a : Answer) → headWriting p h (Accepted 0) ≡ Accepted n → headWriting p h a ≡ a
-head-passed p h n a e = sym (head-then p h (Accepted 0) (λ _. a)) ∙ rw e
-
-pub head-refused : (p h k q : ℕ) (a : Answer) → headWriting p h (Accepted 0) ≡ Refused k q → headWriting p h a ≡ Refused k q
-head-refused p h k q a e = sym (head-then p h (Accepted 0) (λ _. a)) ∙ rw e
-
 -- where an answer is a refusal, its place is at most l
 pub record PlaceTo (l : ℕ) (a : Answer) : Type 0 where
   pub at : (k p : ℕ) → a ≡ Refused k p → p ≤ l

@@ -11,14 +11,17 @@ use annex::Transfer;
 use digits::packing::are_digits;
 use digits::packing::pack_digits;
 use digits::packing::packed_len;
+use heads::Asked;
+use heads::head_of;
 use heads::head_writing;
 use heads::often_of;
 use octets::copy_in;
+use octets::lies_within;
 use octets::octet_at;
 use octets::octets_from;
 use parameter::contents::at_header;
-use parameter::contents::contents_fault;
-use parameter::opening::holding_of;
+use parameter::contents::fault_under;
+use parameter::opening::holding_by;
 use units::extent_of;
 use units::lead;
 use units::octets_after;
@@ -30,19 +33,30 @@ ghost use lib.ListN.{length, getD};
 ghost use Rattle.annex.specs.Promises.{Gives, Keeps};
 ghost use Rattle.annex.specs.Units.{extentOf};
 ghost use Rattle.annex.specs.Contents.{formedThen};
-ghost use Rattle.annex.specs.Items.{holdingOf, upperMarks, numberContents, contentsBy, contentsOf};
+ghost use Rattle.annex.specs.Items.{holdingBy, holdingOf, upperMarks, numberContents, contentsBy, contentsOf};
 ghost use Rattle.annex.specs.declared.Holding.the-variants.{AsDigits, AsGeneric};
 ghost use Rattle.annex.specs.Layout.{layoutItem};
 ghost use Rattle.annex.specs.Allowed.{lengthFits, lengthRight, marksRight, fieldsRight, withheldRight, numberRight, valuesFault, faultAs};
 ghost use Rattle.annex.specs.Records.{rawItem, itemFrom};
 ghost use Rattle.annex.specs.Writing.{itemWriting};
-ghost use Rattle.annex.specs.Memory.{atFront, laying};
+ghost use Rattle.annex.specs.Memory.{atFront, laidAt, laying};
+ghost use Rattle.annex.specs.declared.Answer.the-variants.{Accepted};
+ghost use Rattle.heads.specs.Asked.{Asks};
+
+// How the values are held, by what a look-up says of their header.
+fn held_by(asked: Asked, values: &[u8]) -> Holding
+    ensures { λ r. ⌜ r ≡ holdingBy (asked .form) (getD (now (values .entry)) 0 0) ⌝ }
+{
+    let form = asked.form;
+    holding_by(form, octet_at(values, 0))
+}
 
 // How the values under this header are held.
 fn held_as(header: u8, values: &[u8]) -> Holding
     ensures { λ r. ⌜ r ≡ holdingOf header (getD (now (values .entry)) 0 0) ⌝ }
 {
-    holding_of(header, octet_at(values, 0))
+    let asked = head_of(header);
+    held_by(asked, values)
 }
 
 // How many octets the contents have whose values are held so.
@@ -175,12 +189,17 @@ fn fields_fault(good: bool, digits: &[u8]) -> Fault
     }
 }
 
-// What is wrong with the values: those that are held as contents have the faults that reading finds.
-fn values_fault(held: Holding, t: Transfer, values: &[u8]) -> Fault
+// What is wrong with the values; `asked` is what a look-up says of their header. Those that are held as contents have the faults that
+// reading finds.
+fn values_fault(asked: Asked, held: Holding, t: Transfer, values: &[u8]) -> Fault
+    requires { ⌜ Asks (t .header) asked ⌝ }
     ensures { λ r. ⌜ r ≡ faultAs held (rawItem t (now (values .entry))) ⌝ }
 {
     match held {
-        Holding::AsContents => contents_fault(t.header, values),
+        Holding::AsContents => {
+            let form = asked.form;
+            fault_under(asked.zeroes, form, values)
+        }
         Holding::AsDigits(marks) => fields_fault(marks_right(marks, t), values),
         Holding::AsNumber(withholdable) => fields_fault(
             number_right(withholdable, t, values),
@@ -190,28 +209,37 @@ fn values_fault(held: Holding, t: Transfer, values: &[u8]) -> Fault
     }
 }
 
+// The parameter's name stood `times` before; `asked` is what a look-up says of its header: 8 to 11 in their order and then its fault, at
+// place 0, or accepted with how many octets it takes.
+fn judged(asked: Asked, held: Holding, times: u8, t: Transfer, values: &[u8]) -> Answer
+    requires { ⌜ Asks (t .header) asked × (held ≡ holdingOf (t .header) (getD (now values) 0 0)) ⌝ }
+    ensures { λ r. ⌜ r ≡ itemWriting times 0 (rawItem t (now (values .entry))) ⌝ }
+{
+    let header = t.header;
+    if !asked.right {
+        return head_writing(header);
+    }
+    let most = often_of(header % 64);
+    if most <= times {
+        return Answer::Refused(Answer::REPEATED_NAME, 0);
+    }
+    if !length_right(held, t, values) {
+        return Answer::Refused(Answer::CUT_CONTENTS, 0);
+    }
+    let f = values_fault(asked, held, t, values);
+    let before = 1 + lead(extent_of(header));
+    let len = before + len_as(held, t, values);
+    at_header(f, len)
+}
+
 // The parameter's name stood `times` before: 8 to 11 in their order and then its fault, at place 0, or accepted with how many octets it
 // takes.
 pub fn refusal(times: u8, t: Transfer, values: &[u8]) -> Answer
     ensures { λ r. ⌜ Gives (itemWriting times 0 (itemFrom t (now (values .entry)))) r ⌝ }
 {
-    let header = t.header;
-    let head = head_writing(header);
-    let Answer::Accepted(_) = head else {
-        return head;
-    };
-    let most = often_of(header % 64);
-    if most <= times {
-        return Answer::Refused(Answer::REPEATED_NAME, 0);
-    }
-    let held = held_as(header, values);
-    if !length_right(held, t, values) {
-        return Answer::Refused(Answer::CUT_CONTENTS, 0);
-    }
-    let before = 1 + lead(extent_of(header));
-    let len = before + len_as(held, t, values);
-    let f = values_fault(held, t, values);
-    at_header(f, len)
+    let asked = head_of(t.header);
+    let held = held_by(asked, values);
+    judged(asked, held, times, t, values)
 }
 
 // Writes octets at the front of the room.
@@ -305,10 +333,7 @@ fn fits_in(held: Holding, t: Transfer, values: &[u8], room: usize) -> bool
     ensures { λ r. ⌜ r ≡ leb (length (layoutItem (rawItem t (now (values .entry))))) room ⌝ }
 {
     let before = 1 + lead(extent_of(t.header));
-    if room < before {
-        return false;
-    }
-    len_as(held, t, values) <= room - before
+    lies_within(room, before, len_as(held, t, values))
 }
 
 // Writes the parameter at the front of the room, each number modulo 256; where the room is too short, nothing.
@@ -321,4 +346,32 @@ pub fn put(t: Transfer, values: &[u8], room: &mut [u8]) -> bool
     }
     put_whole(held, t, values, room);
     true
+}
+
+// Writes the parameter, which takes `len` octets, from index at on; where the room is too short, nothing.
+fn put_at(held: Holding, t: Transfer, values: &[u8], len: usize, room: &mut [u8], at: usize)
+    requires { ⌜ (held ≡ holdingOf (t .header) (getD (now values) 0 0)) × (len ≡ length (layoutItem (rawItem t (now values)))) ⌝ }
+    ensures { λ r. ⌜ now (room .exit) ≡ laidAt (Accepted len) (layoutItem (rawItem t (now (values .entry)))) at (now (room .entry)) ⌝ }
+{
+    if !lies_within(room.len(), at, len) {
+        return;
+    }
+    put_whole(held, t, values, &mut room[at..]);
+}
+
+// The parameter's name stood `times` before: the answer of `refusal`, by one look-up of its header; where it is accepted, the parameter is
+// written from index at on, where the room suffices.
+pub fn lay(times: u8, t: Transfer, values: &[u8], room: &mut [u8], at: usize) -> Answer
+    ensures told { λ r. ⌜ Gives (itemWriting times 0 (itemFrom t (now (values .entry)))) r ⌝ }
+    ensures put { λ r. ⌜ Gives (laidAt (itemWriting times 0 (itemFrom t (now (values .entry))))
+        (layoutItem (itemFrom t (now (values .entry)))) at (now (room .entry))) (now (room .exit)) ⌝ }
+{
+    let asked = head_of(t.header);
+    let held = held_by(asked, values);
+    let a = judged(asked, held, times, t, values);
+    let Answer::Accepted(len) = a else {
+        return a;
+    };
+    put_at(held, t, values, len, room, at);
+    Answer::Accepted(len)
 }

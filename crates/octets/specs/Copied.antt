@@ -1,16 +1,16 @@
 -- What a copy leaves, where it fits: at the front of lent room, behind what was written there, or in an array.
-use Prim.Native.Nat.{ℕ, _+_, _%_, _≤_}
+use Prim.Native.Nat.{ℕ, _+_, _≤_}
 use native.Mathlib.Omega.{arith}
 use mathlib.Core.Path.{_≡_, refl, sym, ap, _∙_}
 use mathlib.Core.Bool.{Bool, true}
-use mathlib.Core.List.{List, [], _++_, append-assoc, map-append}
+use mathlib.Core.List.{List, [], _++_, append-assoc}
 use borrow.Author.Tests.{le-leb}
 use lib.Dec.{leb}
-use lib.ListN.{length, take, drop, length-append}
-use lib.Seq.{sets, sets-eq, take-at, drop-append-add, drop-drop}
+use lib.ListN.{length, take, drop}
+use lib.Seq.{sets, sets-eq}
 use Rattle.annex.specs.Allowed.{every, isOctet}
 use Rattle.annex.specs.Promises.{Stores}
-use Rattle.annex.specs.Memory.{lowOctets, atFront, put}
+use Rattle.annex.specs.Memory.{atFront, put}
 use Rattle.laws.specs.Written.{low-octets, written-length, put-behind}
 
 module _ (d : List ℕ) (at : ℕ) (s ys : List ℕ) (b : Bool) (fits : at + length s ≤ length d)

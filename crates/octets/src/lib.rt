@@ -31,8 +31,8 @@ pub fn octets_from(s: &[u8], i: usize) -> &[u8]
 }
 
 // Whether k octets from index at on lie within len octets; at + k may be over 64 bits.
-fn lies_within(len: usize, at: usize, k: usize) -> bool
-    ensures { λ r. ⌜ r ≡ leb (at + k) len ⌝ }
+pub fn lies_within(len: usize, at: usize, k: usize) -> bool
+    ensures { λ r. ⌜ Gives (leb (at + k) len) r ⌝ }
 {
     if at <= len { k <= len - at } else { false }
 }

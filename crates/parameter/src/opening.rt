@@ -19,17 +19,15 @@ ghost use mathlib.Core.List.{List};
 ghost use Prim.Native.Nat.{ℕ};
 ghost use lib.ListN.{length};
 ghost use Rattle.annex.specs.Promises.{Gives};
-ghost use Rattle.annex.specs.Items.{holdingOf, openBy, openMarks};
+ghost use Rattle.annex.specs.Items.{holdingBy, holdingOf, openBy, openMarks};
 ghost use Rattle.annex.specs.declared.Holding.the-variants.{AsContents, AsDigits, AsNumber, AsGeneric};
 ghost use Rattle.annex.specs.Records.{headOf};
 ghost use Rattle.annex.specs.Opening.{headFor, valuesWith, openedHead, openedValues};
 
-// How the values under this header are held; `first` is the first octet of the contents, or 0.
-pub fn holding_of(header: u8, first: u8) -> Holding
-    ensures { λ r. ⌜ Gives (holdingOf header first) r ⌝ }
+// How the values of contents of this form are held; `first` is the first octet of the contents, or 0.
+pub fn holding_by(form: Form, first: u8) -> Holding
+    ensures { λ r. ⌜ Gives (holdingBy form first) r ⌝ }
 {
-    let asked = head_of(header);
-    let form = asked.form;
     match form {
         Form::Checked(_) => Holding::AsContents,
         Form::Digits(marks) => Holding::AsDigits(marks),
@@ -43,6 +41,15 @@ pub fn holding_of(header: u8, first: u8) -> Holding
             }
         }
     }
+}
+
+// How the values under this header are held.
+pub fn holding_of(header: u8, first: u8) -> Holding
+    ensures { λ r. ⌜ Gives (holdingOf header first) r ⌝ }
+{
+    let asked = head_of(header);
+    let form = asked.form;
+    holding_by(form, first)
 }
 
 // The head of `len` digits, with the upper two bits of their count octet.

@@ -163,7 +163,8 @@ part-stepped times p c is =
     let n = headLength (c .header) in
     let f : ℕ → Answer = λ m. cond (eqb (c .header) transfer-data) (dataWriting p is) (Accepted m) in
     let e : andThen (headThen times p c (Accepted (p + n))) f ≡ headThen times p c (f (p + n)) = simp refuse-then in
-    part-checked times p c is ∙ sym e ∙ ap (λ (a : Answer). andThen a f) (head-told times p n c ∙ ap (toldAt p) (sym (head-checked times c)))
+    part-checked times p c is ∙ sym e
+    ∙ ap (λ (a : Answer). andThen a f) (head-told times p n c ∙ ap (toldAt p) (sym (head-checked times c)))
 
 -- what an accepted head says
 pub part-head-passed : (times : ℕ) (c : Common) (n : ℕ) → partWriting times 0 (rawPart c []) ≡ Accepted n

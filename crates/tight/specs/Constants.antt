@@ -27,7 +27,7 @@ use Rattle.annex.specs.Units.{countedBy, octetsOf, halvesIn, afterOf, leadOf, c
 use Rattle.annex.specs.Heads.{among, listedHeaders, isCall, nameUsed, pliRight, oftenOf, zeroesOf, formOf}
 use Rattle.annex.specs.Digits.{halves, joined, digitOf, codeOf, isCode, isDigit, halvesFault, digitsFault, digitsOf, packed, halvesFor}
 use Rattle.annex.specs.Contents.{dialledFault, faultUnder, faultOf}
-use Rattle.annex.specs.Items.{valuePart, holdingOf, openBy, itemOf, contentsOf, ownOf}
+use Rattle.annex.specs.Items.{Item, valuePart, holdingBy, holdingOf, openBy, itemOf, contentsOf, ownOf}
 use Rattle.annex.specs.Layout.{layoutItem, layoutPart, callOctets}
 use Rattle.annex.specs.Allowed.{every, lengthRight, faultIn, valueRight, valueFits}
 use Rattle.annex.specs.Walk.{walk}
@@ -68,7 +68,7 @@ use Rattle.annex.specs.Image.{imageHead, headFront, itemSize, commonFront}
 use Rattle.annex.specs.Promises.{Gives, Keeps}
 use Rattle.annex.specs.Bench.{K, recordOfK, recordOfM}
 use Rattle.annex.specs.Walking.{pars, soughtIn, searchIn, commonPlain, stretchAt, cursorTo, stretchHere, rowHere, nextOf}
-use Rattle.annex.specs.Memory.{Request, put, spliced, copying, splicing, packing, unpacking, laying, layingHead, valuesFit}
+use Rattle.annex.specs.Memory.{Request, put, laidAt, spliced, copying, splicing, packing, unpacking, laying, layingHead, valuesFit}
 use Rattle.annex.specs.Opening.{headFor, valuesWith, openedHead, openedValues}
 use Rattle.annex.specs.declared.Alphabet.the-variants.{Dialled, Numbered}
 use Rattle.annex.specs.declared.Answer.{Answer}
@@ -204,6 +204,13 @@ transfers = gives Transfer
 abbrev lent : ℕ → List ℕ
 lent n = replicate n 0xEE
 
+-- a transfer parameter that holds one octet
+abbrev carried : Item
+carried = itemFrom (carriedHead 0x41 1) (1 ∷ [])
+
+abbrev laidCarried : ℕ → List ℕ → List ℕ
+laidCarried at room = laidAt (itemWriting 0 0 carried) (layoutItem carried) at room
+
 -- ---- the table
 
 abbrev pub rows : List AtTwo
@@ -245,6 +252,7 @@ rows =
     lists (drop 0 (0x21 ∷ [])) (drop 1 (0x21 ∷ [])) ∷  -- octets_from
     faults (faultOf 0x90 (0x01 ∷ 0x0A ∷ [])) (faultOf 0x90 (0x01 ∷ 0x00 ∷ [])) ∷  -- contents_fault
     answers (transferOf 0 0x41 (0x01 ∷ [])) (transferOf 0 0x41 []) ∷  -- transfer
+    gives Holding heldNumber (holdingBy Generic 0x06) (holdingBy Generic 0x07) ∷  -- holding_by
     gives Holding heldNumber (holdingOf 0xDA 0x06) (holdingOf 0xDA 0x07) ∷  -- holding_of
     transfers (λ t. t .len) (headFor (openBy AsContents 0xCC (1 ∷ [])) 0 (lent 2)) (headFor (openBy AsContents 0xCC []) 0 (lent 2))
     ∷  -- open_contents, head
@@ -252,9 +260,10 @@ rows =
     ∷  -- open_contents, values
     transfers (λ t. t .len) (openedHead 0x90 (0x02 ∷ 0x21 ∷ []) 0 (lent 2)) (openedHead 0x90 (0x01 ∷ 0x01 ∷ []) 0 (lent 2)) ∷  -- open, head
     lists (openedValues 0x90 (0x02 ∷ 0x21 ∷ []) 0 (lent 2)) (openedValues 0x90 (0x02 ∷ 0x21 ∷ []) 1 (lent 2)) ∷  -- open, values
-    counts (length (contentsOf (itemFrom (carriedHead 0x41 1) (1 ∷ [])))) (length (contentsOf (itemFrom (carriedHead 0xCC 0) [])))
+    counts (length (contentsOf carried)) (length (contentsOf (itemFrom (carriedHead 0xCC 0) [])))
     ∷  -- contents_len
-    answers (itemWriting 0 0 (itemFrom (carriedHead 0x41 1) (1 ∷ []))) (itemWriting 0 0 (itemFrom (carriedHead 0x08 0) [])) ∷  -- refusal
+    answers (itemWriting 0 0 carried) (itemWriting 0 0 (itemFrom (carriedHead 0x08 0) [])) ∷  -- refusal; lay, answer
+    lists (laidCarried 0 (lent 2)) (laidCarried 1 (lent 2)) ∷  -- lay, room
     stores (laying (carriedHead 0x41 1) (1 ∷ []) (lent 2)) (laying (carriedHead 0x41 1) (1 ∷ []) (lent 1)) ∷  -- put
     tests (among 0xC5 listedHeaders) (among 0x44 listedHeaders) ∷  -- listed
     tests (octetAllowed 0x01 0x01) (octetAllowed 0x01 0x02) ∷  -- octet_allowed
@@ -284,6 +293,7 @@ rows =
     transfers (λ t. t .header) (headFront (0x41 ∷ [])) (headFront (0x42 ∷ [])) ∷  -- transfer_head
     commons (λ c. c .value) (commonFront (0x06 ∷ 0x11 ∷ [])) (commonFront (0x06 ∷ 0x12 ∷ [])) ∷  -- common_head
     tests (leb (itemSize (imageHead noTransfer)) (length (imageHead noTransfer))) (leb (itemSize short) (length short)) ∷  -- is_whole
+    tests (leb (0 + 1) 1) (leb (1 + 1) 1) ∷  -- lies_within
     stores (copying (lent 1) 0 (0x21 ∷ [])) (copying (lent 1) 1 (0x21 ∷ [])) ∷  -- copy_in
     stores (splicing (lent 1) 1 0 1 (0x21 ∷ [])) (splicing (lent 1) 2 0 1 (0x21 ∷ [])) ∷ []  -- splice
 

@@ -33,7 +33,9 @@ returns-2 c =
     rw (whole (c .before), le-ltb (a .k) most-transfers (omega arith))
 
 -- the length that the head tells
-len-is : (c : tie.After-transfer-head) → c .transfer-head .result .len ≡ headFront (c .before .before .before .before .before .args .s .now) .len
+len-is : (c : tie.After-transfer-head) →
+    let a = c .before .before .before .before .before .args in
+    c .transfer-head .result .len ≡ headFront (a .s .now) .len
 len-is c = ap (λ (t : Transfer). t .len) (c .transfer-head .ensures)
 
 -- and there is a place

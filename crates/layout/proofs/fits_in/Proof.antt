@@ -1,11 +1,9 @@
 -- `fits_in` meets its contract: the header and a length octet stand before the contents.
-use Prim.Native.Nat.{ℕ, _+_, _-_, _≤_}
+use Prim.Native.Nat.{ℕ, _+_}
 use native.Mathlib.Omega.{arith}
-use mathlib.Core.Path.{_≡_, refl, sym, ap}
-use mathlib.Core.Bool.{Bool, true, false}
+use mathlib.Core.Path.{_≡_, ap, _∙_}
 use mathlib.Core.List.{List}
 use borrow.Author.Needs.{needs}
-use borrow.Author.Tests.{le-leb, lt-leb, leb-true, leb-false}
 use lib.Dec.{leb}
 use lib.ListN.{length}
 use Rattle.annex.specs.Units.{leadOf}
@@ -21,31 +19,15 @@ add-before c = omega (arith, c .lead .ensures, lead-small (c .before .extent-of 
 
 returns : tie.Need-returns
 returns c =
-    let n = c .before in
-    let x = n .before in
-    let a = x .before .before .args in
-    let i = rawItem (a .t) (a .values .now) in
-    sym
-    (lt-leb (length (layoutItem i)) (a .room)
-    (omega (arith, c .if1 .taken, length-layout i, n .lead .ensures, ap leadOf (x .extent-of .ensures))))
-
-less : (n k m room : ℕ) → m ≡ k + n → k ≤ room → leb n (room - k) ≡ leb m room
-less n k m room e h = go (leb m room) refl
-  where
-    go : (b : Bool) → leb m room ≡ b → leb n (room - k) ≡ b
-    go true f = le-leb n (room - k) (omega (arith, leb-true m room f))
-    go false f = lt-leb n (room - k) (omega (arith, leb-false m room f))
-
-returns-2 : tie.Need-returns-2
-returns-2 c =
-    let e = c .before in
-    let n = e .before in
+    let l = c .before in
+    let n = l .before in
     let x = n .before in
     let a = x .before .before .args in
     let i = rawItem (a .t) (a .values .now) in
     let s = ap (λ (y : List ℕ). length y) (contents-as (a .held) i (x .before .before .pre)) in
-    less _ _ _ (a .room) (omega (arith, length-layout i, c .len-as .ensures, n .lead .ensures, ap leadOf (x .extent-of .ensures)))
-    (e .if1 .left)
+    let e : 1 + n .lead .result + l .len-as .result ≡ length (layoutItem i) =
+    omega (arith, length-layout i, l .len-as .ensures, n .lead .ensures, ap leadOf (x .extent-of .ensures)) in
+    c .lies-within .ensures ∙ ap (λ (m : ℕ). leb m (a .room)) e
 
 pub fits-in-spec : {M : Type 1} → statement M
 fits-in-spec =
@@ -54,6 +36,6 @@ fits-in-spec =
     (λ c κs. search needs)
     (λ c κs. search needs)
     add-before
-    returns
     (λ c κs. search needs)
-    returns-2)
+    (λ c κs. search needs)
+    returns)

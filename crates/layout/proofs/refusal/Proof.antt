@@ -1,123 +1,20 @@
--- `refusal` meets its contract: its tests are those of the definition, in their order, and contents of the right length are too short for a
--- sum to wrap.
-use Prim.Native.Nat.{ℕ, _+_}
-use native.Mathlib.Omega.{arith}
-use mathlib.Core.Path.{_≡_, sym, ap, _∙_}
-use mathlib.Core.Bool.{not}
-use mathlib.Core.List.{List}
+-- `refusal` meets its contract: the parameter is judged by what the look-up says.
 use borrow.Author.Needs.{needs}
-use borrow.Author.Tests.{le-leb, lt-leb, not-false}
-use lib.Dec.{leb}
-use lib.ListN.{length}
-use Rattle.annex.specs.Answers.{refuse, soundThen, headerAt, repeated-name, cut-contents}
-use Rattle.annex.specs.Units.{nameOf, leadOf}
-use Rattle.annex.specs.Heads.{oftenOf}
-use Rattle.annex.specs.Layout.{layoutItem}
-use Rattle.annex.specs.Allowed.{lengthRight, faultIn}
-use Rattle.annex.specs.Records.{rawItem, itemFrom}
-use Rattle.annex.specs.Writing.{itemWriting}
-use Rattle.annex.specs.declared.Answer.the-variants.{Accepted}
-use Rattle.laws.specs.Steps.{head-passed, head-refused}
-use Rattle.laws.specs.Laid.{own-writing, length-layout, length-small, lead-small}
-use Rattle.layout.proofs.Holdings.{contents-as, fault-as}
+use Rattle.annex.specs.Records.{rawItem}
+use Rattle.laws.specs.Laid.{own-writing}
+use Rattle.layout.proofs.Asked.{held-of}
 use Rattle.layout.proofs.refusal.Statement.{statement}
 use Rattle.layout.proofs.refusal.Tie as tie
 
+judged-requires : tie.Need-judged-requires
+judged-requires c κs =
+    let h = c .before in
+    (h .head-of .ensures, held-of (h .before .before .args .t .header) (h .head-of .result) (h .head-of .ensures) _ _ (c .held-by .ensures))
+
 returns : tie.Need-returns
-unfolding itemWriting
 returns c =
-    let h = c .before .before in
-    let a = h .before .before .args in
-    let e = c .enum-told2 .given .1 in
-    rw (own-writing (rawItem (a .t) (a .values .now)) (a .times) 0)
-    (e ∙ sym (head-refused 0 (a .t .header) _ _ _ (sym (h .head-writing .ensures) ∙ e)))
-
--- past 9: how often the name stood, the length and the fault decide
-past-9 : (c : tie.After-enum-told) →
     let a = c .before .before .before .before .args in
-    let i = rawItem (a .t) (a .values .now) in
-    itemWriting (a .times) 0 (itemFrom (a .t) (a .values .now))
-    ≡ refuse (leb (oftenOf (nameOf (a .t .header))) (a .times)) repeated-name 0
-    (refuse (not (lengthRight i)) cut-contents 0 (soundThen (headerAt 0) (faultIn i) (Accepted (0 + length (layoutItem i)))))
-unfolding itemWriting
-past-9 c =
-    let h = c .before .before in
-    let a = h .before .before .args in
-    own-writing (rawItem (a .t) (a .values .now)) (a .times) 0
-    ∙ head-passed 0 (a .t .header) _ _ (sym (h .head-writing .ensures) ∙ c .enum-told .given .1)
-
-returns-2 : tie.Need-returns-2
-returns-2 c =
-    let o = c .before in
-    rw (past-9 (o .before), ← o .often-of .ensures, le-leb _ _ (c .if1 .taken))
-
--- past 10: length and fault decide
-past-10 : (c : tie.Else1) →
-    let a = c .before .before .before .before .before .before .args in
-    let i = rawItem (a .t) (a .values .now) in
-    itemWriting (a .times) 0 (itemFrom (a .t) (a .values .now))
-    ≡ refuse (not (lengthRight i)) cut-contents 0 (soundThen (headerAt 0) (faultIn i) (Accepted (0 + length (layoutItem i))))
-past-10 c =
-    let o = c .before in
-    rw (past-9 (o .before), ← o .often-of .ensures, lt-leb _ _ (c .if1 .left))
-
-returns-3 : tie.Need-returns-3
-returns-3 c =
-    let l = c .before in
-    rw (past-10 (l .before .before), ← l .length-right .ensures, c .if2 .taken)
-
-add-before : tie.Need-add-before
-add-before c = omega (arith, c .lead .ensures, lead-small (c .before .extent-of .result))
-
-add-len : tie.Need-add-len
-add-len c =
-    let n = c .before in
-    let g = n .before .before in
-    let l = g .before in
-    let a = l .before .before .before .before .before .before .before .before .args in
-    let i = rawItem (a .t) (a .values .now) in
-    let few = length-small i (sym (l .length-right .ensures) ∙ not-false (l .length-right .result) (g .if2 .left)) in
-    let o = l .before in
-    let s = ap (λ (x : List ℕ). length x) (contents-as (o .held-as .result) i (o .held-as .ensures)) in
-    omega (arith, c .len-as .ensures, n .lead .ensures, lead-small (n .before .extent-of .result))
-
--- past 11: the fault decides
-returns-4 : tie.Need-returns-4
-returns-4 c =
-    let v = c .before in
-    let m = v .before in
-    let n = m .before in
-    let x = n .before in
-    let g = x .before in
-    let l = g .before in
-    let o = l .before in
-    let a = o .before .before .before .before .before .before .before .args in
-    let i = rawItem (a .t) (a .values .now) in
-    let k = fault-as (o .held-as .result) i (o .held-as .ensures) in
-    let s = ap (λ (y : List ℕ). length y) (contents-as (o .held-as .result) i (o .held-as .ensures)) in
-    let e : m .len-as .result + (1 + n .lead .result) ≡ 0 + length (layoutItem i) =
-    omega (arith, length-layout i, m .len-as .ensures, n .lead .ensures, ap leadOf (x .extent-of .ensures)) in
-    rw (past-10 (o .before), ← l .length-right .ensures, g .if2 .left, ← k, ← v .values-fault .ensures)
-    (c .at-header .ensures ∙ ap (λ n. soundThen (headerAt 0) (v .values-fault .result) (Accepted n)) (omega arith))
+    rw (own-writing (rawItem (a .t) (a .values .now)) (a .times) 0) (c .judged .ensures)
 
 pub refusal-spec : {M : Type 1} → statement M
-refusal-spec =
-    tie.close
-    (tie.spec
-    (λ c κs. search needs)
-    (λ c. search needs)
-    (λ c. search needs)
-    returns
-    (λ c κs. search needs)
-    returns-2
-    (λ c κs. search needs)
-    (λ c κs. c .held-as .ensures)
-    returns-3
-    (λ c κs. search needs)
-    (λ c κs. search needs)
-    add-before
-    (λ c κs. search needs)
-    add-len
-    (λ c κs. search needs)
-    (λ c κs. search needs)
-    returns-4)
+refusal-spec = tie.close (tie.spec (λ c κs. search needs) (λ c κs. search needs) judged-requires returns)

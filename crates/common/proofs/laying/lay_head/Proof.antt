@@ -1,12 +1,11 @@
 -- `lay_head` meets its contract: of each kind the octets that are copied are those of its layout, each modulo 256.
-use Prim.Native.Nat.{ℕ, _+_, _/_, _%_, _<_}
+use Prim.Native.Nat.{ℕ, _/_, _%_, _<_}
 use native.Mathlib.Omega.{arith}
 use mathlib.Core.Path.{_≡_, sym, _∙_}
 use mathlib.Core.Bool.{Bool, true, false}
 use mathlib.Core.List.{List, [], _∷_}
 use borrow.Author.Needs.{needs}
 use borrow.Author.Tests.{ne-eqb}
-use lib.ListN.{length}
 use Rattle.annex.specs.Heads.{transfer-data, isCall}
 use Rattle.annex.specs.Layout.{layoutItems, callOctets, layoutPart}
 use Rattle.annex.specs.Memory.{lowOctets, copying, layingHead}
