@@ -3,7 +3,7 @@
 -- stores, so does one that says the same at both, and one that stores nothing. For `Common::none`, `Transfer::none`,
 -- `walk::cursor::first`, `reader::reading::empty` and, in the base, where every name may stand once, for `often_of` a constant is right,
 -- and they have no row.
-use Prim.Native.Nat.{ℕ, min}
+use Prim.Native.Nat.{ℕ, _+_, min}
 use native.Mathlib.Omega.{arith}
 use mathlib.Core.Path.{_≡_, refl, sym, ap, _∙_}
 use mathlib.Core.Bool.{Bool, true, false, cond, not, _&&_}
