@@ -1,18 +1,16 @@
 -- A record's image as octets, for calls from Rust and C: the values of a record one after the other, and before what is counted its count.
 use Prim.Native.Nat.{ℕ, zero, suc, _+_, _*_, _/_, _%_}
-use mathlib.Core.Bool.{Bool, cond, not, _&&_}
+use mathlib.Core.Bool.{Bool, cond, _&&_}
 use mathlib.Core.List.{List, [], _∷_, _++_}
-use lib.Dec.{eqb, leb, ltb}
+use lib.Dec.{eqb, leb}
 use lib.ListN.{length, getD, take, drop}
-use Rattle.annex.specs.Answers.{over-limits, no-room, refuse, roomAfter}
+use Rattle.annex.specs.Answers.{over-limits}
 use Rattle.annex.specs.Heads.{transfer-data, most-commons, most-transfers, most-transfer-octets, most-values}
 use Rattle.annex.specs.Items.{Item, Part}
 use Rattle.annex.specs.Allowed.{itemsIn}
-use Rattle.annex.specs.Records.{commonHead, transferHead, headOf, commonHeadOf, rawItem, rawPart, valuesOf, pack, isWhole, view}
+use Rattle.annex.specs.Records.{commonHead, transferHead, headOf, commonHeadOf, rawItem, rawPart, valuesOf, pack}
 use Rattle.annex.specs.declared.Common.{Common}
 use Rattle.annex.specs.declared.Transfer.{Transfer}
-use Rattle.annex.specs.declared.Record.{Record}
-use Rattle.annex.specs.declared.Answer.{Answer}
 use Rattle.annex.specs.declared.Answer.the-variants.{Accepted, Refused}
 use Rattle.annex.specs.declared.Imaged.{Imaged}
 
@@ -54,17 +52,6 @@ imageParts (p ∷ ps) = imagePart p ++ imageParts ps
 -- a record: the count of its common parameters, then these
 unfoldable pub imageOf : List Part → List ℕ
 imageOf r = length r ∷ imageParts r
-
--- the image of a struct, and so much room for it: 1 where the struct's counts and lengths leave its arrays, 15 where the room is shorter
-unfoldable pub imagingOf : Record → ℕ → Answer
-imagingOf q room =
-    refuse (not (isWhole q)) over-limits 0
-    (refuse (ltb room (length (imageOf (view q)))) no-room 0
-    (Accepted (length (imageOf (view q)))))
-
--- what the room then holds: the image at its front, octets past it as before; unchanged where refused
-unfoldable pub imagedIn : Record → List ℕ → List ℕ
-imagedIn q room = roomAfter (imagingOf q (length room)) (imageOf (view q)) room
 
 -- ---- from an image to a record
 

@@ -8,7 +8,7 @@ use lib.ListN.{length}
 use Rattle.annex.specs.Reading.{verdictOf}
 use Rattle.annex.specs.Records.{readingOf}
 use Rattle.annex.specs.Writing.{structWriting, writingOf, writtenOf}
-use Rattle.annex.specs.Image.{imagingOf, imagedIn, imagedOf}
+use Rattle.annex.specs.Image.{imagedOf}
 use Rattle.annex.specs.Finding.{commonFound, transferFound, findAnswer, findPart}
 use Rattle.annex.specs.Spans.{spansOf, tableOf}
 use Rattle.annex.specs.Editing.{Edit, editingOf, bufferOf}
@@ -86,9 +86,9 @@ ClassPromise h x r = r ≡ classOf h x
 
 -- ---- a record's image
 
--- to_image::to_image
-abbrev pub ToImagePromise : Record → List ℕ → Answer → List ℕ → Type 0
-ToImagePromise s room r now = (r ≡ imagingOf s (length room)) × (now ≡ imagedIn s room)
+-- to_image::read_image
+abbrev pub ImageReadPromise : List ℕ → List ℕ → Answer → List ℕ → Type 0
+ImageReadPromise m room r now = (r ≡ imageReading m (length room)) × (now ≡ imageRead m room)
 
 -- from_image::from_image
 abbrev pub FromImagePromise : List ℕ → Imaged → Type 0

@@ -480,6 +480,12 @@ impl Imaged {
     pub const COMMON_HEAD: usize = 6;
 
     pub const TRANSFER_HEAD: usize = 11;
+
+    // the longest image of a record that may be read
+    pub const MOST: usize = 1
+        + Imaged::COMMON_HEAD * Common::MOST
+        + Imaged::TRANSFER_HEAD * Transfer::MOST
+        + 2 * Transfer::MOST_OCTETS;
 }
 
 // What a parameter is found by: a common one by its header, a transfer one by its name and which of those with the name, counted from 0.

@@ -36,21 +36,12 @@ use Rattle.annex.specs.declared.Answer.the-variants.{Accepted, Refused}
 use Rattle.annex.specs.declared.Record.{Record}
 use Rattle.laws.specs.Laid.{length-layout, lead-small}
 use Rattle.laws.specs.Places.{item-place}
-use Rattle.theorems.specs.Messages.{read-then-laid}
-use Rattle.theorems.specs.Records.{layout-append, values-within}
+use Rattle.theorems.specs.Records.{layout-append}
 use Rattle.theorems.specs.Writings.{item-written}
-use Rattle.to_image.specs.Octets.{items-long, parts-long}
+use Rattle.theorems.specs.Images.{image-most}
 use Rattle.boundary.specs.Small.{Upto, farthest, upto-more, upto-refuse, upto-then, verdict-upto}
 
 -- ---- read to an image
-
-image-most : (m : List ℕ) → every isOctet m ≡ true → (n : ℕ) → verdictOf m ≡ Accepted n → length (imageOf (recordOf m)) ≤ most-image
-unfolding imageOf
-image-most m o n e =
-    let r = recordOf m in
-    let a = read-then-laid m o n e .1 in
-    let values = values-within (itemsIn r) in
-    omega (arith, parts-long r, items-long (itemsIn r), a .few-commons, a .few-transfers, a .few-contents)
 
 -- the number of most-image that a program is compiled with
 pub image-max : most-image ≡ 1119

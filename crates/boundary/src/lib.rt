@@ -10,9 +10,8 @@ use editor::remove;
 use editor::replace;
 use from_image::from_image;
 use reader::finding::find_both;
-use reader::reading::read;
 use rows::octets::octet_spans;
-use to_image::to_image;
+use to_image::read_image;
 use writer::write;
 ghost use mathlib.Core.Path.{_≡_};
 ghost use Rattle.annex.specs.Answers.{classValueOf};
@@ -69,13 +68,7 @@ fn class_value(c: Class) -> usize
 pub extern "C" fn tk_read(message: &[u8], image: &mut [u8]) -> u64
     ensures { λ r. ⌜ TkReadPromise (now (message .entry)) (now (image .entry)) r (now (image .exit)) ⌝ }
 {
-    let reading = read(message);
-    let a = reading.answer;
-    let Answer::Accepted(_) = a else {
-        return pack_answer(a);
-    };
-    let held = reading.record;
-    pack_answer(to_image(held, image))
+    pack_answer(read_image(message, image))
 }
 
 // The message of the record of an image, at the front of the room: its length. A refusal leaves the room as it was.

@@ -31,7 +31,7 @@ use Rattle.annex.specs.Promises.{
   OctetSpansPromise,
   WritePromise,
   EditPromise,
-  ToImagePromise,
+  ImageReadPromise,
   TkReadPromise,
   TkWritePromise,
   TkRowsPromise,
@@ -116,7 +116,7 @@ pub record Demand1 : Type 0 where
   pub octet-spans : (m table : List ℕ) → Lending table (OctetSpansPromise m table)
   pub write : (q : Record) (room : List ℕ) → Lending room (WritePromise q room)
   pub edit : (e : Edit) (d : List ℕ) (n : ℕ) → Lending d (EditPromise e d n)
-  pub to-image : (q : Record) (room : List ℕ) → Lending room (ToImagePromise q room)
+  pub read-image : (m room : List ℕ) → Lending room (ImageReadPromise m room)
   pub tk-read : (m room : List ℕ) → PackedLending room (imageReading m (length room)) (TkReadPromise m room)
   pub tk-write : (image room : List ℕ) → PackedLending room (imageWriting image (length room)) (TkWritePromise image room)
   pub tk-rows : (m table : List ℕ) → PackedLending table (octetSpans m (length table)) (TkRowsPromise m table)

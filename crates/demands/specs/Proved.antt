@@ -17,7 +17,6 @@ use Rattle.annex.specs.Allowed.{timesIn, itemsIn, namesOf, Allowed, Writable, h
 use Rattle.annex.specs.Reading.{verdictOf, recordOf}
 use Rattle.annex.specs.Records.{pack, isWhole, view, readBy, readingOf}
 use Rattle.annex.specs.Writing.{structWriting, writingOf, writtenOf}
-use Rattle.annex.specs.Image.{imagingOf, imagedIn}
 use Rattle.annex.specs.Spans.{rowsOf, spansOf, tableOf, spansBy}
 use Rattle.annex.specs.Finding.{commonFound, transferFound, findAnswer, findPart}
 use Rattle.annex.specs.Editing.{Edit, edited, bufferOf}
@@ -77,7 +76,6 @@ use Rattle.tight.specs.Told.{
   editing-told,
   HasNumber,
   struct-told,
-  imaging-told,
   imaged-told,
   read-image-told,
   write-image-told,
@@ -154,7 +152,7 @@ unfolding readingOf
 read-verdict m r p = ap (λ (x : Reading). x .answer) p ∙ read-answer (verdictOf m) (recordOf m)
 
 pub demand-1 : Demand1
-unfolding tableOf octetTable writtenOf bufferOf imagedIn imageRead imageWritten
+unfolding tableOf octetTable writtenOf bufferOf imageRead imageWritten
 demand-1 =
     record {
       verdict = λ m. answering (verdict-told m);
@@ -177,7 +175,7 @@ demand-1 =
       octet-spans = λ m table. lending (spans-told m _) (octets-kept (octetSpans m (length table)) _ table);
       write = λ q room. lending (writing-told q (length room)) (after-refusal (writingOf q (length room)) _ room);
       edit = λ e d n. lending (editing-told e d n) (λ k q f. buffer-refused e d n k q f);
-      to-image = λ q room. lending (imaging-told q (length room)) (after-refusal (imagingOf q (length room)) _ room);
+      read-image = λ m room. lending (read-image-told m (length room)) (after-refusal (imageReading m (length room)) _ room);
       tk-read = λ m room. packed-lending (read-image-told m (length room)) (after-refusal (imageReading m (length room)) _ room);
       tk-write = λ image room.
           packed-lending (write-image-told image (length room)) (after-refusal (imageWriting image (length room)) _ room);

@@ -15,6 +15,7 @@ use Rattle.annex.specs.Allowed.{itemsIn}
 use Rattle.annex.specs.Walk.{Par}
 use Rattle.annex.specs.Reading.{callNumber, openTransfer, dataIn, openCommon, transfersOf, openCommonBy}
 use Rattle.annex.specs.Records.{valueHead, dataHead, noCommon, noTransfer, pad, headOf, commonHeadOf, valuesOf, pack, commonHead}
+use Rattle.annex.specs.Opening.{partHead}
 use Rattle.annex.specs.declared.Common.{Common}
 use Rattle.annex.specs.declared.Record.{Record}
 
@@ -156,12 +157,6 @@ parts-turn q p ps k used =
     ap (λ l. sets (q .values) used l) (values-append (p .items) (itemsIn ps))
     ∙ sets-append (valuesOf (p .items)) (valuesOf (itemsIn ps)) (q .values) used in
     λ j. record { commons = en j; common = ec j; transfer = et j; values = ev j }
-
--- ---- the head of a common parameter
-
-abbrev pub partHead : ℕ → List ℕ → ℕ → Common
-partHead h own n =
-    cond (eqb h transfer-data) (dataHead n) (cond (isCall h) (valueHead h (callNumber own)) (valueHead h (getD own 0 0)))
 
 -- ---- a common parameter opened
 

@@ -26,6 +26,7 @@ pub mod Walks
 pub mod Steps
 pub mod Plain
 pub mod Filling
+pub mod Runs
 pub mod Finding
 pub mod Rows
 pub mod Listed

@@ -2,27 +2,25 @@
 use Prim.Native.Nat.{ℕ, _≤_, _+_}
 use native.Mathlib.Omega.{arith}
 use mathlib.Core.Path.{_≡_, sym, ap, _∙_}
-use mathlib.Core.List.{List, _∷_, map}
+use mathlib.Core.List.{List, _∷_}
 use lib.ListN.{length, getD, set, length-append}
 use Rattle.annex.specs.Units.{commonExtentOf}
 use Rattle.annex.specs.Heads.{end-mark, most-transfers, most-values}
 use Rattle.annex.specs.Items.{Part}
 use Rattle.annex.specs.Allowed.{Each, every, isOctet, itemsIn}
-use Rattle.annex.specs.Walk.{Par}
-use Rattle.annex.specs.Reading.{verdictOf, commonsOf, openCommon, withoutEnd, recordOf, recordBy}
+use Rattle.annex.specs.Reading.{verdictOf, openCommon, recordOf}
 use Rattle.annex.specs.Records.{valuesOf, commonHeadOf, pack}
 use Rattle.annex.specs.declared.Common.{Common}
 use Rattle.annex.specs.declared.Record.{Record}
 use Rattle.annex.specs.declared.Found.the-variants.{Nowhere}
 use Rattle.annex.specs.declared.Answer.the-variants.{Accepted}
-use Rattle.annex.specs.Contents.{faultOf}
 use Rattle.annex.specs.Walking.{stretchAt}
 use mathlib.Core.Bool.{true}
-use Rattle.laws.specs.Plain.{InnerSound, commons-plain, commons-inner}
+use Rattle.laws.specs.Plain.{InnerSound}
 use Rattle.laws.specs.Filling.{withItems, withParts, emptyRecord, filled-whole, filled-none, part-put, values-append}
 use Rattle.walk.specs.Stretches.{parIn, Whole}
 use Rattle.theorems.specs.Messages.{read-within}
-use Rattle.reader.specs.Filling.{parsAt, partsLeft, parts-none, parts-mark, parts-more}
+use Rattle.reader.specs.Filling.{parsAt, partsLeft, parts-all, sound-all, parts-none, parts-mark, parts-more, sound-more}
 
 pub record Filling (m : List ℕ) (q : Record) (transfers used i : ℕ) : Type 0 where
   pub becomes : pack (recordOf m) ≡ withParts q (partsLeft m i) transfers used
@@ -33,18 +31,16 @@ pub record Filling (m : List ℕ) (q : Record) (transfers used i : ℕ) : Type 0
 
 pub filling-start : (m : List ℕ) (n : ℕ) → every isOctet m ≡ true → verdictOf m ≡ Accepted n → (q : Record) → q ≡ emptyRecord
     → Filling m q 0 0 0
-unfolding recordBy
 filling-start m n o v q e =
     let w = read-within m o n v in
-    let p : commonsOf m ≡ parsAt m 0 = commons-plain faultOf m n v in
-    let r : recordOf m ≡ partsLeft m 0 = ap (λ (qs : List Par). map openCommon (withoutEnd qs)) p in
+    let r = parts-all m n v in
     rw e (record {
       becomes =
           sym (filled-whole (recordOf m) (w .commons) (w .transfers) (w .values)) ∙ ap (λ (ps : List Part). withParts emptyRecord ps 0 0) r;
       commons = omega (arith, rw r at (w .commons));
       places = omega (arith, rw r at (w .transfers));
       values = omega (arith, rw r at (w .values));
-      sound = rw p at (commons-inner m);
+      sound = sound-all m n v;
     })
 
 -- a parameter that is no end mark, with those behind it
@@ -61,9 +57,6 @@ module _ {m : List ℕ} {q : Record} {transfers used i : ℕ} (f : Filling m q t
   filling-end h = sym (f .becomes ∙ rw (parts-none m i h) (filled-none q transfers used))
 
   module _ {s x : ℕ} (w : Whole commonExtentOf m i s x) where
-    each-sound : Each InnerSound (parIn m i x ∷ parsAt m x)
-    each-sound = rw (w .next) at (f .sound)
-
     pub filling-mark : getD m i 0 ≡ end-mark → Filling m q transfers used x
     filling-mark e =
         let p = parts-mark w e in
@@ -72,7 +65,7 @@ module _ {m : List ℕ} {q : Record} {transfers used i : ℕ} (f : Filling m q t
           commons = rw p at (f .commons);
           places = rw p at (f .places);
           values = rw p at (f .values);
-          sound = each-sound .1;
+          sound = sound-more w (f .sound) .1;
         }
 
     pub filling-next : (getD m i 0 ≡ end-mark → ⊥) → Next m q transfers used i x (openCommon (parIn m i x)) (partsLeft m x)
@@ -86,8 +79,8 @@ module _ {m : List ℕ} {q : Record} {transfers used i : ℕ} (f : Filling m q t
           commons = omega (arith, rw g at (f .commons));
           places = omega (arith, rw g at (f .places), length-append (p .items) (itemsIn rest));
           values = omega (arith, rw (g, values-append (p .items) (itemsIn rest)) at (f .values), l);
-          here = each-sound .0;
-          sound = each-sound .1;
+          here = sound-more w (f .sound) .0;
+          sound = sound-more w (f .sound) .1;
         }
 
 -- and put into the struct, its head behind those that it has

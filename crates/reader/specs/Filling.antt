@@ -1,4 +1,4 @@
--- A record's struct with the parameters of transfer data put in.
+-- The parameters of a message and of transfer data by the length rule, from one octet on; and a record's struct with them put in.
 use mathlib.Core.Path.{_≡_, ap, _∙_}
 use mathlib.Core.List.{List, [], _∷_, _++_, map}
 use Prim.Native.Nat.{ℕ, suc, _+_, _-_}
@@ -10,13 +10,15 @@ use Rattle.annex.specs.Units.{extentOf, commonExtentOf}
 use Rattle.annex.specs.Heads.{end-mark, transfer-data}
 use Rattle.annex.specs.Walk.{Par}
 use Rattle.annex.specs.Items.{Item, Part, itemOf}
+use Rattle.annex.specs.Allowed.{Each}
 use Rattle.annex.specs.Records.{headOf, valuesOf}
-use Rattle.annex.specs.Reading.{openTransfer, openCommon, withoutEnd, dataIn}
+use Rattle.annex.specs.Reading.{openTransfer, openCommon, withoutEnd, dataIn, verdictOf, recordOf, recordBy}
+use Rattle.annex.specs.declared.Answer.the-variants.{Accepted}
 use Rattle.annex.specs.declared.Found.the-variants.{Nowhere}
 use Rattle.annex.specs.declared.Record.{Record}
 use Rattle.annex.specs.Contents.{faultOf}
 use Rattle.annex.specs.Walking.{pars, stretchAt}
-use Rattle.laws.specs.Plain.{transferSize, commonSize, InnerSound, transfers-plain}
+use Rattle.laws.specs.Plain.{transferSize, commonSize, InnerSound, transfers-plain, commons-plain, commons-inner}
 use Rattle.laws.specs.Filling.{withItems, items-turn, items-opened}
 use Rattle.walk.specs.Stretches.{parIn, Whole, stretch-none}
 use Rattle.reader.specs.declared.reading.Filled.{Filled}
@@ -78,6 +80,15 @@ parsAt m i = pars commonSize 0 i (drop i m)
 abbrev pub partsLeft : List ℕ → ℕ → List Part
 partsLeft m i = map openCommon (withoutEnd (parsAt m i))
 
+-- in an accepted message those from its first octet on are its record's, and the transfer data of each is accepted
+module _ (m : List ℕ) (n : ℕ) (v : verdictOf m ≡ Accepted n) where
+  pub parts-all : recordOf m ≡ partsLeft m 0
+  unfolding recordBy
+  parts-all = ap (λ (qs : List Par). map openCommon (withoutEnd qs)) (commons-plain faultOf m n v)
+
+  pub sound-all : Each InnerSound (parsAt m 0)
+  sound-all = rw (commons-plain faultOf m n v) at (commons-inner m)
+
 pub parts-none : (m : List ℕ) (i : ℕ) → stretchAt m i (commonExtentOf (getD m i 0)) ≡ Nowhere → partsLeft m i ≡ []
 parts-none m i h = rw (stretch-none commonExtentOf m i h)
 
@@ -87,6 +98,9 @@ module _ {m : List ℕ} {i s x : ℕ} (w : Whole commonExtentOf m i s x) where
 
   pub parts-more : (getD m i 0 ≡ end-mark → ⊥) → partsLeft m i ≡ openCommon (parIn m i x) ∷ partsLeft m x
   parts-more u = rw (w .next, ne-eqb (getD m i 0) end-mark u)
+
+  pub sound-more : Each InnerSound (parsAt m i) → Each InnerSound (parIn m i x ∷ parsAt m x)
+  sound-more d = rw (w .next) at d
 
   -- C5's transfer data is its contents
   pub data-is : getD m i 0 ≡ transfer-data → dataIn (parIn m i x) ≡ take (x - s) (drop s m)

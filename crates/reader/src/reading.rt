@@ -22,9 +22,9 @@ ghost use Rattle.annex.specs.Heads.{most-transfers, most-values};
 ghost use Rattle.annex.specs.Reading.{verdictOf, recordOf};
 ghost use Rattle.annex.specs.declared.Answer.the-variants.{Accepted};
 ghost use Rattle.annex.specs.Items.{itemOf};
+ghost use Rattle.annex.specs.Opening.{partHead};
 ghost use Rattle.annex.specs.Records.{headOf, valuesOf, pack};
 ghost use Rattle.annex.specs.Promises.{ReadPromise, Gives};
-ghost use Rattle.laws.specs.Filling.{partHead};
 ghost use Rattle.reader.specs.Filling.{itemsFrom, filledWith};
 
 // A record's struct, and how many of its transfer parameters and values are filled in.
@@ -49,7 +49,7 @@ pub fn empty() -> Record
 }
 
 // The head of a common parameter with these octets of its own; a C5's has so many transfer parameters.
-fn part_head(header: u8, own: &[u8], transfers: u8) -> Common
+pub fn part_head(header: u8, own: &[u8], transfers: u8) -> Common
     ensures { λ r. ⌜ Gives (partHead header (now (own .entry)) transfers) r ⌝ }
 {
     if header == Common::TRANSFER_DATA {

@@ -29,13 +29,16 @@ use Rattle.annex.specs.Image.{
   noImage,
   isWithin,
   imagedOf,
+  common-head,
+  transfer-head,
+  most-image,
 }
 use Rattle.annex.specs.Image.Front.{Taken}
 use Rattle.annex.specs.declared.Answer.the-variants.{Accepted}
 use Rattle.theorems.specs.Lists.{each-left, each-right, each-so}
 use Rattle.theorems.specs.Commons.{Kind, kind, AllowedPart}
 use Rattle.theorems.specs.Commons.Kind.{octet, call, many}
-use Rattle.theorems.specs.Records.{plain-items, allowed-parts, Within, allowed-within}
+use Rattle.theorems.specs.Records.{plain-items, allowed-parts, Within, allowed-within, values-within}
 use Rattle.theorems.specs.Views.{view-pack}
 use Rattle.theorems.specs.Messages.{read-then-laid}
 
@@ -191,6 +194,45 @@ unfolding readingOf
 read-back m o n e =
     let a = read-then-laid m o n e .1 in
     rw (e, view-pack (recordOf m) (a .held)) (allowed-back (recordOf m) a)
+
+-- ---- how long an image is
+
+pub length-item : (i : Item) → length (imageItem i) ≡ transfer-head + length (i .values)
+unfolding imageItem
+length-item i = omega arith
+
+items-long : (is : List Item) → length (imageItems is) ≡ transfer-head * length is + length (valuesOf is)
+unfolding imageItems valuesOf
+items-long [] = refl
+items-long (i ∷ is) =
+    omega (arith, length-append (imageItem i) (imageItems is), length-item i, length-append (i .values) (valuesOf is), items-long is)
+
+items-append : (is js : List Item) → imageItems (is ++ js) ≡ imageItems is ++ imageItems js
+unfolding imageItems
+items-append [] js = refl
+items-append (i ∷ is) js = rw (items-append is js, append-assoc (imageItem i) (imageItems is) (imageItems js))
+
+part-long : (p : Part) → length (imagePart p) ≡ common-head + length (imageItems (p .items))
+unfolding imagePart
+part-long p = omega arith
+
+parts-long : (r : List Part) → length (imageParts r) ≡ common-head * length r + length (imageItems (itemsIn r))
+unfolding imageParts imageItems
+parts-long [] = refl
+parts-long (p ∷ r) =
+    let a =
+    ap (λ (l : List ℕ). length l) (items-append (p .items) (itemsIn r))
+    ∙ length-append (imageItems (p .items)) (imageItems (itemsIn r)) in
+    omega (arith, length-append (imagePart p) (imageParts r), part-long p, parts-long r, a)
+
+-- the image of an accepted message's record has at most so many octets
+pub image-most : (m : List ℕ) → every isOctet m ≡ true → (n : ℕ) → verdictOf m ≡ Accepted n → length (imageOf (recordOf m)) ≤ most-image
+unfolding imageOf
+image-most m o n e =
+    let r = recordOf m in
+    let a = read-then-laid m o n e .1 in
+    let values = values-within (itemsIn r) in
+    omega (arith, parts-long r, items-long (itemsIn r), a .few-commons, a .few-transfers, a .few-contents)
 
 -- ---- an example: user class 1, own call number 12345, transfer data with the originating area 1203
 

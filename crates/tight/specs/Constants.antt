@@ -69,7 +69,7 @@ use Rattle.annex.specs.Promises.{Gives, Keeps}
 use Rattle.annex.specs.Bench.{K, recordOfK, recordOfM}
 use Rattle.annex.specs.Walking.{pars, soughtIn, searchIn, commonPlain, stretchAt, cursorTo, stretchHere, rowHere, nextOf}
 use Rattle.annex.specs.Memory.{Request, put, laidAt, spliced, copying, splicing, packing, unpacking, laying, layingHead, valuesFit}
-use Rattle.annex.specs.Opening.{headFor, valuesWith, openedHead, openedValues}
+use Rattle.annex.specs.Opening.{headFor, valuesWith, openedHead, openedValues, partHead}
 use Rattle.annex.specs.declared.Alphabet.the-variants.{Dialled, Numbered}
 use Rattle.annex.specs.declared.Answer.{Answer}
 use Rattle.annex.specs.declared.Answer.the-variants.{Accepted, Refused}
@@ -276,6 +276,7 @@ rows =
     finds (stretchAt K 0 (Counted Octet)) (stretchAt [] 0 (Counted Octet)) ∷  -- stretch_at
     gives Row (λ r. r .offset) (rowHere K (cursorTo 0 0)) (rowHere K (cursorTo 2 2)) ∷  -- row_here
     gives Cursor (λ c. c .at) (nextOf K (cursorTo 0 0)) (nextOf K (cursorTo 2 2)) ∷  -- next
+    commons (λ c. c .value) (partHead 0x83 (0x39 ∷ 0x30 ∷ 0x00 ∷ []) 0) (partHead 0x83 (0x30 ∷ 0x39 ∷ 0x00 ∷ []) 0) ∷  -- part_head
     finds (searchIn (Name 0x01 0) (0x41 ∷ 0x01 ∷ [])) (searchIn (Name 0x01 1) (0x41 ∷ 0x01 ∷ [])) ∷  -- search_by_length
     finds (commonPlain 0x01 K) (commonPlain 0x06 K) ∷  -- common_by_length
     gives Answer givenOf (findAnswer short (foundBy (Header 0x01) short)) (findAnswer short (foundBy (Header 0x06) short))

@@ -11,12 +11,12 @@ use Rattle.annex.specs.Items.{Part}
 use Rattle.annex.specs.Reading.{verdictOf, recordOf}
 use Rattle.annex.specs.Records.{readBy, readingOf}
 use Rattle.annex.specs.Writing.{structWriting, writingOf, writtenOf}
-use Rattle.annex.specs.Image.{imagingOf, imagedIn, imagedOf}
+use Rattle.annex.specs.Image.{imagedOf}
 use Rattle.annex.specs.Finding.{commonFound, transferFound, findAnswer}
 use Rattle.annex.specs.Spans.{spansOf, tableOf}
 use Rattle.annex.specs.Editing.{Edit, editingOf, bufferOf}
 use Rattle.annex.specs.Classes.{classOf}
-use Rattle.annex.specs.Packed.{octetSpans, octetTable}
+use Rattle.annex.specs.Packed.{imageReading, imageRead, octetSpans, octetTable}
 use Rattle.annex.specs.Promises.{
   VerdictPromise,
   ReadPromise,
@@ -29,7 +29,7 @@ use Rattle.annex.specs.Promises.{
   RecordRefusalPromise,
   EditPromise,
   ClassPromise,
-  ToImagePromise,
+  ImageReadPromise,
   FromImagePromise,
 }
 use Rattle.annex.specs.declared.Answer.{Answer}
@@ -51,7 +51,7 @@ use Rattle.tight.specs.Told.{
   struct-told,
   writing-told,
   editing-told,
-  imaging-told,
+  read-image-told,
   imaged-told,
   class-told,
 }
@@ -112,9 +112,9 @@ pub edit-numbers : (e : Edit) (buffer : List ℕ) (n : ℕ) (r : Answer) (now : 
     → EditPromise e buffer n r now ↔ (Right (editingOf e buffer n) r × (now ≡ bufferOf e buffer n))
 edit-numbers e buffer n r now = right-with (editingOf e buffer n) r (bufferOf e buffer n) now (editing-told e buffer n)
 
-pub imaging-numbers : (held : Record) (room : List ℕ) (r : Answer) (now : List ℕ)
-    → ToImagePromise held room r now ↔ (Right (imagingOf held (length room)) r × (now ≡ imagedIn held room))
-imaging-numbers held room r now = right-with (imagingOf held (length room)) r (imagedIn held room) now (imaging-told held (length room))
+pub imaging-numbers : (m room : List ℕ) (r : Answer) (now : List ℕ)
+    → ImageReadPromise m room r now ↔ (Right (imageReading m (length room)) r × (now ≡ imageRead m room))
+imaging-numbers m room r now = right-with (imageReading m (length room)) r (imageRead m room) now (read-image-told m (length room))
 
 -- an answer with a record beside it
 same-reading : (r d : Reading) → (r .answer ≡ d .answer) × (r .«record» ≡ d .«record») → r ≡ d

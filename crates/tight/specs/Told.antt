@@ -112,7 +112,7 @@ use Rattle.annex.specs.Writing.{
   structWriting,
   writingOf,
 }
-use Rattle.annex.specs.Image.{Front, imageOf, imagingOf, partsFront, noImage, isWithin, imagedBy, imagedOf}
+use Rattle.annex.specs.Image.{Front, imageOf, partsFront, noImage, isWithin, imagedBy, imagedOf}
 use Rattle.annex.specs.Image.Front.{Taken, Short}
 use Rattle.annex.specs.Finding.{foundAnswer, findAnswer}
 use Rattle.annex.specs.Packed.{imageReading, imageWriting}
@@ -394,12 +394,6 @@ editing-told e d n =
     (refused (ltb (length d) k) no-room 0 (Accepted k) (omega arith) (record {}))))))
 
 -- ---- a record's image
-
-pub imaging-told : (q : Record) (room : ℕ) → HasNumber (imagingOf q room)
-unfolding imagingOf
-imaging-told q room =
-    let k = length (imageOf (view q)) in
-    refused (not (isWhole q)) over-limits 0 _ (omega arith) (refused (ltb room k) no-room 0 (Accepted k) (omega arith) (record {}))
 
 pub imaged-told : (image : List ℕ) → HasNumber (imagedOf image .answer)
 unfolding imagedOf

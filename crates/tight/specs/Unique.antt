@@ -24,7 +24,7 @@ use Rattle.annex.specs.Promises.{
   RecordRefusalPromise,
   EditPromise,
   ClassPromise,
-  ToImagePromise,
+  ImageReadPromise,
   FromImagePromise,
   TkReadPromise,
   TkWritePromise,
@@ -124,9 +124,9 @@ one-class h x a b p q = same p q
 
 -- ---- a record's image
 
-pub one-imaging : (held : Record) (room : List ℕ) (a b : Answer) (s t : List ℕ) → ToImagePromise held room a s
-    → ToImagePromise held room b t → (a ≡ b) × (s ≡ t)
-one-imaging held room a b s t p q = both p q
+pub one-imaging : (m room : List ℕ) (a b : Answer) (s t : List ℕ) → ImageReadPromise m room a s → ImageReadPromise m room b t
+    → (a ≡ b) × (s ≡ t)
+one-imaging m room a b s t p q = both p q
 
 pub one-imaged : (image : List ℕ) (a b : Imaged) → FromImagePromise image a → FromImagePromise image b → a ≡ b
 one-imaged image a b p q = same p q

@@ -32,8 +32,6 @@ use Rattle.annex.specs.Image.{
   imagePart,
   imageParts,
   imageOf,
-  imagingOf,
-  imagedIn,
   itemsFront,
   partsFront,
   isWithin,
@@ -55,7 +53,7 @@ use Rattle.annex.specs.Packed.{
   octetTable,
 }
 use Rattle.annex.specs.Promises.{
-  ToImagePromise,
+  ImageReadPromise,
   FromImagePromise,
   TkReadPromise,
   TkWritePromise,
@@ -66,7 +64,7 @@ use Rattle.annex.specs.Promises.{
   TkClassPromise,
   TkEditPromise,
 }
-use Rattle.annex.specs.Bench.{M, recordOfK}
+use Rattle.annex.specs.Bench.{M}
 use Rattle.annex.specs.declared.Answer.{Answer}
 use Rattle.annex.specs.declared.Answer.the-variants.{Accepted, Refused}
 use Rattle.annex.specs.declared.Record.{Record}
@@ -88,13 +86,11 @@ lent n = replicate n 0xEE
 
 -- what the definitions say, computed once
 record SaidPacked : Type 0 where
-  imaging-K : imagingOf (pack recordOfK) 13 ≡ Accepted 13
-  imaged-K : imagedIn (pack recordOfK) (lent 13) ≡ imageOfK
-  imaged-short : imagedIn (pack recordOfK) (lent 12) ≡ lent 12
   back-K : imagedOf imageOfK .answer ≡ Accepted 2
   back-over : imagedOf over .answer ≡ Refused 1 0
   reading-K : imageReading short 13 ≡ Accepted 13
   read-K : imageRead short (lent 13) ≡ imageOfK
+  read-short : imageRead short (lent 12) ≡ lent 12
   writing-K : imageWriting imageOfK 6 ≡ Accepted 5
   written-K : imageWritten imageOfK (lent 6) ≡ short ++ (0xEE ∷ [])
   writing-over : imageWriting over 6 ≡ Refused 1 0
@@ -107,17 +103,15 @@ said-packed : SaidPacked
 unfolding afterOf leadOf commonExtentOf zeroesOf ownOf layoutItem layoutItems layoutPart layout valueRight valueFits walk octetAllowed
     commonForm endOf dataBy commonBy messageVerdictBy verdictBy commonsBy openCommonBy recordBy pad valuesOf pack viewItems lengthsOf
     transfersSum viewParts isWhole view partWriting partsWriting overLimits recordWriting structWriting writingOf imageItem imageItems
-    imagePart imageParts imageOf imagingOf imagedIn itemsFront partsFront isWithin imagedOf commonRowsBy rowsBy spansBy classOf imageReading
+    imagePart imageParts imageOf itemsFront partsFront isWithin imagedOf commonRowsBy rowsBy spansBy classOf imageReading
     imageRead imageWriting imageWritten rowsOctets octetTable
 said-packed =
     record {
-      imaging-K = refl;
-      imaged-K = refl;
-      imaged-short = refl;
       back-K = refl;
       back-over = refl;
       reading-K = refl;
       read-K = refl;
+      read-short = refl;
       writing-K = refl;
       written-K = refl;
       writing-over = refl;
@@ -131,13 +125,13 @@ said-packed =
 abbrev at : ℕ → List ℕ → ℕ
 at i l = getD l i 0
 
--- ---- to_image: one that answers the length and writes nothing; one that writes as much as there is room for
+-- ---- read_image: one that answers the length and writes nothing; one that writes as much as there is room for
 
-pub images-nothing : (a : Answer) → ToImagePromise (pack recordOfK) (lent 13) a (lent 13) → ⊥
-images-nothing a p = let z : _≡_ {A = ℕ} 0xEE 2 = ap (at 0) (p .1 ∙ said-packed .imaged-K) in omega arith
+pub images-nothing : (a : Answer) → ImageReadPromise short (lent 13) a (lent 13) → ⊥
+images-nothing a p = let z : _≡_ {A = ℕ} 0xEE 2 = ap (at 0) (p .1 ∙ said-packed .read-K) in omega arith
 
-pub images-a-part : (a : Answer) (rest : List ℕ) → ToImagePromise (pack recordOfK) (lent 12) a (2 ∷ rest) → ⊥
-images-a-part a rest p = let z : _≡_ {A = ℕ} 2 0xEE = ap (at 0) (p .1 ∙ said-packed .imaged-short) in omega arith
+pub images-a-part : (a : Answer) (rest : List ℕ) → ImageReadPromise short (lent 12) a (2 ∷ rest) → ⊥
+images-a-part a rest p = let z : _≡_ {A = ℕ} 2 0xEE = ap (at 0) (p .1 ∙ said-packed .read-short) in omega arith
 
 -- ---- from_image: one that refuses everything; one that leaves octets over
 

@@ -1,2 +1,2 @@
--- Laws that the proofs of this crate cite.
-pub mod Behind
+-- What the proofs of this crate share.
+pub mod Turns

@@ -1,3 +1,3 @@
--- What the contracts of this crate's own steps cite, with its laws.
+-- What the contracts of this crate's own steps cite, and the answers of reading to an image.
 pub mod Laying
-pub mod Octets
+pub mod Answering

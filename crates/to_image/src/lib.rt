@@ -1,200 +1,176 @@
-// The image of a record, written at the front of lent room.
+// The image of a message's record, written straight from the message's octets.
 use annex::Answer;
 use annex::Common;
-use annex::Holding;
+use annex::Found;
 use annex::Imaged;
-use annex::Marks;
-use annex::Record;
 use annex::Transfer;
-use limits::transfers_held;
-use limits::values_before;
 use octets::copy_in;
 use octets::octet_at;
-use parameter::opening::holding_of;
+use parameter::opening::open;
+use reader::reading::part_head;
+use reader::verdict::verdict;
+use units::common_extent_of;
+use units::extent_of;
+use walk::stretch::stretch_at;
 ghost use mathlib.Core.Path.{_≡_};
-ghost use mathlib.Core.List.{List};
-ghost use Prim.Native.Nat.{ℕ, _+_, _≤_};
+ghost use Prim.Native.Nat.{_+_, _≤_};
 ghost use lib.ListN.{length};
-ghost use Rattle.annex.specs.Items.{ownMarks, ownFields};
-ghost use Rattle.annex.specs.Records.{headOf, rawItem, view, itemFrom};
-ghost use Rattle.annex.specs.Image.{imageHead, imageItem, imageItems, imageCommon, imageParts, imageOf, common-head, transfer-head};
-ghost use Rattle.annex.specs.Promises.{ToImagePromise};
-ghost use Rattle.annex.specs.Memory.{atFront};
-ghost use Rattle.limits.specs.Along.{itemsAt, Within, Whole};
-ghost use Rattle.to_image.specs.Laying.{ownCommon, partOctets};
+ghost use lib.Seq.{sets};
+ghost use Rattle.annex.specs.Heads.{most-transfers, most-values};
+ghost use Rattle.annex.specs.Items.{itemOf};
+ghost use Rattle.annex.specs.Reading.{verdictOf, recordOf};
+ghost use Rattle.annex.specs.Records.{valuesOf};
+ghost use Rattle.annex.specs.declared.Answer.the-variants.{Accepted};
+ghost use Rattle.annex.specs.Image.{imageHead, imageItem, imageItems, imageCommon, imageOf, common-head, transfer-head};
+ghost use Rattle.annex.specs.Promises.{ImageReadPromise};
+ghost use Rattle.laws.specs.Runs.{Puts};
+ghost use Rattle.reader.specs.Filling.{itemsFrom};
+ghost use Rattle.to_image.specs.Laying.{itemsUnder, partOctets};
 
-// The head of a parameter of digits, with the marks that it has.
-fn own_marks(marks: Marks, t: Transfer) -> Transfer
-    ensures { λ r. ⌜ ((vs : List ℕ) → length vs ≡ t .len → r ≡ headOf (ownMarks marks (rawItem t vs))) ⌝ }
-{
-    let header = t.header;
-    match marks {
-        Marks::Unmarked => Transfer::carried(header, t.len),
-        Marks::Notified => Transfer::dialled(header, t.notification, 0, 0, t.len),
-        Marks::Verified => Transfer::dialled(header, t.notification, t.verification, 0, t.len),
-        Marks::Typed => Transfer::dialled(header, 0, 0, t.dialling, t.len),
-    }
+// How many transfer parameters were written, and where the last ends.
+struct Laid {
+    count: u8,
+    end: usize,
 }
 
-// The head of a number, with its fields.
-fn own_fields(t: Transfer) -> Transfer
-    ensures { λ r. ⌜ ((vs : List ℕ) → length vs ≡ t .len → r ≡ headOf (ownFields (rawItem t vs))) ⌝ }
-{
-    Transfer {
-        header: t.header,
-        notification: 0,
-        verification: 0,
-        dialling: 0,
-        number_type: t.number_type,
-        incomplete: t.incomplete,
-        plan: t.plan,
-        presentation: t.presentation,
-        screening: t.screening,
-        len: t.len,
-    }
-}
-
-// The head of the parameter with these values: marks and fields that it does not have are 0.
-fn own_head(t: Transfer, values: &[u8]) -> Transfer
-    requires { ⌜ length (now values) ≡ t .len ⌝ }
-    ensures { λ r. ⌜ r ≡ headOf (itemFrom t (now (values .entry))) ⌝ }
-{
-    let held = holding_of(t.header, octet_at(values, 0));
-    match held {
-        Holding::AsContents => Transfer::carried(t.header, t.len),
-        Holding::AsDigits(marks) => own_marks(marks, t),
-        Holding::AsNumber(_) => own_fields(t),
-        Holding::AsGeneric => own_fields(t),
-    }
-}
-
-// Writes the head of a transfer parameter.
-fn put_transfer(t: Transfer, out: &mut [u8])
-    requires { ⌜ transfer-head ≤ length (now out) ⌝ }
-    ensures { λ r. ⌜ now (out .exit) ≡ atFront (imageHead t) (now (out .entry)) ⌝ }
+// Writes the head of a transfer parameter from `at` on.
+fn put_transfer(t: Transfer, at: usize, out: &mut [u8])
+    requires { ⌜ at + transfer-head ≤ length (now out) ⌝ }
+    ensures { λ _. ⌜ now (out .exit) ≡ sets (now (out .entry)) at (imageHead t) ⌝ }
 {
     let len = t.len;
-    out[0] = t.header;
-    out[1] = t.notification;
-    out[2] = t.verification;
-    out[3] = t.dialling;
-    out[4] = t.number_type;
-    out[5] = t.incomplete;
-    out[6] = t.plan;
-    out[7] = t.presentation;
-    out[8] = t.screening;
-    out[9] = (len % 256) as u8;
-    out[10] = (len / 256 % 256) as u8;
+    out[at] = t.header;
+    out[at + 1] = t.notification;
+    out[at + 2] = t.verification;
+    out[at + 3] = t.dialling;
+    out[at + 4] = t.number_type;
+    out[at + 5] = t.incomplete;
+    out[at + 6] = t.plan;
+    out[at + 7] = t.presentation;
+    out[at + 8] = t.screening;
+    out[at + 9] = (len % 256) as u8;
+    out[at + 10] = (len / 256 % 256) as u8;
 }
 
-// Writes a transfer parameter: its head, then its values.
-fn put_item(t: Transfer, values: &[u8], out: &mut [u8])
-    requires { ⌜ (length (now values) ≡ t .len) × (transfer-head + t .len ≤ length (now out)) ⌝ }
-    ensures { λ r. ⌜ now (out .exit) ≡ atFront (imageItem (itemFrom t (now (values .entry)))) (now (out .entry)) ⌝ }
+// Writes a transfer parameter from `at` on, the values behind the place of its head and then the head: where it ends.
+fn put_item(header: u8, contents: &[u8], at: usize, out: &mut [u8]) -> usize
+    requires { ⌜ (at + length (imageItem (itemOf header (now contents))) ≤ length (now out))
+        × (length (itemOf header (now contents) .values) ≤ most-values) ⌝ }
+    ensures { λ r. ⌜ Puts (imageItem (itemOf header (now (contents .entry)))) at (now (out .entry)) r (now (out .exit)) ⌝ }
 {
-    let own = own_head(t, values);
-    put_transfer(own, out);
-    copy_in(out, Imaged::TRANSFER_HEAD, values);
+    let from = at + Imaged::TRANSFER_HEAD;
+    let t = open(header, contents, out, from);
+    put_transfer(t, at, out);
+    from + t.len as usize
 }
 
-// Writes the n transfer parameters from index `first` of the array on, and tells how many octets they take.
-fn put_items(q: Record, first: usize, n: usize, out: &mut [u8]) -> usize
-    requires { ⌜ Within q (first + n) × (length (imageItems (itemsAt q first n)) ≤ length (now out)) ⌝ }
-    ensures { λ r. ⌜ (r ≡ length (imageItems (itemsAt q first n)))
-        × (now (out .exit) ≡ atFront (imageItems (itemsAt q first n)) (now (out .entry))) ⌝ }
+// Writes the parameters of the transfer data t from `first` on.
+fn put_items(t: &[u8], first: usize, out: &mut [u8]) -> Laid
+    requires { ⌜ (first + length (imageItems (itemsFrom (now t))) ≤ length (now out))
+        × (length (itemsFrom (now t)) ≤ most-transfers)
+        × (length (valuesOf (itemsFrom (now t))) ≤ most-values) ⌝ }
+    ensures { λ r. ⌜ (r .count ≡ length (itemsFrom (now (t .entry))))
+        × Puts (imageItems (itemsFrom (now (t .entry)))) first (now (out .entry)) (r .end) (now (out .exit)) ⌝ }
 {
-    let values = q.values;
-    let end = first + n;
-    let mut used = values_before(q, first);
-    let mut at: usize = 0;
-    let mut k = first;
-    while k < end {
-        let t = q.transfer[k];
-        let len = t.len as usize;
-        let e = used + len;
-        put_item(t, &values[used..e], &mut out[at..]);
-        at += Imaged::TRANSFER_HEAD + len;
-        used = e;
-        k += 1;
+    let mut count: u8 = 0;
+    let mut at = first;
+    let mut i = 0;
+    loop {
+        let h = octet_at(t, i);
+        let Found::At(start, to) = stretch_at(t, i, extent_of(h)) else {
+            break;
+        };
+        at = put_item(h, &t[start..to], at, out);
+        count += 1;
+        i = to;
     }
+    Laid {
+        count: count,
+        end: at,
+    }
+}
+
+// Writes the head of a common parameter from `at` on.
+fn put_common(c: Common, at: usize, out: &mut [u8])
+    requires { ⌜ at + common-head ≤ length (now out) ⌝ }
+    ensures { λ _. ⌜ now (out .exit) ≡ sets (now (out .entry)) at (imageCommon c) ⌝ }
+{
+    let value = c.value;
+    out[at] = c.header;
+    out[at + 1] = (value % 256) as u8;
+    out[at + 2] = (value / 256 % 256) as u8;
+    out[at + 3] = (value / 65536 % 256) as u8;
+    out[at + 4] = (value / 16777216 % 256) as u8;
+    out[at + 5] = c.transfers;
+}
+
+// Writes a common parameter from `at` on, the parameters of a C5 behind the place of its head and then the head: where it ends.
+fn put_part(header: u8, own: &[u8], contents: &[u8], at: usize, out: &mut [u8]) -> usize
+    requires { ⌜ (at + length (partOctets header (now own) (now contents)) ≤ length (now out))
+        × (length (itemsUnder header (now contents)) ≤ most-transfers)
+        × (length (valuesOf (itemsUnder header (now contents))) ≤ most-values) ⌝ }
+    ensures { λ r. ⌜ Puts (partOctets header (now (own .entry)) (now (contents .entry))) at (now (out .entry)) r (now (out .exit)) ⌝ }
+{
+    let behind = at + Imaged::COMMON_HEAD;
+    if header == Common::TRANSFER_DATA {
+        let laid = put_items(contents, behind, out);
+        put_common(part_head(header, own, laid.count), at, out);
+        return laid.end;
+    }
+    put_common(part_head(header, own, 0), at, out);
+    behind
+}
+
+// Writes the image of an accepted message's record at the front: its length.
+fn put_image(m: &[u8], out: &mut [u8]) -> usize
+    requires { ⌜ (verdictOf (now m) ≡ Accepted (length (now m))) × (length (imageOf (recordOf (now m))) ≤ length (now out)) ⌝ }
+    ensures { λ r. ⌜ Puts (imageOf (recordOf (now (m .entry)))) 0 (now (out .entry)) r (now (out .exit)) ⌝ }
+{
+    let mut count: u8 = 0;
+    let mut at: usize = 1;
+    let mut i = 0;
+    loop {
+        let h = octet_at(m, i);
+        let Found::At(start, to) = stretch_at(m, i, common_extent_of(h)) else {
+            break;
+        };
+        let from = i + 1;
+        i = to;
+        if h == Common::END_MARK {
+            continue;
+        }
+        at = put_part(h, &m[from..to], &m[start..to], at, out);
+        count += 1;
+    }
+    out[0] = count;
     at
 }
 
-// The head of a common parameter: what it does not have is 0.
-fn own_common(c: Common) -> Common
-    ensures { λ r. ⌜ r ≡ ownCommon c ⌝ }
+// The image of an accepted message's record in room that may be too short for it: it is written elsewhere first, and copied if it fits.
+fn put_short(m: &[u8], image: &mut [u8]) -> Answer
+    requires { ⌜ verdictOf (now m) ≡ Accepted (length (now m)) ⌝ }
+    ensures { λ r. ⌜ ImageReadPromise (now (m .entry)) (now (image .entry)) r (now (image .exit)) ⌝ }
 {
-    if c.header == Common::TRANSFER_DATA {
-        return Common::transfer_data(c.transfers);
-    }
-    Common::call_number(c.header, c.value)
-}
-
-// Writes the head of a common parameter.
-fn put_common(c: Common, out: &mut [u8])
-    requires { ⌜ common-head ≤ length (now out) ⌝ }
-    ensures { λ r. ⌜ now (out .exit) ≡ atFront (imageCommon c) (now (out .entry)) ⌝ }
-{
-    let value = c.value;
-    out[0] = c.header;
-    out[1] = (value % 256) as u8;
-    out[2] = (value / 256 % 256) as u8;
-    out[3] = (value / 65536 % 256) as u8;
-    out[4] = (value / 16777216 % 256) as u8;
-    out[5] = c.transfers;
-}
-
-// Writes a common parameter with this head, its transfer parameters from index `first` of the array on, and tells how many octets it takes.
-fn put_part(q: Record, c: Common, first: usize, out: &mut [u8]) -> usize
-    requires { ⌜ Within q (first + c .transfers) × (length (partOctets c (itemsAt q first (c .transfers))) ≤ length (now out)) ⌝ }
-    ensures { λ r. ⌜ (r ≡ length (partOctets c (itemsAt q first (c .transfers))))
-        × (now (out .exit) ≡ atFront (partOctets c (itemsAt q first (c .transfers))) (now (out .entry))) ⌝ }
-{
-    let n = c.transfers as usize;
-    put_common(c, out);
-    let len = put_items(q, first, n, &mut out[Imaged::COMMON_HEAD..]);
-    len + Imaged::COMMON_HEAD
-}
-
-// Writes the common parameters of a record whose counts and lengths stay within its arrays.
-fn put_parts(q: Record, out: &mut [u8])
-    requires { ⌜ Whole q × (length (imageParts (view q)) ≤ length (now out)) ⌝ }
-    ensures { λ r. ⌜ now (out .exit) ≡ atFront (imageParts (view q)) (now (out .entry)) ⌝ }
-{
-    let n = q.commons as usize;
-    let mut at: usize = 0;
-    let mut first: usize = 0;
-    let mut k: usize = 0;
-    while k < n {
-        let c = own_common(q.common[k]);
-        at += put_part(q, c, first, &mut out[at..]);
-        first += c.transfers as usize;
-        k += 1;
-    }
-}
-
-// Writes the image of such a record: the count of its common parameters, then these.
-fn put_image(q: Record, out: &mut [u8])
-    requires { ⌜ Whole q × (length (imageOf (view q)) ≤ length (now out)) ⌝ }
-    ensures { λ r. ⌜ now (out .exit) ≡ atFront (imageOf (view q)) (now (out .entry)) ⌝ }
-{
-    out[0] = q.commons;
-    put_parts(q, &mut out[1..]);
-}
-
-// Writes the image of a record at the front of the room: its length, or the refusal, and then the room stays as it was.
-pub fn to_image(held: Record, out: &mut [u8]) -> Answer
-    ensures { λ r. ⌜ ToImagePromise held (now (out .entry)) r (now (out .exit)) ⌝ }
-{
-    let a = transfers_held(held);
-    let Answer::Accepted(n) = a else {
-        return a;
-    };
-    let heads = Imaged::COMMON_HEAD * (held.commons as usize) + Imaged::TRANSFER_HEAD * n;
-    let len = 1 + heads + values_before(held, n);
-    if out.len() < len {
+    let mut written = [0u8; Imaged::MOST];
+    let n = put_image(m, &mut written);
+    if image.len() < n {
         return Answer::Refused(Answer::NO_ROOM, 0);
     }
-    put_image(held, out);
-    Answer::Accepted(len)
+    copy_in(image, 0, &written[..n]);
+    Answer::Accepted(n)
+}
+
+// The record of a message, as its image at the front of the lent octets: how many octets it has. A refusal leaves them as they were.
+pub fn read_image(m: &[u8], image: &mut [u8]) -> Answer
+    ensures { λ r. ⌜ ImageReadPromise (now (m .entry)) (now (image .entry)) r (now (image .exit)) ⌝ }
+{
+    let a = verdict(m);
+    let Answer::Accepted(_) = a else {
+        return a;
+    };
+    if image.len() < Imaged::MOST {
+        return put_short(m, image);
+    }
+    let n = put_image(m, image);
+    Answer::Accepted(n)
 }

@@ -1,69 +1,124 @@
--- `put_image` meets its contract: the count stands first, and the common parameters behind it.
-use Prim.Native.Nat.{ℕ, _≤_}
+-- `put_image` meets its contract. The invariant is `Imaging`: the common parameters from i on are left to store, from `at` on.
+use Prim.Native.Nat.{ℕ, _<_, _-_}
 use native.Mathlib.Omega.{arith}
-use mathlib.Core.Path.{_≡_, ap, _∙_}
-use mathlib.Core.List.{List, [], _∷_}
+use mathlib.Core.Path.{_≡_, sym, _∙_}
+use denote.Ref.{now}
 use borrow.Author.Needs.{needs}
-use lib.ListN.{length, length-set, length-drop}
-use Rattle.annex.specs.Heads.{most-commons}
-use Rattle.annex.specs.Records.{view}
-use Rattle.annex.specs.Image.{imageParts, imageOf}
-use Rattle.annex.specs.Memory.{lowOctets}
-use Rattle.laws.specs.Written.{written-length, written-then}
-use Rattle.laws.specs.Parts.{to-end}
-use Rattle.limits.specs.Along.{length-mapped}
-use Rattle.to_image.specs.Laying.{parts-many}
+use lib.ListN.{length, getD, take, drop, length-set}
+use Rattle.annex.specs.Units.{commonExtentOf}
+use Rattle.annex.specs.Walking.{stretchAt}
+use Rattle.annex.specs.Image.{imageOf}
+use Rattle.laws.specs.Written.{octets-every}
+use Rattle.walk.specs.Stretches.{parIn, Whole, stretch-told}
+use Rattle.to_image.proofs.Turns.{Imaging, imaging-start, imaging-end, imaging-mark, Next, imaging-next}
 use Rattle.to_image.proofs.put_image.Statement.{statement}
 use Rattle.to_image.proofs.put_image.Tie as tie
 
--- there is room for the count
-counted : (c : tie.Start) → 1 ≤ length (c .args .out .now)
-unfolding imageOf
-counted c = omega (arith, c .pre .1)
+abbrev Inv-loop : tie.InvT-loop
+Inv-loop m out₀ count₀ at₀ i₀ out count at i = Imaging m out₀ count at i out
 
-slice-write-out : tie.Need-slice-write-out
-slice-write-out c = counted (c .before)
+abbrev μ-loop : tie.MeasureT-loop
+μ-loop m out₀ count₀ at₀ i₀ out count at i = length m - i
 
-sub-put-parts : tie.Need-sub-put-parts
-sub-put-parts c = simp length-set (counted (c .before))
-
-put-parts-requires : tie.Need-put-parts-requires
-unfolding imageOf
-put-parts-requires c κs =
+loop-holds : tie.Need-loop-holds Inv-loop μ-loop
+loop-holds c =
     let st = c .before .before in
-    (st .pre .0, rw (to-end 1 _, length-drop 1 _, length-set) (omega (arith, st .pre .1)))
+    let m = now (st .args .m) in
+    let o : (i : ℕ) → getD m i 0 < 256 = λ i. omega (arith, c .before .shared-slice-known .given i) in
+    imaging-start m (st .args .out .now) (length m) (octets-every m o) (st .pre .0)
 
--- the count that the struct has is that of what it stands for
-count-is : (c : tie.Start) → c .args .q .commons ∷ [] ≡ lowOctets (length (view (c .args .q)) ∷ [])
-count-is c =
-    let q = c .args .q in
-    let l : length (q .common) ≡ most-commons = search (needs, length-mapped) in
-    let m = parts-many q (omega (arith, l, c .pre .0 .commons)) in
-    ap (λ (n : ℕ). n ∷ []) (omega (arith, m, c .pre .0 .commons))
+-- the stretch at i
+stretch-is : (c : tie.After-stretch-at Inv-loop μ-loop) →
+    let l = c .before .before .before in
+    let m = now (l .before .before .before .args .m) in
+    c .stretch-at .result ≡ stretchAt m (l .loop .i) (commonExtentOf (getD m (l .loop .i) 0))
+stretch-is c = c .stretch-at .ensures ∙ rw (c .before .common-extent-of .ensures, c .before .before .octet-at .ensures)
 
-returns : tie.Need-returns
-unfolding imageOf
-returns c =
+whole : (c : tie.After-known-told Inv-loop μ-loop) →
+    let l = c .before .before .before .before .before .before in
+    let f = c .before .start .given .0 in
+    Whole commonExtentOf (now (l .before .before .before .args .m)) (l .loop .i) (f .0) (f .1 .0)
+whole c = stretch-told _ _ _ (sym (stretch-is (c .before .before .before)) ∙ c .before .start .given .1)
+
+head-here : (c : tie.After-known-told Inv-loop μ-loop) →
+    let o = c .before .before .before .before .before in
+    o .octet-at .result ≡ getD (now (o .before .before .before .before .args .m)) (o .before .loop .i) 0
+head-here c = c .before .before .before .before .before .octet-at .ensures
+
+loop-again : tie.Need-loop-again Inv-loop μ-loop
+loop-again c =
+    let l = c .before .before .before .before .before .before .before in
+    imaging-mark (l .loop .inv) (whole (c .before)) (sym (head-here (c .before)) ∙ c .if1 .taken)
+
+-- a parameter that is no end mark
+next-is : (c : tie.Else1 Inv-loop μ-loop) →
+    let o = c .before .before .before .before .before .before in
+    let a = o .before in
+    let st = a .before .before .before in
+    let m = now (st .args .m) in
+    let f = c .before .before .start .given .0 in
+    Next m (st .args .out .now) (a .loop .count) (a .loop .at) (a .loop .i) (f .1 .0) (o .octet-at .result) (parIn m (a .loop .i) (f .1 .0) .own)
+    (take (f .1 .0 - f .0) (drop (f .0) m)) (a .loop .out)
+next-is c =
+    let a = c .before .before .before .before .before .before .before in
+    rw (head-here (c .before))
+    (imaging-next (a .loop .inv) (whole (c .before)) (λ e. c .if1 .left (head-here (c .before) ∙ e)) (a .before .before .before .pre .1))
+
+put-part-requires : tie.Need-put-part-requires Inv-loop μ-loop
+put-part-requires c κs =
+    let n = next-is (c .before .before .before) in
+    (n .fits, n .places, n .values)
+
+add-count : tie.Need-add-count Inv-loop μ-loop
+add-count c = omega (arith, next-is (c .before .before .before .before .before .before) .room)
+
+loop-less-2 : tie.Need-loop-less-2 Inv-loop μ-loop
+loop-less-2 c = let w = whole (c .before .before .before .before .before .before .before) in omega arith
+
+loop-again-2 : tie.Need-loop-again-2 Inv-loop μ-loop
+loop-again-2 c =
     let p = c .before .before in
-    let st = p .before .before .before in
-    let a = st .args in
-    let v = view (a .q) in
-    written-then (a .out .now) (a .q .commons ∷ []) (length v ∷ []) (imageParts v) (p .put-parts .last .1 .0) (count-is st)
-    (omega (arith, st .pre .1)) (p .put-parts .ensures)
+    next-is (p .before .before .before .before) .put _ _ (p .put-part .ensures)
 
-same-length : tie.Need-same-length
-same-length c =
-    let st = c .before .before .before .before .before in
-    ap (λ (l : List ℕ). length l) (returns c) ∙ written-length (st .args .out .now) (imageOf (view (st .args .q))) (st .pre .1)
+slice-write-out : tie.Need-slice-write-out Inv-loop μ-loop
+unfolding imageOf
+slice-write-out c =
+    let a = c .before .before .before .before .before in
+    omega (arith, a .loop .inv .left .long, a .before .before .before .pre .1)
+
+same-length : tie.Need-same-length Inv-loop μ-loop
+same-length c = simp length-set (c .before .before .before .before .before .loop .inv .left .long)
+
+returns : tie.Need-returns Inv-loop μ-loop
+returns c =
+    let s = c .before .before in
+    imaging-end (s .before .before .before .loop .inv) (sym (stretch-is s) ∙ c .enum-told .given .1)
 
 pub put-image-spec : {M : Type 1} → statement M
 put-image-spec =
     tie.close
     (tie.spec
-    slice-write-out
-    sub-put-parts
-    sub-put-parts
+    Inv-loop
+    μ-loop
+    loop-holds
+    (λ c κs. search needs)
+    (λ c κs. search needs)
+    (λ c κs. search needs)
     (λ c. search needs)
-    put-parts-requires
+    (λ c. search needs)
+    (λ c. let w = whole c in omega arith)
+    (λ c. let w = whole (c .before) in omega arith)
+    loop-again
+    (λ c. omega (arith, whole (c .before) .farther))
+    (λ c. omega (arith, whole (c .before) .farther))
+    (λ c. whole (c .before) .within)
+    (λ c. whole (c .before .before) .ordered)
+    (λ c. whole (c .before .before) .ordered)
+    (λ c. whole (c .before .before) .within)
+    put-part-requires
+    add-count
+    loop-less-2
+    loop-again-2
+    slice-write-out
     same-length
     returns)

@@ -1,38 +1,45 @@
 -- `put_transfer` meets its contract: its octets are stored one after the other.
+use Prim.Native.Nat.{suc, _+_}
+use mathlib.Core.Path.{_≡_}
+use native.Mathlib.Numerals.{towards-suc}
 use native.Mathlib.Omega.{arith}
-use mathlib.Core.Path.{sym, ap, _∙_}
 use borrow.Author.Needs.{needs}
 use lib.ListN.{length-set}
-use lib.Seq.{sets}
-use Rattle.annex.specs.Image.{imageHead}
-use Rattle.laws.specs.Written.{low-octets}
-use Rattle.laws.specs.Rooms.{stored}
-use Rattle.to_image.specs.Laying.{head-octets}
 use Rattle.to_image.proofs.put_transfer.Statement.{statement}
 use Rattle.to_image.proofs.put_transfer.Tie as tie
 
 returns : tie.Need-returns
 returns c =
-    let a = c .args in
-    let room = a .out .now in
-    let o = head-octets (a .t) (omega arith) in
-    sym (stored room (imageHead (a .t)) (omega (arith, c .pre)) ∙ ap (sets room 0) (low-octets (imageHead (a .t)) o))
+    let at = c .args .at in
+    let e9 : at + 9 ≡ suc (at + 8) = omega arith in
+    let e10 : at + 10 ≡ suc (suc (at + 8)) = omega arith in
+    simp (e9, e10, towards-suc)
 
 pub put-transfer-spec : {M : Type 1} → statement M
 put-transfer-spec =
     tie.close
     (tie.spec
     (λ c. search needs)
-    (λ c. simp length-set (omega arith))
-    (λ c. simp length-set (omega arith))
-    (λ c. simp length-set (omega arith))
-    (λ c. simp length-set (omega arith))
-    (λ c. simp length-set (omega arith))
-    (λ c. simp length-set (omega arith))
-    (λ c. simp length-set (omega arith))
+    (λ c. search needs)
     (λ c. simp length-set (omega arith))
     (λ c. search needs)
     (λ c. simp length-set (omega arith))
+    (λ c. search needs)
+    (λ c. simp length-set (omega arith))
+    (λ c. search needs)
+    (λ c. simp length-set (omega arith))
+    (λ c. search needs)
+    (λ c. simp length-set (omega arith))
+    (λ c. search needs)
+    (λ c. simp length-set (omega arith))
+    (λ c. search needs)
+    (λ c. simp length-set (omega arith))
+    (λ c. search needs)
+    (λ c. simp length-set (omega arith))
+    (λ c. search needs)
+    (λ c. search needs)
+    (λ c. simp length-set (omega arith))
+    (λ c. search needs)
     (λ c. search needs)
     (λ c. simp length-set (omega arith))
     (λ c. search needs)

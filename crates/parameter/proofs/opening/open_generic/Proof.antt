@@ -12,6 +12,7 @@ use Rattle.annex.specs.Contents.{countOf}
 use Rattle.annex.specs.Items.{openBy}
 use Rattle.annex.specs.declared.HalfOctets.{HalfOctets}
 use Rattle.annex.specs.declared.Holding.the-variants.{AsGeneric}
+use Rattle.annex.specs.Memory.{valuesFit}
 use Rattle.annex.specs.Records.{headOf}
 use Rattle.annex.specs.declared.Alphabet.the-variants.{Numbered}
 use Rattle.laws.specs.Stores.{Fits, fits-told}
@@ -108,7 +109,7 @@ returns-2 c =
     let ds = digitsOf Numbered (n .count-of .result) (o .octets-from2 .result .now) in
     let v : u .unpack-digits .last .1 .1 .1 .0 ≡ sets (a .values .now) (a .used) (i .values) =
     rw (
-      stored-fitting _ _ (sets vs (a .used + 1) ds) vs _ (u .unpack-digits .ensures) (fits-told _ _ _ (digits-fit u)),
+      stored-fitting (valuesFit (length vs) (a .used + 1) (length ds)) _ (sets vs (a .used + 1) ds) vs _ (u .unpack-digits .ensures) (fits-told _ _ _ (digits-fit u)),
       o .octets-from2 .ensures,
       n .count-of .ensures,
       f .octets-from .ensures,
