@@ -126,7 +126,8 @@ pub record Demand1 : Type 0 where
   pub tk-edit : (e : Edit) (d : List ℕ) (n : ℕ) → PackedLending d (editingOf e d n) (TkEditPromise e d n)
   -- the functions that serve these: what does not fit is not stored
   pub stores : (fits : Bool) (stored before : List ℕ) (r : Bool) (now : List ℕ) → Stores fits stored before r now → r ≡ false → now ≡ before
-  pub opens : (i : Item) (used : ℕ) (before now : List ℕ) → Gives (valuesWith i used before) now → hasRoom i used before ≡ false → now ≡ before
+  pub opens : (i : Item) (used : ℕ) (before now : List ℕ) → Gives (valuesWith i used before) now → hasRoom i used before ≡ false
+      → now ≡ before
 
 -- ---- Demand 2
 

@@ -57,7 +57,8 @@ next-is : (c : tie.Else1 Inv-loop μ-loop) →
     let st = a .before .before .before in
     let m = now (st .args .m) in
     let f = c .before .before .start .given .0 in
-    Next m (st .args .out .now) (a .loop .count) (a .loop .at) (a .loop .i) (f .1 .0) (o .octet-at .result) (parIn m (a .loop .i) (f .1 .0) .own)
+    let own = parIn m (a .loop .i) (f .1 .0) .own in
+    Next m (st .args .out .now) (a .loop .count) (a .loop .at) (a .loop .i) (f .1 .0) (o .octet-at .result) own
     (take (f .1 .0 - f .0) (drop (f .0) m)) (a .loop .out)
 next-is c =
     let a = c .before .before .before .before .before .before .before in

@@ -62,7 +62,8 @@ returns-2 c =
     let room = st .args .image .now in
     let fits : length (image st) ≤ length room = omega (arith, long p, e .if1 .left) in
     let d = read-done (now (st .args .m)) room _ (st .pre) fits in
-    let s = copied-into room 0 (image st) (k .copy-in .last .0) (k .copy-in .result) (omega arith) (rw (front p) at (k .copy-in .ensures)) in
+    let g = rw (front p) at (k .copy-in .ensures) in
+    let s = copied-into room 0 (image st) (k .copy-in .last .0) (k .copy-in .result) (omega arith) g in
     (ap Accepted (long p) ∙ d .0, s ∙ front-all room (image st) fits ∙ d .1)
 
 pub put-short-spec : {M : Type 1} → statement M

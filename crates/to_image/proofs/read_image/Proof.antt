@@ -39,8 +39,8 @@ roomy : (c : tie.Else1) →
 roomy c =
     let k = c .before .before .before .before .before in
     let m = now (k .before .args .m) in
-    omega
-    (arith, image-most m (octets-every m (λ i. omega (arith, k .shared-slice-known .given i))) (length m) (accepted (c .before)), c .if1 .left)
+    let o = octets-every m (λ i. omega (arith, k .shared-slice-known .given i)) in
+    omega (arith, image-most m o (length m) (accepted (c .before)), c .if1 .left)
 
 put-image-requires : tie.Need-put-image-requires
 put-image-requires c κs = (accepted (c .before .before), roomy (c .before))

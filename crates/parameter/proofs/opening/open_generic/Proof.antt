@@ -107,9 +107,12 @@ returns-2 c =
     let h : c .number .result ≡ headOf i = rw (c .number .ensures, x, y, counted n) in
     let vs = set (a .values .now) (a .used) added-calling-number in
     let ds = digitsOf Numbered (n .count-of .result) (o .octets-from2 .result .now) in
+    let all =
+    stored-fitting (valuesFit (length vs) (a .used + 1) (length ds)) _ (sets vs (a .used + 1) ds) vs _ (u .unpack-digits .ensures)
+    (fits-told _ _ _ (digits-fit u)) in
     let v : u .unpack-digits .last .1 .1 .1 .0 ≡ sets (a .values .now) (a .used) (i .values) =
     rw (
-      stored-fitting (valuesFit (length vs) (a .used + 1) (length ds)) _ (sets vs (a .used + 1) ds) vs _ (u .unpack-digits .ensures) (fits-told _ _ _ (digits-fit u)),
+      all,
       o .octets-from2 .ensures,
       n .count-of .ensures,
       f .octets-from .ensures,

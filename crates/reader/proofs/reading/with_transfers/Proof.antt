@@ -105,8 +105,9 @@ loop-again c =
     let o = c .before in
     let l = o .before .before .before .before in
     let a = l .before .before .before .before .before in
+    let x = o .open-held .ensures in
     let m = room l in (
-      a .loop .inv .0 ∙ rw (more l, filled-turn (a .loop .q) (itemAt l) _ _ _, ← o .open-held .ensures .0, ← o .open-held .ensures .1, ← len-is o),
+      a .loop .inv .0 ∙ rw (more l, filled-turn (a .loop .q) (itemAt l) _ _ _, ← x .0, ← x .1, ← len-is o),
       m .place,
       rw (len-is o) (m .values),
     )
