@@ -9,7 +9,7 @@ use borrow.Author.Tests.{eq-eqb, le-leb, ltb-true}
 use lib.Dec.{eqb, leb}
 use lib.ListN.{length, take, drop, length-append}
 use lib.Seq.{take-append-seam, drop-append-seam}
-use Rattle.annex.specs.Heads.{transfer-data, most-commons, most-transfers, call-number-below, most-values}
+use Rattle.annex.specs.Heads.{transfer-data, call-number-below, most-values}
 use Rattle.annex.specs.Items.{Item, Part, markedItem, part, valuePart, dataPart}
 use Rattle.annex.specs.Allowed.{Each, every, isOctet, itemsIn, valueRight, valueFits, Allowed}
 use Rattle.annex.specs.Reading.{octetAllowed, verdictOf, recordOf}
@@ -38,8 +38,8 @@ use Rattle.annex.specs.declared.Answer.the-variants.{Accepted}
 use Rattle.theorems.specs.Lists.{each-left, each-right, each-so}
 use Rattle.theorems.specs.Commons.{Kind, kind, AllowedPart}
 use Rattle.theorems.specs.Commons.Kind.{octet, call, many}
-use Rattle.theorems.specs.Records.{plain-items, allowed-parts, Within, allowed-within, values-within}
-use Rattle.theorems.specs.Views.{view-pack}
+use Rattle.theorems.specs.Records.{OnlyData, plain-items, allowed-parts, Within, allowed-within, values-within}
+use Rattle.theorems.specs.Views.{view-pack, within-told}
 use Rattle.theorems.specs.Messages.{read-then-laid}
 
 -- ---- a transfer parameter, octets behind it
@@ -85,7 +85,7 @@ items-back (i ∷ is) t h =
 -- its value has four octets, and only a C5 has transfer parameters
 pub record Imageable (p : Part) : Type 0 where
   pub small : p .value < 4294967296
-  pub plain : eqb (p .header) transfer-data ≡ false → p .items ≡ []
+  pub plain : OnlyData p
 
 -- four octets make the number again
 joined : (v a b c x y z w : ℕ) → v ≡ 256 * a + x → a ≡ 256 * b + y → b ≡ 256 * c + z → w ≡ c → x + 256 * y + 65536 * z + 16777216 * w ≡ v
@@ -153,19 +153,13 @@ few-values (i ∷ is) h =
 -- the image of a record within the limits gives the record
 pub image-back : (r : List Part) → Within r → Each Imageable r
     → imagedOf (imageOf r) ≡ record { answer = Accepted (length r); held = pack r }
-unfolding imageOf imagedOf isWithin
+unfolding imageOf imagedOf
 image-back r w h =
     let n = length (imageParts r) in
     let e : partsFront (length r) (imageParts r) ≡ Taken r n =
     ap (λ (s : List ℕ). partsFront (length r) s) (sym (append-nil (imageParts r)))
     ∙ parts-back r [] h (few-values (itemsIn r) (w .values)) in
-    rw (
-      e,
-      eq-eqb n n refl,
-      le-leb (length r) most-commons (w .commons),
-      le-leb (length (itemsIn r)) most-transfers (w .transfers),
-      le-leb (length (valuesOf (itemsIn r))) most-values (w .values),
-    )
+    rw (e, eq-eqb n n refl, within-told r w)
 
 -- ---- an allowed record
 

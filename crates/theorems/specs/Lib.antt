@@ -14,6 +14,7 @@ pub mod Rounds
 pub mod Views
 pub mod Images
 pub mod Writings
+pub mod ImageWritings
 pub mod Named
 pub mod Parted
 pub mod Places

@@ -83,7 +83,10 @@ Once r = (u : ℕ) → timesIn u (partNamesOf r) ≤ 1
 -- ---- the transfer parameters of all parts
 
 -- only a C5 has transfer parameters
-pub plain-items : (p : Part) → HeldPart p → eqb (p .header) transfer-data ≡ false → p .items ≡ []
+abbrev pub OnlyData : Part → Type 0
+OnlyData p = eqb (p .header) transfer-data ≡ false → p .items ≡ []
+
+pub plain-items : (p : Part) → HeldPart p → OnlyData p
 plain-items p h e =
     let own : valuePart (p .header) (p .value) ≡ p = rw e at (h .own) in
     sym (ap (λ (q : Part). q .items) own)

@@ -1,7 +1,7 @@
 -- The struct and the record that it stands for: a packed record is viewed as what was packed, since each head takes from the arrays what
 -- was laid there for it; and what any struct of the code is viewed as is held as a record holds its values.
 use Prim.Native.Nat.{ℕ, _-_, _<_}
-use mathlib.Core.Path.{_≡_, refl, sym, ap}
+use mathlib.Core.Path.{_≡_, refl, sym, ap, _∙_}
 use mathlib.Core.Bool.{Bool, true, false, cond}
 use mathlib.Core.List.{List, [], _∷_, _++_, map, append-assoc, map-append}
 use borrow.Author.Tests.{le-leb}
@@ -9,7 +9,7 @@ use lib.Dec.{eqb}
 use lib.ListN.{length, take, drop, replicate, length-append, length-map}
 use lib.Seq.{take-append-seam, drop-append-seam, take-at, drop-at}
 use Rattle.annex.specs.Heads.{transfer-data, most-commons, most-transfers, most-values}
-use Rattle.annex.specs.Items.{Item, Part, part, valuePart}
+use Rattle.annex.specs.Items.{Item, Part, part, valuePart, partWith, ownOf}
 use Rattle.annex.specs.Allowed.{every, Each, isOctet, HeldItem, HeldPart, Held, ownPart, itemsIn}
 use Rattle.annex.specs.Records.{
   noCommon,
@@ -30,27 +30,47 @@ use Rattle.annex.specs.Records.{
   view,
   rawPart,
 }
+use Rattle.annex.specs.Image.{isWithin}
 use Rattle.annex.specs.declared.Common.{Common}
 use Rattle.annex.specs.declared.Transfer.{Transfer}
 use Rattle.annex.specs.declared.Record.{Record}
 use Rattle.laws.specs.Laid.{own-held-item}
 use Rattle.laws.specs.Filling.{values-append}
-use Rattle.theorems.specs.Lists.{every-take, every-drop, each-take, each-drop}
-use Rattle.theorems.specs.Records.{plain-items, Within}
+use Rattle.theorems.specs.Lists.{every-take, every-drop, each-take, each-drop, each-so}
+use Rattle.theorems.specs.Records.{OnlyData, plain-items, Within}
+
+-- ---- what is a record's own: what a parameter does not have is no part of it
+
+abbrev pub ownItems : List Item → List Item
+ownItems is = map ownOf is
+
+abbrev pub ownCommon : Part → Part
+ownCommon p = ownPart (partWith (ownItems (p .items)) p)
+
+abbrev pub ownParts : List Part → List Part
+ownParts r = map ownCommon r
+
+-- as a record holds its values, all of it is
+own-items : (is : List Item) → Each HeldItem is → ownItems is ≡ is
+own-items [] h = refl
+own-items (i ∷ is) h = rw (h .0 .own, own-items is (h .1))
+
+own-parts : (r : List Part) → Held r → ownParts r ≡ r
+own-parts [] h = refl
+own-parts (p ∷ r) h = rw (own-items (p .items) (h .0 .each), h .0 .own, own-parts r (h .1))
 
 -- ---- pack, then view
 
 -- the heads of parameters, with their values
-view-items : (is : List Item) (vs : List ℕ) → Each HeldItem is → viewItems (map headOf is) (valuesOf is ++ vs) ≡ is
+view-items : (is : List Item) (vs : List ℕ) → viewItems (map headOf is) (valuesOf is ++ vs) ≡ ownItems is
 unfolding viewItems valuesOf
-view-items [] vs h = refl
-view-items (i ∷ is) vs h =
+view-items [] vs = refl
+view-items (i ∷ is) vs =
     rw (
       append-assoc (i .values) (valuesOf is) vs,
       take-append-seam (i .values) (valuesOf is ++ vs),
       drop-append-seam (i .values) (valuesOf is ++ vs),
-      view-items is vs (h .1),
-      h .0 .own,
+      view-items is vs,
     )
 
 lengths-heads : (is : List Item) → lengthsOf (map headOf is) ≡ length (valuesOf is)
@@ -59,21 +79,21 @@ lengths-heads [] = refl
 lengths-heads (i ∷ is) = rw (lengths-heads is) (sym (length-append (i .values) (valuesOf is)))
 
 -- a head tells how many transfer parameters its part holds
-transfers-in : (p : Part) → HeldPart p → transferCount (commonHeadOf p) ≡ length (p .items)
+transfers-in : (p : Part) → OnlyData p → transferCount (commonHeadOf p) ≡ length (p .items)
 transfers-in p h = go (eqb (p .header) transfer-data) refl
   where
     go : (b : Bool) → eqb (p .header) transfer-data ≡ b → cond b (length (p .items)) 0 ≡ length (p .items)
     go true e = refl
-    go false e = sym (ap length (plain-items p h e))
+    go false e = sym (ap length (h e))
 
-transfers-sum : (r : List Part) → Held r → transfersSum (map commonHeadOf r) ≡ length (itemsIn r)
+transfers-sum : (r : List Part) → Each OnlyData r → transfersSum (map commonHeadOf r) ≡ length (itemsIn r)
 unfolding transfersSum
 transfers-sum [] h = refl
 transfers-sum (p ∷ r) h = rw (transfers-in p (h .0), transfers-sum r (h .1)) (sym (length-append (p .items) (itemsIn r)))
 
 -- the heads of parts, with those of their parameters and the values
-view-parts : (r : List Part) (ts : List Transfer) (vs : List ℕ) → Held r
-    → viewParts (map commonHeadOf r) (map headOf (itemsIn r) ++ ts) (valuesOf (itemsIn r) ++ vs) ≡ r
+view-parts : (r : List Part) (ts : List Transfer) (vs : List ℕ) → Each OnlyData r
+    → viewParts (map commonHeadOf r) (map headOf (itemsIn r) ++ ts) (valuesOf (itemsIn r) ++ vs) ≡ ownParts r
 unfolding viewParts
 view-parts [] ts vs h = refl
 view-parts (p ∷ r) ts vs h =
@@ -90,8 +110,7 @@ view-parts (p ∷ r) ts vs h =
       lengths-heads is,
       drop-append-seam (valuesOf is) (valuesOf js ++ vs),
       view-parts r ts vs (h .1),
-      view-items is (valuesOf js ++ vs) (h .0 .each),
-      h .0 .own,
+      view-items is (valuesOf js ++ vs),
     )
 
 commons-pack : (r : List Part) → commonsIn (pack r) ≡ map commonHeadOf r
@@ -99,12 +118,19 @@ unfolding pack pad
 commons-pack r = take-at (map commonHeadOf r) (replicate (6 - length (map commonHeadOf r)) noCommon) (length r) (length-map r commonHeadOf)
 
 -- whatever the limits: what goes beyond the arrays is in the lists all the same
-pub view-pack : (r : List Part) → Held r → view (pack r) ≡ r
+pub view-own : (r : List Part) → Each OnlyData r → view (pack r) ≡ ownParts r
 unfolding view pack pad
-view-pack r h =
+view-own r h =
     rw (commons-pack r)
     (view-parts r (replicate (most-transfers - length (map headOf (itemsIn r))) noTransfer)
     (replicate (most-values - length (valuesOf (itemsIn r))) 0) h)
+
+-- of parameters held as a record holds them
+only-data : (r : List Part) → Held r → Each OnlyData r
+only-data r h = each-so HeldPart OnlyData plain-items r h
+
+pub view-pack : (r : List Part) → Held r → view (pack r) ≡ r
+view-pack r h = view-own r (only-data r h) ∙ own-parts r h
 
 transfers-pack : (r : List Part) → take (length (itemsIn r)) (pack r .transfer) ≡ map headOf (itemsIn r)
 unfolding pack pad
@@ -112,19 +138,22 @@ transfers-pack r =
     take-at (map headOf (itemsIn r)) (replicate (most-transfers - length (map headOf (itemsIn r))) noTransfer) (length (itemsIn r))
     (length-map (itemsIn r) headOf)
 
--- within the limits the counts and lengths stay within the arrays
-pub whole-pack : (r : List Part) → Held r → Within r → isWhole (pack r) ≡ true
-unfolding isWhole pack
-whole-pack r h w =
+-- the counts and lengths stay within the arrays where the record is within the limits
+pub whole-within : (r : List Part) → Each OnlyData r → isWhole (pack r) ≡ isWithin r
+unfolding isWhole pack isWithin
+whole-within r h = rw (commons-pack r, transfers-sum r h, transfers-pack r, lengths-heads (itemsIn r))
+
+pub within-told : (r : List Part) → Within r → isWithin r ≡ true
+unfolding isWithin
+within-told r w =
     rw (
-      commons-pack r,
-      transfers-sum r h,
-      transfers-pack r,
-      lengths-heads (itemsIn r),
       le-leb (length r) most-commons (w .commons),
       le-leb (length (itemsIn r)) most-transfers (w .transfers),
       le-leb (length (valuesOf (itemsIn r))) most-values (w .values),
     )
+
+pub whole-pack : (r : List Part) → Held r → Within r → isWhole (pack r) ≡ true
+whole-pack r h w = whole-within r (only-data r h) ∙ within-told r w
 
 -- ---- what any struct is viewed as
 
@@ -152,7 +181,7 @@ held-items (t ∷ ts) vs s o = (
   held-items ts (drop (t .len) vs) (s .1) (every-drop isOctet (t .len) vs o),
 )
 
-own-part : (p : Part) → p .header < 256 → Each HeldItem (p .items) → HeldPart (ownPart p)
+pub own-part : (p : Part) → p .header < 256 → Each HeldItem (p .items) → HeldPart (ownPart p)
 own-part p s h = go (eqb (p .header) transfer-data) refl
   where
     go : (b : Bool) → eqb (p .header) transfer-data ≡ b

@@ -284,7 +284,7 @@ writable-allowed r w = w
 pub allowed-writable : (r : List Part) → Allowed r → Writable r
 allowed-writable r a = a
 
-within-limits : (r : List Part) → Allowed r → overLimits r ≡ false
+pub within-limits : (r : List Part) → Allowed r → overLimits r ≡ false
 unfolding overLimits
 within-limits r a =
     rw (
@@ -293,17 +293,19 @@ within-limits r a =
       le-ltb most-transfer-octets (contentsSum (itemsIn r)) (a .few-contents),
     )
 
-pub writing-writable : (r : List Part) → Held r → (n : ℕ) → recordWriting r ≡ Accepted n → Writable r × (n ≡ length (layout r))
-unfolding recordWriting
-writing-writable r h n e =
-    let w =
-    parts-written r unseen 0 n full-unseen (λ u. omega (arith, none-seen u)) h
-    (passed (overLimits r) over-limits 0 n (partsWriting unseen 0 r) e .1) in (
+-- what is refused for no parameter may be written; so it is over no limit
+pub parts-writable : (r : List Part) → Held r → (n : ℕ) → partsWriting unseen 0 r ≡ Accepted n → Writable r × (n ≡ length (layout r))
+parts-writable r h n e =
+    let w = parts-written r unseen 0 n full-unseen (λ u. omega (arith, none-seen u)) h e in (
       allowed r (w .each) (λ u. omega (arith, w .once u))
           (header-stands user-class refl r (w .each) (omega (arith, w .class, none-seen (nameOf user-class))))
           (header-stands signal-kind refl r (w .each) (omega (arith, w .kind, none-seen (nameOf signal-kind)))),
       omega (arith, w .behind),
     )
+
+pub writing-writable : (r : List Part) → Held r → (n : ℕ) → recordWriting r ≡ Accepted n → Writable r × (n ≡ length (layout r))
+unfolding recordWriting
+writing-writable r h n e = parts-writable r h n (passed (overLimits r) over-limits 0 n (partsWriting unseen 0 r) e .1)
 
 pub writable-writing : (r : List Part) → Writable r → recordWriting r ≡ Accepted (length (layout r))
 unfolding recordWriting
