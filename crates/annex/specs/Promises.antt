@@ -86,13 +86,17 @@ ClassPromise h x r = r ≡ classOf h x
 
 -- ---- a record's image
 
--- to_image::read_image
+-- image_reader::read_image
 abbrev pub ImageReadPromise : List ℕ → List ℕ → Answer → List ℕ → Type 0
 ImageReadPromise m room r now = (r ≡ imageReading m (length room)) × (now ≡ imageRead m room)
 
 -- from_image::from_image
 abbrev pub FromImagePromise : List ℕ → Imaged → Type 0
 FromImagePromise image r = r ≡ imagedOf image
+
+-- image_writer::write_image
+abbrev pub ImageWritePromise : List ℕ → List ℕ → Answer → List ℕ → Type 0
+ImageWritePromise image room r now = (r ≡ imageWriting image (length room)) × (now ≡ imageWritten image room)
 
 -- ---- the functions for Rust and C, which answer one number
 

@@ -15,7 +15,7 @@ use Rattle.annex.specs.declared.Answer.the-variants.{Accepted}
 use Rattle.theorems.specs.Messages.{read-then-laid}
 use Rattle.theorems.specs.Writings.{WrittenBack, read-then-written}
 use Rattle.theorems.specs.Images.{allowed-back}
-use Rattle.to_image.specs.Answering.{read-done}
+use Rattle.image_reader.specs.Answering.{read-done}
 
 module _ (m : List ℕ) (o : every isOctet m ≡ true) (n : ℕ) (e : verdictOf m ≡ Accepted n) where
   -- with room for it, the image of an accepted message's record is written at the front

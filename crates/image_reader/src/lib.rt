@@ -25,7 +25,7 @@ ghost use Rattle.annex.specs.Image.{imageHead, imageItem, imageItems, imageComm
 ghost use Rattle.annex.specs.Promises.{ImageReadPromise};
 ghost use Rattle.laws.specs.Runs.{Puts};
 ghost use Rattle.reader.specs.Filling.{itemsFrom};
-ghost use Rattle.to_image.specs.Laying.{itemsUnder, partOctets};
+ghost use Rattle.image_reader.specs.Laying.{itemsUnder, partOctets};
 
 // How many transfer parameters were written, and where the last ends.
 struct Laid {

@@ -10,9 +10,9 @@ use Rattle.annex.specs.Walking.{stretchAt}
 use Rattle.annex.specs.Image.{imageOf}
 use Rattle.laws.specs.Written.{octets-every}
 use Rattle.walk.specs.Stretches.{parIn, Whole, stretch-told}
-use Rattle.to_image.proofs.Turns.{Imaging, imaging-start, imaging-end, imaging-mark, Next, imaging-next}
-use Rattle.to_image.proofs.put_image.Statement.{statement}
-use Rattle.to_image.proofs.put_image.Tie as tie
+use Rattle.image_reader.proofs.Turns.{Imaging, imaging-start, imaging-end, imaging-mark, Next, imaging-next}
+use Rattle.image_reader.proofs.put_image.Statement.{statement}
+use Rattle.image_reader.proofs.put_image.Tie as tie
 
 abbrev Inv-loop : tie.InvT-loop
 Inv-loop m out₀ count₀ at₀ i₀ out count at i = Imaging m out₀ count at i out

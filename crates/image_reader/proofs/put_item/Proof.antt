@@ -12,8 +12,8 @@ use Rattle.annex.specs.declared.Transfer.{Transfer}
 use Rattle.laws.specs.Runs.{sets-before}
 use Rattle.theorems.specs.Images.{length-item}
 use Rattle.parameter.specs.Opening.{opened-fitting}
-use Rattle.to_image.proofs.put_item.Statement.{statement}
-use Rattle.to_image.proofs.put_item.Tie as tie
+use Rattle.image_reader.proofs.put_item.Statement.{statement}
+use Rattle.image_reader.proofs.put_item.Tie as tie
 
 abbrev item : tie.Start → Item
 item st = itemOf (st .args .header) (st .args .contents .now)

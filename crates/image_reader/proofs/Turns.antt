@@ -20,7 +20,7 @@ use Rattle.laws.specs.Runs.{sets-before, Puts, Left, left-all, left-none, left-
 use Rattle.theorems.specs.Messages.{read-within}
 use Rattle.walk.specs.Stretches.{parIn, Whole}
 use Rattle.reader.specs.Filling.{parsAt, partsLeft, parts-all, sound-all, parts-none, parts-mark, parts-more, sound-more}
-use Rattle.to_image.specs.Laying.{itemsUnder, partOctets, items-here, part-here}
+use Rattle.image_reader.specs.Laying.{itemsUnder, partOctets, items-here, part-here}
 
 pub record Imaging (m before : List ℕ) (count at i : ℕ) (now : List ℕ) : Type 0 where
   pub left : Left (imageParts (recordOf m)) 1 before (imageParts (partsLeft m i)) at now

@@ -10,9 +10,9 @@ use Rattle.annex.specs.Image.{imageItems, common-head}
 use Rattle.annex.specs.Opening.{partHead}
 use Rattle.laws.specs.Runs.{puts-none}
 use Rattle.reader.specs.Filling.{itemsFrom}
-use Rattle.to_image.specs.Laying.{itemsUnder, part-put}
-use Rattle.to_image.proofs.put_part.Statement.{statement}
-use Rattle.to_image.proofs.put_part.Tie as tie
+use Rattle.image_reader.specs.Laying.{itemsUnder, part-put}
+use Rattle.image_reader.proofs.put_part.Statement.{statement}
+use Rattle.image_reader.proofs.put_part.Tie as tie
 
 -- the transfer parameters of a C5
 held : (c : tie.Then1) →

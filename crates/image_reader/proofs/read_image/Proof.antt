@@ -12,9 +12,9 @@ use Rattle.laws.specs.Runs.{puts-front}
 use Rattle.laws.specs.Written.{octets-every}
 use Rattle.theorems.specs.Images.{image-most}
 use Rattle.theorems.specs.Messages.{message-read}
-use Rattle.to_image.specs.Answering.{read-refused, read-done}
-use Rattle.to_image.proofs.read_image.Statement.{statement}
-use Rattle.to_image.proofs.read_image.Tie as tie
+use Rattle.image_reader.specs.Answering.{read-refused, read-done}
+use Rattle.image_reader.proofs.read_image.Statement.{statement}
+use Rattle.image_reader.proofs.read_image.Tie as tie
 
 returns : tie.Need-returns
 returns c =

@@ -15,8 +15,8 @@ use Rattle.annex.specs.Walking.{stretchAt}
 use Rattle.laws.specs.Runs.{Left, left-all, left-some, left-none, left-fits}
 use Rattle.walk.specs.Stretches.{Whole, stretch-told}
 use Rattle.reader.specs.Filling.{itemsFrom, itemsLeft, items-none, items-more}
-use Rattle.to_image.proofs.put_items.Statement.{statement}
-use Rattle.to_image.proofs.put_items.Tie as tie
+use Rattle.image_reader.proofs.put_items.Statement.{statement}
+use Rattle.image_reader.proofs.put_items.Tie as tie
 
 abbrev Inv-loop : tie.InvT-loop
 Inv-loop t first out₀ count₀ at₀ i₀ out count at i =

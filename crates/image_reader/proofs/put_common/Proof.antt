@@ -3,8 +3,8 @@ use native.Mathlib.Numerals.{towards-suc}
 use native.Mathlib.Omega.{arith}
 use borrow.Author.Needs.{needs}
 use lib.ListN.{length-set}
-use Rattle.to_image.proofs.put_common.Statement.{statement}
-use Rattle.to_image.proofs.put_common.Tie as tie
+use Rattle.image_reader.proofs.put_common.Statement.{statement}
+use Rattle.image_reader.proofs.put_common.Tie as tie
 
 returns : tie.Need-returns
 returns c = simp towards-suc

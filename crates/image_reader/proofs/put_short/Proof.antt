@@ -14,9 +14,9 @@ use Rattle.laws.specs.Runs.{puts-long, puts-taken}
 use Rattle.laws.specs.Written.{octets-every}
 use Rattle.octets.specs.Copied.{copied-into}
 use Rattle.theorems.specs.Images.{image-most}
-use Rattle.to_image.specs.Answering.{read-short, read-done}
-use Rattle.to_image.proofs.put_short.Statement.{statement}
-use Rattle.to_image.proofs.put_short.Tie as tie
+use Rattle.image_reader.specs.Answering.{read-short, read-done}
+use Rattle.image_reader.proofs.put_short.Statement.{statement}
+use Rattle.image_reader.proofs.put_short.Tie as tie
 
 abbrev image : tie.Start → List ℕ
 image st = imageOf (recordOf (now (st .args .m)))
