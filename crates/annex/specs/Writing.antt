@@ -42,7 +42,7 @@ use Rattle.annex.specs.Layout.{layoutItem, layoutPart, layout}
 use Rattle.annex.specs.Allowed.{lengthRight, faultIn, valueRight, valueFits, itemsIn, contentsSum}
 use Rattle.annex.specs.Walk.{Seen, unseen, timesSeen, counted}
 use Rattle.annex.specs.Reading.{wholeIn}
-use Rattle.annex.specs.Records.{transfersSum, commonsIn, isWhole, view}
+use Rattle.annex.specs.Records.{isWhole, view}
 use Rattle.annex.specs.declared.Record.{Record}
 use Rattle.annex.specs.declared.Answer.{Answer}
 use Rattle.annex.specs.declared.Answer.the-variants.{Accepted}
@@ -107,10 +107,6 @@ recordWriting r = refuse (overLimits r) over-limits 0 (partsWriting unseen 0 r)
 -- a struct over its limits: its counts or lengths leave its arrays, or its record is over them
 abbrev pub structOver : Record → Bool
 structOver s = not (isWhole s) || overLimits (view s)
-
--- how many transfer parameters a struct holds, or 1 where its counts or lengths leave its arrays
-abbrev pub transfersHeld : Record → Answer
-transfersHeld s = refuse (not (isWhole s)) over-limits 0 (Accepted (transfersSum (commonsIn s)))
 
 -- a struct: one whose counts or lengths leave its arrays is over its limits
 unfoldable pub structWriting : Record → Answer

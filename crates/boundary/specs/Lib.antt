@@ -1,5 +1,4 @@
 -- Laws for the functions for Rust and C: a message's record as its image and back, and that places and values are below 2^16.
-pub mod Images
 pub mod Round
 pub mod Small
 pub mod SmallImages

@@ -8,11 +8,10 @@ use classes::class_of;
 use editor::append;
 use editor::remove;
 use editor::replace;
-use from_image::from_image;
 use image_reader::read_image;
+use image_writer::write_image;
 use reader::finding::find_both;
 use rows::octets::octet_spans;
-use writer::write;
 ghost use mathlib.Core.Path.{_≡_};
 ghost use Rattle.annex.specs.Answers.{classValueOf};
 ghost use Rattle.annex.specs.Editing.{Edit.Replacing, Edit.Appending, Edit.Removing};
@@ -76,13 +75,7 @@ pub extern "C" fn tk_read(message: &[u8], image: &mut [u8]) -> u64
 pub extern "C" fn tk_write(image: &[u8], room: &mut [u8]) -> u64
     ensures { λ r. ⌜ TkWritePromise (now (image .entry)) (now (room .entry)) r (now (room .exit)) ⌝ }
 {
-    let imaged = from_image(image);
-    let a = imaged.answer;
-    let Answer::Accepted(_) = a else {
-        return pack_answer(a);
-    };
-    let held = imaged.held;
-    pack_answer(write(held, room))
+    pack_answer(write_image(image, room))
 }
 
 // The rows of a message, five octets each, from the table's front on: how many there are. Octets past the last stay, and a refusal leaves

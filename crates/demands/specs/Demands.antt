@@ -32,6 +32,7 @@ use Rattle.annex.specs.Promises.{
   WritePromise,
   EditPromise,
   ImageReadPromise,
+  ImageWritePromise,
   TkReadPromise,
   TkWritePromise,
   TkRowsPromise,
@@ -117,6 +118,7 @@ pub record Demand1 : Type 0 where
   pub write : (q : Record) (room : List ℕ) → Lending room (WritePromise q room)
   pub edit : (e : Edit) (d : List ℕ) (n : ℕ) → Lending d (EditPromise e d n)
   pub read-image : (m room : List ℕ) → Lending room (ImageReadPromise m room)
+  pub write-image : (image room : List ℕ) → Lending room (ImageWritePromise image room)
   pub tk-read : (m room : List ℕ) → PackedLending room (imageReading m (length room)) (TkReadPromise m room)
   pub tk-write : (image room : List ℕ) → PackedLending room (imageWriting image (length room)) (TkWritePromise image room)
   pub tk-rows : (m table : List ℕ) → PackedLending table (octetSpans m (length table)) (TkRowsPromise m table)

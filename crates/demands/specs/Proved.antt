@@ -176,6 +176,7 @@ demand-1 =
       write = λ q room. lending (writing-told q (length room)) (after-refusal (writingOf q (length room)) _ room);
       edit = λ e d n. lending (editing-told e d n) (λ k q f. buffer-refused e d n k q f);
       read-image = λ m room. lending (read-image-told m (length room)) (after-refusal (imageReading m (length room)) _ room);
+      write-image = λ image room. lending (write-image-told image (length room)) (after-refusal (imageWriting image (length room)) _ room);
       tk-read = λ m room. packed-lending (read-image-told m (length room)) (after-refusal (imageReading m (length room)) _ room);
       tk-write = λ image room.
           packed-lending (write-image-told image (length room)) (after-refusal (imageWriting image (length room)) _ room);

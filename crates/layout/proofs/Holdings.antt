@@ -1,7 +1,7 @@
 -- What the header asks of a parameter, by how its values are held.
 use Prim.Native.Nat.{ℕ, _<_}
 use native.Mathlib.Omega.{arith}
-use mathlib.Core.Path.{_≡_, refl}
+use mathlib.Core.Path.{_≡_, refl, ap, _∙_}
 use mathlib.Core.Bool.{Bool, true, false, not, _||_}
 use lib.Dec.{T}
 use lib.ListN.{getD}
@@ -18,6 +18,13 @@ use Rattle.annex.specs.declared.Extent.the-variants.{Fixed, Counted}
 use Rattle.annex.specs.declared.CountingUnit.the-variants.{HalfOctet, Octet}
 use Rattle.laws.specs.Bools.{T-true}
 use Rattle.laws.specs.Octet.{range}
+use Rattle.heads.specs.Asked.{Asks}
+use Rattle.heads.specs.declared.Asked.{Asked}
+
+-- as the look-up says
+pub held-of : (h : ℕ) (r : Asked) → Asks h r → (x : ℕ) (k : Holding) → k ≡ holdingBy (r .form) x → k ≡ holdingOf h x
+unfolding holdingOf
+held-of h r e x k f = f ∙ ap (λ (g : Form). holdingBy g x) (e .2)
 
 -- ---- contents, length and faults
 

@@ -1,4 +1,4 @@
-// Laying a transfer parameter of a record out: what refuses it, how long its contents are, and its octets at the front of lent room.
+// Laying a transfer parameter of a record out: what refuses it, how long its contents are, and its octets in lent room.
 // The parameter is given as its head and its values.
 use annex::Alphabet;
 use annex::Answer;
@@ -12,8 +12,8 @@ use digits::packing::are_digits;
 use digits::packing::pack_digits;
 use digits::packing::packed_len;
 use heads::Asked;
+use heads::head_number;
 use heads::head_of;
-use heads::head_writing;
 use heads::often_of;
 use octets::copy_in;
 use octets::lies_within;
@@ -22,6 +22,7 @@ use octets::octets_from;
 use parameter::contents::at_header;
 use parameter::contents::fault_under;
 use parameter::opening::holding_by;
+use parameter::opening::holding_of;
 use units::extent_of;
 use units::lead;
 use units::octets_after;
@@ -55,8 +56,7 @@ fn held_by(asked: Asked, values: &[u8]) -> Holding
 fn held_as(header: u8, values: &[u8]) -> Holding
     ensures { λ r. ⌜ r ≡ holdingOf header (getD (now (values .entry)) 0 0) ⌝ }
 {
-    let asked = head_of(header);
-    held_by(asked, values)
+    holding_of(header, octet_at(values, 0))
 }
 
 // How many octets the contents have whose values are held so.
@@ -217,7 +217,7 @@ fn judged(asked: Asked, held: Holding, times: u8, t: Transfer, values: &[u8]) ->
 {
     let header = t.header;
     if !asked.right {
-        return head_writing(header);
+        return Answer::Refused(head_number(header), 0);
     }
     let most = often_of(header % 64);
     if most <= times {

@@ -1,5 +1,4 @@
 // The limits of a record: its counts and lengths stay within its arrays, and its contents within 255 octets.
-use annex::Answer;
 use annex::Common;
 use annex::Record;
 use annex::Transfer;
@@ -10,7 +9,7 @@ ghost use lib.ListN.{take};
 ghost use Rattle.annex.specs.Heads.{most-commons};
 ghost use Rattle.annex.specs.Promises.{Gives};
 ghost use Rattle.annex.specs.Allowed.{contentsSum};
-ghost use Rattle.annex.specs.Writing.{structOver, transfersHeld};
+ghost use Rattle.annex.specs.Writing.{structOver};
 ghost use Rattle.annex.specs.Records.{lengthsOf, transferCount, transfersSum, commonsIn, isWhole};
 ghost use Rattle.limits.specs.Along.{itemsAt, Within};
 
@@ -71,17 +70,6 @@ fn is_whole(q: Record) -> bool
         return false;
     }
     values_before(q, n) <= Transfer::MOST_VALUES
-}
-
-// How many transfer parameters a record holds, or 1 where its counts and lengths leave its arrays.
-pub fn transfers_held(q: Record) -> Answer
-    ensures { λ r. ⌜ Gives (transfersHeld q) r ⌝ }
-{
-    if !is_whole(q) {
-        return Answer::Refused(Answer::OVER_LIMITS, 0);
-    }
-    let n = transfers_sum(q);
-    Answer::Accepted(n)
 }
 
 // How many octets the contents of the first n transfer parameters come to.

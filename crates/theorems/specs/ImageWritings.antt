@@ -122,14 +122,16 @@ parts-each P So behind here (suc n) s o =
     go false f e r = tt
 
 -- where it is no C5, it has no transfer parameters
-parts-only : (n : ℕ) (s : List ℕ) → EachFront OnlyData (partsFront n s)
+pub part-only : (s : List ℕ) (is : List Item) (k : ℕ) → itemsFront (commonFront s .transfers) (drop common-head s) ≡ Taken is k
+    → OnlyData (partFront s is)
 unfolding itemsFront
-parts-only n s =
-    parts-each OnlyData (λ s. Unit {0}) (λ k s o. tt)
-    (λ s is k o e f.
+part-only s is k e f =
     let none : Taken [] 0 ≡ Taken is k = rw f at e in
     let same : [] ≡ is = cc in
-    sym same) n s tt
+    sym same
+
+parts-only : (n : ℕ) (s : List ℕ) → EachFront OnlyData (partsFront n s)
+parts-only n s = parts-each OnlyData (λ s. Unit {0}) (λ k s o. tt) (λ s is k o. part-only s is k) n s tt
 
 -- headers and values are octets, and what is a parameter's own is held as a record holds it
 abbrev OctetPart : Part → Type 0
@@ -152,7 +154,7 @@ parts-held r h =
 
 -- ---- the limits
 
-part-items : (p : Part) → OnlyData p → ownCommon p .items ≡ ownItems (p .items)
+pub part-items : (p : Part) → OnlyData p → ownCommon p .items ≡ ownItems (p .items)
 part-items p h = go (eqb (p .header) transfer-data) refl
   where
     go : (b : Bool) → eqb (p .header) transfer-data ≡ b

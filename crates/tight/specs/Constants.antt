@@ -63,7 +63,7 @@ use Rattle.annex.specs.Records.{
   isWhole,
   view,
 }
-use Rattle.annex.specs.Writing.{headWriting, itemWriting, partWriting, endWriting, overLimits, structOver, transfersHeld}
+use Rattle.annex.specs.Writing.{headWriting, itemWriting, partWriting, endWriting, overLimits, structOver}
 use Rattle.annex.specs.Image.{imageHead, headFront, itemSize, commonFront}
 use Rattle.annex.specs.Promises.{Gives, Keeps}
 use Rattle.annex.specs.Bench.{K, recordOfK, recordOfM}
@@ -286,7 +286,6 @@ rows =
     counts (givenOf (Accepted 9)) (givenOf (Refused 15 0)) ∷  -- given
     counts (lengthsOf (take 0 (pack recordOfM .transfer))) (lengthsOf (take 1 (pack recordOfM .transfer))) ∷  -- values_before
     tests (structOver (pack recordOfK)) (structOver (pack (recordOfK ++ (recordOfK ++ (recordOfK ++ recordOfK))))) ∷  -- over_limits
-    gives Answer givenOf (transfersHeld (pack recordOfM)) (transfersHeld (pack recordOfK)) ∷  -- transfers_held
     counts (length (layoutPart (valuePart 0x83 0))) (length (layoutPart (valuePart 0x01 0))) ∷  -- head_len
     answers (partWriting 0 0 (rawPart (valueHead 0x06 0x11) [])) (partWriting 1 0 (rawPart (valueHead 0x06 0x11) [])) ∷  -- head_refusal
     answers (endWriting (ltb 0 1 && ltb 0 1) 0) (endWriting (ltb 0 1 && ltb 0 0) 0) ∷  -- end_refusal

@@ -16,7 +16,7 @@ use Rattle.annex.specs.Finding.{commonFound, transferFound, findAnswer}
 use Rattle.annex.specs.Spans.{spansOf, tableOf}
 use Rattle.annex.specs.Editing.{Edit, editingOf, bufferOf}
 use Rattle.annex.specs.Classes.{classOf}
-use Rattle.annex.specs.Packed.{imageReading, imageRead, octetSpans, octetTable}
+use Rattle.annex.specs.Packed.{imageReading, imageRead, imageWriting, imageWritten, octetSpans, octetTable}
 use Rattle.annex.specs.Promises.{
   VerdictPromise,
   ReadPromise,
@@ -30,6 +30,7 @@ use Rattle.annex.specs.Promises.{
   EditPromise,
   ClassPromise,
   ImageReadPromise,
+  ImageWritePromise,
   FromImagePromise,
 }
 use Rattle.annex.specs.declared.Answer.{Answer}
@@ -52,6 +53,7 @@ use Rattle.tight.specs.Told.{
   writing-told,
   editing-told,
   read-image-told,
+  write-image-told,
   imaged-told,
   class-told,
 }
@@ -115,6 +117,11 @@ edit-numbers e buffer n r now = right-with (editingOf e buffer n) r (bufferOf e 
 pub imaging-numbers : (m room : List ℕ) (r : Answer) (now : List ℕ)
     → ImageReadPromise m room r now ↔ (Right (imageReading m (length room)) r × (now ≡ imageRead m room))
 imaging-numbers m room r now = right-with (imageReading m (length room)) r (imageRead m room) now (read-image-told m (length room))
+
+pub image-writing-numbers : (image room : List ℕ) (r : Answer) (now : List ℕ)
+    → ImageWritePromise image room r now ↔ (Right (imageWriting image (length room)) r × (now ≡ imageWritten image room))
+image-writing-numbers image room r now =
+    right-with (imageWriting image (length room)) r (imageWritten image room) now (write-image-told image (length room))
 
 -- an answer with a record beside it
 same-reading : (r d : Reading) → (r .answer ≡ d .answer) × (r .«record» ≡ d .«record») → r ≡ d

@@ -25,6 +25,7 @@ use Rattle.annex.specs.Promises.{
   EditPromise,
   ClassPromise,
   ImageReadPromise,
+  ImageWritePromise,
   FromImagePromise,
   TkReadPromise,
   TkWritePromise,
@@ -127,6 +128,10 @@ one-class h x a b p q = same p q
 pub one-imaging : (m room : List ℕ) (a b : Answer) (s t : List ℕ) → ImageReadPromise m room a s → ImageReadPromise m room b t
     → (a ≡ b) × (s ≡ t)
 one-imaging m room a b s t p q = both p q
+
+pub one-image-writing : (image room : List ℕ) (a b : Answer) (s t : List ℕ) → ImageWritePromise image room a s
+    → ImageWritePromise image room b t → (a ≡ b) × (s ≡ t)
+one-image-writing image room a b s t p q = both p q
 
 pub one-imaged : (image : List ℕ) (a b : Imaged) → FromImagePromise image a → FromImagePromise image b → a ≡ b
 one-imaged image a b p q = same p q

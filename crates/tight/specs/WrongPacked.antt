@@ -54,6 +54,7 @@ use Rattle.annex.specs.Packed.{
 }
 use Rattle.annex.specs.Promises.{
   ImageReadPromise,
+  ImageWritePromise,
   FromImagePromise,
   TkReadPromise,
   TkWritePromise,
@@ -144,6 +145,14 @@ pub leaves-octets-over : (n : ℕ) (q : Record) → FromImagePromise over (recor
 leaves-octets-over n q e =
     let z : _≡_ {A = ℕ} 0 1 = ap (λ (r : Imaged). numberOf (r .answer)) e ∙ ap numberOf (said-packed .back-over) in
     omega arith
+
+-- ---- write_image: one that leaves octets over; one that answers the length and writes nothing
+
+pub writes-with-octets-over : (n : ℕ) (now : List ℕ) → ImageWritePromise over (lent 6) (Accepted n) now → ⊥
+writes-with-octets-over n now p = let z : _≡_ {A = ℕ} 0 1 = ap numberOf (p .0 ∙ said-packed .writing-over) in omega arith
+
+pub writes-no-message : (a : Answer) → ImageWritePromise imageOfK (lent 6) a (lent 6) → ⊥
+writes-no-message a p = let z : _≡_ {A = ℕ} 0xEE 0x01 = ap (at 0) (p .1 ∙ said-packed .written-K) in omega arith
 
 -- ---- tk_read: one that answers the length and writes nothing; one that gives the length as the place
 

@@ -6,7 +6,7 @@ use mathlib.Core.Path.{_≡_, sym, ap, _∙_}
 use mathlib.Core.Bool.{not}
 use mathlib.Core.List.{List}
 use borrow.Author.Needs.{needs}
-use borrow.Author.Tests.{le-leb, lt-leb, not-false}
+use borrow.Author.Tests.{le-leb, lt-leb, not-true, not-false}
 use lib.Dec.{leb}
 use lib.ListN.{length}
 use Rattle.annex.specs.Answers.{refuse, soundThen, headerAt, repeated-name, cut-contents}
@@ -18,7 +18,7 @@ use Rattle.annex.specs.Records.{rawItem}
 use Rattle.annex.specs.Writing.{itemWriting}
 use Rattle.annex.specs.declared.Answer.the-variants.{Accepted}
 use Rattle.laws.specs.Laid.{length-layout, length-small, lead-small}
-use Rattle.layout.proofs.Asked.{wrong-asked, right-asked}
+use Rattle.heads.specs.Asked.{right-head, wrong-head}
 use Rattle.layout.proofs.Holdings.{contents-as, fault-as}
 use Rattle.layout.proofs.judged.Statement.{statement}
 use Rattle.layout.proofs.judged.Tie as tie
@@ -28,7 +28,8 @@ unfolding itemWriting
 returns c =
     let t = c .before in
     let st = t .before .before .before in
-    c .head-writing .ensures ∙ wrong-asked (st .args .t .header) (st .args .asked) (st .pre .0) _ _ (t .if1 .taken)
+    rw (c .head-number .ensures)
+    (sym (wrong-head 0 (st .args .t .header) _ (sym (st .pre .0 .0) ∙ not-true (st .args .asked .right) (t .if1 .taken))))
 
 -- past 9: how often the name stood, the length and the fault decide
 past-9 : (c : tie.Else1) →
@@ -40,7 +41,7 @@ past-9 : (c : tie.Else1) →
 unfolding itemWriting
 past-9 c =
     let st = c .before .before .before in
-    right-asked (st .args .t .header) (st .args .asked) (st .pre .0) _ (c .if1 .left)
+    right-head 0 (st .args .t .header) _ (sym (st .pre .0 .0) ∙ not-false (st .args .asked .right) (c .if1 .left))
 
 returns-2 : tie.Need-returns-2
 returns-2 c =

@@ -7,7 +7,7 @@ use Rattle.annex.specs.Writing.{itemWriting}
 use Rattle.annex.specs.declared.Answer.the-variants.{Accepted}
 use Rattle.laws.specs.Laid.{own-writing, own-layout}
 use Rattle.theorems.specs.Writings.{item-written}
-use Rattle.layout.proofs.Asked.{held-of}
+use Rattle.layout.proofs.Holdings.{held-of}
 use Rattle.layout.proofs.lay.Statement.{statement}
 use Rattle.layout.proofs.lay.Tie as tie
 

@@ -2,7 +2,7 @@
 use borrow.Author.Needs.{needs}
 use Rattle.annex.specs.Records.{rawItem}
 use Rattle.laws.specs.Laid.{own-writing}
-use Rattle.layout.proofs.Asked.{held-of}
+use Rattle.layout.proofs.Holdings.{held-of}
 use Rattle.layout.proofs.refusal.Statement.{statement}
 use Rattle.layout.proofs.refusal.Tie as tie
 
