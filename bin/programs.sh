@@ -1,6 +1,6 @@
 # For the scripts beside it, which source it: `build NAME` proves and builds a program of the repository, where that has not been done since
 # its sources last changed, tells on standard error what it has proved, and ends the script with status 3 where that fails; `run NAME` runs
-# the program on standard input. Programs are for x86-64: on another processor they run under the emulator that the toolchain brings.
+# the program on standard input; `build_archive` makes the static library. Programs are for x86-64: on another processor they run under the emulator that the toolchain brings.
 home=$(dirname "$(dirname "$(readlink -f "${BASH_SOURCE[0]}")")")
 
 tell() { echo "bin/$(basename "$(readlink -f "$0")"): $*" >&2; }
@@ -39,6 +39,15 @@ build() {
     command -v rt >/dev/null || { tell 'needs the Rattle toolchain: there is no rt on the path'; exit 3; }
     (cd "$home" && rt check "$1" 2>&1) | progress "$1"
     [ "${PIPESTATUS[0]}" -eq 0 ] || { tell "the program $1 was not built"; exit 3; }
+}
+
+# The static library, made again where it has been proved since it was made.
+build_archive() {
+    local said archive=$home/target/staticlib/libboundary.a
+    build boundary
+    [ "$archive" -nt "$home/target/stamp/boundary" ] && return
+    tell 'making the static library (half a minute)'
+    said=$(cd "$home" && rt staticlib boundary 2>&1) || { echo "$said" >&2; tell 'the static library was not made'; exit 3; }
 }
 
 run() {

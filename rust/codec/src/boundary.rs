@@ -113,7 +113,8 @@ impl<const N: usize> Room<N> {
     ///
     /// # Safety
     ///
-    /// Where `call` accepts, it must have set `unit` octets for each of its value.
+    /// Where `call` accepts, it must have set `unit` octets for each of its value,
+    /// from the first on.
     unsafe fn filled(
         &mut self,
         unit: usize,
@@ -125,6 +126,7 @@ impl<const N: usize> Room<N> {
         }
         let value = unpack(call(self.0.as_mut_ptr().cast(), N))?.value;
         let front = self.0.get(..unit * value).unwrap_or_default();
+        // SAFETY: `call` has set them.
         Ok(all_set(front))
     }
 }

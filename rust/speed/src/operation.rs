@@ -3,7 +3,7 @@
 use crate::class::Class;
 use crate::inputs::{finds, images, is_bare, records, replacements};
 use crate::side::{side, Left, Sides};
-use codec::{boundary, MESSAGE_MAX};
+use codec::{boundary, IMAGE_MAX, MESSAGE_MAX};
 use plain::listing::ROW_LIMIT;
 use plain::{Refusal, Row};
 use trial::outcome::{packed, packed_range, ROW_LEN};
@@ -46,9 +46,6 @@ pub const GROWING: [&str; 2] = ["tk_read", "tk_rows"];
 
 /// The seed of all inputs.
 const SEED: u64 = 77;
-
-/// Room for any image: `TK_IMAGE_MAX` of `include/tsurakemobu.h`.
-const IMAGE_MAX: usize = 1 + 6 * 6 + 52 * 11 + 2 * 255;
 
 impl Operation {
     /// The operation of this name.
