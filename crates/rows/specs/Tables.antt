@@ -1,13 +1,13 @@
 -- The caller's table of octets while the rows of a message are stored: what is left to store decides what it will hold.
 use Prim.Native.Nat.{ℕ, _+_, _*_, _/_, _≤_}
 use native.Mathlib.Omega.{arith}
-use mathlib.Core.Path.{_≡_, refl, sym, _∙_}
+use mathlib.Core.Path.{_≡_, refl}
 use mathlib.Core.Bool.{Bool, true, false}
 use mathlib.Core.List.{List, [], _∷_}
 use borrow.Author.Tests.{le-ltb, ltb-false}
 use lib.Dec.{ltb}
 use lib.ListN.{length, length-append}
-use lib.Seq.{sets, length-sets}
+use lib.Seq.{sets}
 use Rattle.annex.specs.Answers.{andThen}
 use Rattle.annex.specs.Heads.{most-rows}
 use Rattle.annex.specs.Reading.{verdictOf}
@@ -17,10 +17,10 @@ use Rattle.annex.specs.declared.Answer.{Answer}
 use Rattle.annex.specs.declared.Answer.the-variants.{Accepted, Refused}
 use Rattle.annex.specs.declared.Row.{Row}
 use Rattle.laws.specs.Few.{rows-few}
-use Rattle.laws.specs.Filling.{sets-append}
 use Rattle.laws.specs.Fronts.{front-all}
 use Rattle.laws.specs.Listed.{spansAfter}
 use Rattle.laws.specs.Rows.{Accepts}
+use Rattle.laws.specs.Runs.{Puts, Left, left-none, left-some, left-fits}
 
 -- ---- the octets of rows
 
@@ -31,46 +31,27 @@ length-rows (r ∷ rs) = omega (arith, length-append (rowOctets r) (rowsOctets r
 
 -- ---- stored
 
--- rows stored from `at` on, up to r
-pub record Puts (rows : List Row) (at : ℕ) (before : List ℕ) (r : ℕ) (after : List ℕ) : Type 0 where
-  pub ends : r ≡ at + length (rowsOctets rows)
-  pub put : after ≡ sets before at (rowsOctets rows)
-
 -- where they end tells how many they are
-pub put-count : (rows : List Row) (before : List ℕ) (r : ℕ) (after : List ℕ) → Puts rows 0 before r after → r / row-octets ≡ length rows
+pub put-count : (rows : List Row) (before : List ℕ) (r : ℕ) (after : List ℕ) → Puts (rowsOctets rows) 0 before r after
+    → r / row-octets ≡ length rows
 put-count rows before r after p = omega (arith, p .ends, length-rows rows)
 
--- of the rows `all`, to be stored in `before` from `first` on, `rows` are left, to be stored in `now` from `at` on
-pub record Left (all : List Row) (first : ℕ) (before : List ℕ) (rows : List Row) (at : ℕ) (now : List ℕ) : Type 0 where
-  pub ends : first + length (rowsOctets all) ≡ at + length (rowsOctets rows)
-  pub put : sets before first (rowsOctets all) ≡ sets now at (rowsOctets rows)
-  pub long : length now ≡ length before
-
-pub left-all : (rows : List Row) (at : ℕ) (now : List ℕ) → Left rows at now rows at now
-left-all rows at now = record { ends = refl; put = refl; long = refl }
-
-module _ {all : List Row} {first : ℕ} {before : List ℕ} where
-  -- one of them stored
-  pub left-one : (x : Row) (ys : List Row) (at : ℕ) (now after : List ℕ) → Left all first before (x ∷ ys) at now
-      → after ≡ sets now at (rowOctets x) → Left all first before ys (at + row-octets) after
+-- of the octets to be stored, those of the row x and of the rows ys are left
+module _ {all : List ℕ} {first : ℕ} {before : List ℕ} (x : Row) (ys : List Row) (at : ℕ) (now : List ℕ)
+    (l : Left all first before (rowsOctets (x ∷ ys)) at now) where
+  pub left-one : (after : List ℕ) → after ≡ sets now at (rowOctets x) → Left all first before (rowsOctets ys) (at + row-octets) after
   unfolding rowsOctets
-  left-one x ys at now after l e =
-      record {
-        ends = omega (arith, l .ends, length-append (rowOctets x) (rowsOctets ys));
-        put = l .put ∙ rw e (sets-append (rowOctets x) (rowsOctets ys) now at);
-        long = rw (e, length-sets now at (rowOctets x)) (l .long);
-      }
+  left-one after e = left-some l (rowOctets x) (rowsOctets ys) refl (at + row-octets) after (record { ends = refl; put = e })
 
-  -- none left
-  pub left-none : (at : ℕ) (now : List ℕ) → Left all first before [] at now → Puts all first before at now
+  pub left-fits-one : first + length all ≤ length before → at + row-octets ≤ length now
   unfolding rowsOctets
-  left-none at now l = record { ends = omega (arith, l .ends); put = sym (l .put) }
+  left-fits-one h = left-fits l (rowOctets x) (rowsOctets ys) refl h
 
-  -- there is room for the next
-  pub left-fits-one : (x : Row) (rows : List Row) (at : ℕ) (now : List ℕ) → Left all first before (x ∷ rows) at now
-      → first + length (rowsOctets all) ≤ length before → at + row-octets ≤ length now
-  left-fits-one x rows at now l h =
-      omega (arith, l .ends, l .long, length-rows (x ∷ rows))
+-- none is left
+pub left-over : {all : List ℕ} {first : ℕ} {before : List ℕ} (at : ℕ) (now : List ℕ) → Left all first before (rowsOctets []) at now
+    → Puts all first before at now
+unfolding rowsOctets
+left-over at now l = left-none l refl
 
 -- ---- what the listing answers
 
@@ -113,7 +94,7 @@ pub listing-fits : (m table : List ℕ) (n : ℕ) → Listing m (length table / 
 listing-fits m table n l = omega (arith, length-rows (rowsOf m), l .roomy)
 
 -- the table after an accepted listing, and after a refused one
-pub table-put : (m table now : List ℕ) (n r : ℕ) → octetSpans m (length table) ≡ Accepted n → Puts (rowsOf m) 0 table r now
+pub table-put : (m table now : List ℕ) (n r : ℕ) → octetSpans m (length table) ≡ Accepted n → Puts (rowsOctets (rowsOf m)) 0 table r now
     → now ≡ octetTable m table
 unfolding octetTable
 table-put m table now n r e p =

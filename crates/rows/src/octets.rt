@@ -15,7 +15,8 @@ ghost use Rattle.annex.specs.Packed.{rowOctets, rowsOctets, row-octets, octetSp
 ghost use Rattle.annex.specs.Promises.{OctetSpansPromise};
 ghost use Rattle.annex.specs.Spans.{rowsOf};
 ghost use Rattle.laws.specs.Rows.{Accepts};
-ghost use Rattle.rows.specs.Tables.{Puts, countAfter};
+ghost use Rattle.laws.specs.Runs.{Puts};
+ghost use Rattle.rows.specs.Tables.{countAfter};
 
 // Writes a row from `at` on: offset, header, length of the contents; the two numbers in two octets each, least first.
 fn put_row(row: Row, at: usize, table: &mut [u8])
@@ -34,7 +35,7 @@ fn put_row(row: Row, at: usize, table: &mut [u8])
 // Writes the rows of an accepted message from the table's front on: where they end.
 fn put_rows(m: &[u8], table: &mut [u8]) -> usize
     requires { ⌜ Accepts (now m) × (length (rowsOctets (rowsOf (now m))) ≤ length (now table)) ⌝ }
-    ensures { λ r. ⌜ Puts (rowsOf (now (m .entry))) 0 (now (table .entry)) r (now (table .exit)) ⌝ }
+    ensures { λ r. ⌜ Puts (rowsOctets (rowsOf (now (m .entry)))) 0 (now (table .entry)) r (now (table .exit)) ⌝ }
 {
     let mut place: usize = 0;
     let mut c = first();

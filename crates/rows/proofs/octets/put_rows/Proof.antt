@@ -5,17 +5,18 @@ use denote.Ref.{now}
 use borrow.Author.Needs.{needs}
 use native.Mathlib.Omega.{arith}
 use lib.ListN.{length}
-use Rattle.annex.specs.Packed.{row-octets}
+use Rattle.annex.specs.Packed.{row-octets, rowsOctets}
 use Rattle.annex.specs.Spans.{rowsOf}
 use Rattle.annex.specs.Walking.{rowHere, nextOf}
+use Rattle.laws.specs.Runs.{Left, left-all}
 use Rattle.walk.specs.Cursors.{rowsFrom}
 use Rattle.walk.specs.Ahead.{Ahead, Turn, ahead-first, rows-first, rows-none, ahead-turn}
-use Rattle.rows.specs.Tables.{Left, left-all, left-one, left-none, left-fits-one}
+use Rattle.rows.specs.Tables.{left-one, left-over, left-fits-one}
 use Rattle.rows.proofs.octets.put_rows.Statement.{statement}
 use Rattle.rows.proofs.octets.put_rows.Tie as tie
 
 abbrev Inv-loop : tie.InvT-loop
-Inv-loop m table₀ place₀ c₀ table place c = Ahead m c × Left (rowsOf m) 0 table₀ (rowsFrom m c) place table
+Inv-loop m table₀ place₀ c₀ table place c = Ahead m c × Left (rowsOctets (rowsOf m)) 0 table₀ (rowsOctets (rowsFrom m c)) place table
 
 abbrev μ-loop : tie.MeasureT-loop
 μ-loop m table₀ place₀ c₀ table place c = length m - c .at
@@ -36,7 +37,8 @@ left : (c : tie.Then1 Inv-loop μ-loop) →
     let l = c .before .before in
     let a = l .before .before .before .before .args in
     let m = now (a .m) in
-    Left (rowsOf m) 0 (a .table .now) (rowHere m (l .loop .c) ∷ rowsFrom m (nextOf m (l .loop .c))) (l .loop .place) (l .loop .table)
+    Left (rowsOctets (rowsOf m)) 0 (a .table .now) (rowsOctets (rowHere m (l .loop .c) ∷ rowsFrom m (nextOf m (l .loop .c))))
+    (l .loop .place) (l .loop .table)
 left c = rw (turn c .rows) at (c .before .before .loop .inv .1)
 
 -- and the table has room for this one
@@ -63,7 +65,7 @@ loop-again c =
     let p = c .before .before .before in
     let r = p .before .before in
     rw (c .next .ensures)
-    (turn (r .before) .again, left-one _ _ _ _ _ (left (r .before)) (rw (r .row-here .ensures) at (p .put-row .ensures)))
+    (turn (r .before) .again, left-one _ _ _ _ (left (r .before)) _ (rw (r .row-here .ensures) at (p .put-row .ensures)))
 
 same-length : tie.Need-same-length Inv-loop μ-loop
 same-length c = c .before .before .loop .inv .1 .long
@@ -71,7 +73,7 @@ same-length c = c .before .before .loop .inv .1 .long
 returns : tie.Need-returns Inv-loop μ-loop
 returns c =
     let l = c .before .before in
-    left-none _ _ (rw (rows-none _ _ (l .loop .inv .0) (c .if1 .left)) at (l .loop .inv .1))
+    left-over _ _ (rw (rows-none _ _ (l .loop .inv .0) (c .if1 .left)) at (l .loop .inv .1))
 
 pub put-rows-spec : {M : Type 1} → statement M
 put-rows-spec =
