@@ -81,6 +81,10 @@ imageOfK = 2 ∷ 0x01 ∷ 0x01 ∷ 0 ∷ 0 ∷ 0 ∷ 0 ∷ 0x06 ∷ 0x11 ∷ 0 �
 abbrev over : List ℕ
 over = imageOfK ++ (0 ∷ [])
 
+-- one whose record has no signal kind
+abbrev lacking : List ℕ
+lacking = 1 ∷ 0x01 ∷ 0x01 ∷ 0 ∷ 0 ∷ 0 ∷ 0 ∷ []
+
 -- lent memory before a call
 abbrev lent : ℕ → List ℕ
 lent n = replicate n 0xEE
@@ -95,6 +99,7 @@ record SaidPacked : Type 0 where
   writing-K : imageWriting imageOfK 6 ≡ Accepted 5
   written-K : imageWritten imageOfK (lent 6) ≡ short ++ (0xEE ∷ [])
   writing-over : imageWriting over 6 ≡ Refused 1 0
+  written-lacking : imageWritten lacking (lent 6) ≡ lent 6
   rows-short : octetSpans short 14 ≡ Refused 15 0
   table-short : octetTable short (lent 16) ≡ 0 ∷ 0 ∷ 0x01 ∷ 1 ∷ 0 ∷ 2 ∷ 0 ∷ 0x06 ∷ 1 ∷ 0 ∷ 4 ∷ 0 ∷ 0x00 ∷ 0 ∷ 0 ∷ 0xEE ∷ []
   held-back : classOf 0xD7 2 ≡ classes.Is HeldBack
@@ -116,6 +121,7 @@ said-packed =
       writing-K = refl;
       written-K = refl;
       writing-over = refl;
+      written-lacking = refl;
       rows-short = refl;
       table-short = refl;
       held-back = refl;
@@ -146,14 +152,6 @@ leaves-octets-over n q e =
     let z : _≡_ {A = ℕ} 0 1 = ap (λ (r : Imaged). numberOf (r .answer)) e ∙ ap numberOf (said-packed .back-over) in
     omega arith
 
--- ---- write_image: one that leaves octets over; one that answers the length and writes nothing
-
-pub writes-with-octets-over : (n : ℕ) (now : List ℕ) → ImageWritePromise over (lent 6) (Accepted n) now → ⊥
-writes-with-octets-over n now p = let z : _≡_ {A = ℕ} 0 1 = ap numberOf (p .0 ∙ said-packed .writing-over) in omega arith
-
-pub writes-no-message : (a : Answer) → ImageWritePromise imageOfK (lent 6) a (lent 6) → ⊥
-writes-no-message a p = let z : _≡_ {A = ℕ} 0xEE 0x01 = ap (at 0) (p .1 ∙ said-packed .written-K) in omega arith
-
 -- ---- tk_read: one that answers the length and writes nothing; one that gives the length as the place
 
 pub tk-reads-nothing : (r : ℕ) → TkReadPromise short (lent 13) r (lent 13) → ⊥
@@ -173,6 +171,20 @@ tk-writes-with-octets-over now p =
 
 pub tk-writes-nothing : (r : ℕ) → TkWritePromise imageOfK (lent 6) r (lent 6) → ⊥
 tk-writes-nothing r p = let z : _≡_ {A = ℕ} 0xEE 0x01 = ap (at 0) (p .1 ∙ said-packed .written-K) in omega arith
+
+-- write_image is shut out for the same: tk_write packs its answer, and nothing else. So is one that writes what stands before a refusal
+writing-packed : (image room : List ℕ) (r : Answer) (now : List ℕ) → ImageWritePromise image room r now
+    → TkWritePromise image room (packedAnswer r) now
+writing-packed image room r now p = (ap packedAnswer (p .0), p .1)
+
+pub image-with-octets-over : (now : List ℕ) → ImageWritePromise over (lent 6) (Accepted 5) now → ⊥
+image-with-octets-over now p = tk-writes-with-octets-over now (writing-packed over (lent 6) (Accepted 5) now p)
+
+pub image-writes-nothing : (r : Answer) → ImageWritePromise imageOfK (lent 6) r (lent 6) → ⊥
+image-writes-nothing r p = tk-writes-nothing (packedAnswer r) (writing-packed imageOfK (lent 6) r (lent 6) p)
+
+pub image-written-though-refused : (r : Answer) (rest : List ℕ) → ImageWritePromise lacking (lent 6) r (0x01 ∷ rest) → ⊥
+image-written-though-refused r rest p = let z : _≡_ {A = ℕ} 0x01 0xEE = ap (at 0) (p .1 ∙ said-packed .written-lacking) in omega arith
 
 -- ---- tk_rows: one that writes a row's length before its offset, the high octet first, or takes the table's octets for rows
 
