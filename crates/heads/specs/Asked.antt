@@ -17,6 +17,7 @@ use Rattle.annex.specs.declared.Check.the-variants.{Nothing}
 use Rattle.annex.specs.declared.Marks.the-variants.{Unmarked}
 use Rattle.annex.specs.declared.Form.{Form}
 use Rattle.annex.specs.declared.Form.the-variants.{Checked, Digits}
+use Rattle.laws.specs.Below.{same-below}
 use Rattle.laws.specs.Members.{among-every}
 use Rattle.laws.specs.Octet.{None}
 use Rattle.laws.specs.Steps.{head-right}
@@ -54,24 +55,6 @@ octetHeads = drop 25 heads
 abbrev pub askedIn : List Head → ℕ → Asked
 askedIn [] h = unlistedAsked h
 askedIn (r ∷ rs) h = cond (eqb h (r .header)) (listedAsked (r .zeroes) (r .form)) (askedIn rs h)
-
--- ---- functions of a number below n, compared as lists of their values
-
-abbrev below : ℕ → List ℕ
-below zero = []
-below (suc n) = n ∷ below n
-
-module _ {A : Type 0} (f g : ℕ → A) where
-  at-last : (n h : ℕ) (b : Bool) → eqb h n ≡ b → f n ≡ g n → (h < n → f h ≡ g h) → h < suc n → f h ≡ g h
-  at-last n h true e p r l = rw (eqb-true h n e) p
-  at-last n h false e p r l = r (omega (arith, eqb-false h n e))
-
-  same-below : (n : ℕ) → map f (below n) ≡ map g (below n) → (h : ℕ) → h < n → f h ≡ g h
-  same-below zero e h l = absurd (omega arith)
-  same-below (suc n) e h l =
-      let p : f n ≡ g n = cc in
-      let q : map f (below n) ≡ map g (below n) = cc in
-      at-last n h (eqb h n) refl p (same-below n q h) l
 
 -- ---- the look-up asks what the definitions ask
 

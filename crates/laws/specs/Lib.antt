@@ -9,6 +9,7 @@ pub mod Written
 pub mod Rooms
 pub mod Fields
 pub mod Octet
+pub mod Below
 -- of one transfer parameter, up to its two laws in Leaves:
 pub mod Extents
 pub mod Halves

@@ -77,7 +77,7 @@ any : (a b : Bool) → (T a → ⊥) → (T b → ⊥) → T (a || b) → ⊥
 any true b p q t = p t
 any false b p q t = q t
 
-not-any : (kss : List (List ℕ)) (x : ℕ) → None kss x → T (amongAny x kss) → ⊥
+pub not-any : (kss : List (List ℕ)) (x : ℕ) → None kss x → T (amongAny x kss) → ⊥
 not-any [] x n t = t
 not-any (ks ∷ kss) x n t = any (among x ks) (amongAny x kss) (λ u. n .1 (among-one ks x u)) (not-any kss x (n .0)) t
 
