@@ -83,6 +83,10 @@ absent = 16
 abbrev pub no-class-list : ℕ
 no-class-list = 17
 
+-- 18: the check digit of charging information does not fit its digits (document 02, request a)
+abbrev pub check-digit : ℕ
+check-digit = 18
+
 -- the number of an answer, 0 where accepted; its place, 0 where accepted; and the count that it gives, 0 where refused
 abbrev pub numberOf : Answer → ℕ
 numberOf (Accepted n) = 0

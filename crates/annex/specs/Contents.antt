@@ -1,19 +1,20 @@
--- What is wrong with the contents of one transfer parameter: document 01, "Transfer data" and refusals 12 and 13.
--- 12 comes before 13. The offset is that of the octet in the contents.
+-- What is wrong with the contents of one transfer parameter: document 01, "Transfer data" and refusals 12 and 13; document 02, request a,
+-- with refusal 18. 12 comes before 13 and 13 before 18. The offset is that of the octet in the contents.
 use Prim.Native.Nat.{ℕ, _+_, _-_, _/_, _%_}
 use mathlib.Core.Bool.{Bool, true, false, cond, not, _&&_}
 use mathlib.Core.List.{List}
 use lib.Dec.{eqb, ltb}
 use lib.ListN.{length, getD, drop}
-use Rattle.annex.specs.Answers.{bad-form}
+use Rattle.annex.specs.Answers.{bad-form, check-digit}
 use Rattle.annex.specs.Units.{countedBy, halvesIn}
 use Rattle.annex.specs.Heads.{added-calling-number, withheld, clear, zeroesOf, formOf}
 use Rattle.annex.specs.declared.HalfOctets.{HalfOctets}
 use Rattle.annex.specs.declared.Check.{Check}
 use Rattle.annex.specs.declared.Form.{Form}
-use Rattle.annex.specs.declared.Check.the-variants.{Nothing, Long, Two}
+use Rattle.annex.specs.declared.Check.the-variants.{Nothing, Long, Two, Charging}
 use Rattle.annex.specs.declared.Form.the-variants.{Checked, Digits, Number, Calling, Generic}
 use Rattle.annex.specs.Digits.{digitsFault}
+use Rattle.annex.specs.Rates.{isKind, drawnFor, kindIn, drawnIn, drawnFault, checkRight}
 use Rattle.annex.specs.declared.Alphabet.the-variants.{Dialled, Numbered}
 use Rattle.annex.specs.declared.Fault.{Fault}
 use Rattle.annex.specs.declared.Fault.the-variants.{Sound, Bad}
@@ -25,6 +26,11 @@ formedThen false f = Bad bad-form 0
 
 abbrev pub formed : Bool → Fault
 formed b = formedThen b Sound
+
+-- one fault, and where there is none another
+abbrev pub faultThen : Fault → Fault → Fault
+faultThen Sound g = g
+faultThen (Bad k i) g = Bad k i
 
 -- nothing is wrong
 abbrev pub isSound : Fault → Bool
@@ -69,11 +75,20 @@ dialledFault s = digitsFault Dialled (countedBy (getD s 0 0)) 1 (drop 1 s)
 unfoldable pub twoFault : ℕ → List ℕ → Fault
 twoFault mask s = formed (eqb (length s) 2 && clear mask (getD s 1 0))
 
+-- Request a, F7: the kind is one of the list and the octets are as many as it has; each is as it is drawn; and the check digit, the last of
+-- them, fits
+unfoldable pub chargingFault : List ℕ → Fault
+chargingFault s =
+    formedThen (isKind (kindIn s) && eqb (length s) (2 + length (drawnFor (kindIn s))))
+    (faultThen (drawnFault 2 (drawnFor (kindIn s)) (drawnIn s))
+    (cond (checkRight (kindIn s) (drawnIn s)) Sound (Bad check-digit (length s - 1))))
+
 -- contents that a record holds as they are, by their check
 abbrev pub checkFault : Check → List ℕ → Fault
 checkFault Nothing s = Sound
 checkFault (Long n) s = formed (eqb (length s) n)
 checkFault (Two mask) s = twoFault mask s
+checkFault Charging s = chargingFault s
 
 abbrev pub faultBy : Form → List ℕ → Fault
 faultBy (Checked c) s = checkFault c s

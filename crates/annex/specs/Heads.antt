@@ -7,7 +7,7 @@ use lib.Dec.{eqb}
 use lib.Bits.{bitAnd}
 use Rattle.annex.specs.Units.{pliOf, nameOf}
 use Rattle.annex.specs.declared.Marks.the-variants.{Unmarked, Notified, Verified, Typed}
-use Rattle.annex.specs.declared.Check.the-variants.{Nothing, Long, Two}
+use Rattle.annex.specs.declared.Check.the-variants.{Nothing, Long, Two, Charging}
 use Rattle.annex.specs.declared.Form.{Form}
 use Rattle.annex.specs.declared.Form.the-variants.{Checked, Digits, Number, Calling, Generic}
 
@@ -68,6 +68,10 @@ added-calling-number = 0x06
 
 abbrev pub withheld : ℕ
 withheld = 2
+
+-- Request a: the charging information
+abbrev pub charging-information : ℕ
+charging-information = 0xF7
 
 -- the names, of six bits, and the limits of document 01
 abbrev pub name-count : ℕ
@@ -158,7 +162,7 @@ heads =
     row 0xF2 0x00 (Checked (Long 4)) ∷  -- duration of the call
     row 0xF4 0x00 carried ∷  -- notice of charge
     row 0xF6 0x00 carried ∷  -- IP number
-    row 0xF7 0x00 carried ∷  -- charging information
+    row charging-information 0x00 (Checked Charging) ∷  -- charging information
     row 0xF8 0x00 carried ∷  -- NSP setting
     row 0xFD 0x00 carried ∷ []  -- originating region
 

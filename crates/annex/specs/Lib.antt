@@ -4,6 +4,7 @@ pub mod Answers
 pub mod Units
 pub mod Heads
 pub mod Digits
+pub mod Rates
 pub mod Contents
 pub mod Items
 pub mod Layout
@@ -17,9 +18,11 @@ pub mod Finding
 pub mod Spans
 pub mod Editing
 pub mod Classes
+pub mod Charging
 pub mod Packed
 pub mod Promises
 pub mod Bench
+pub mod Tariffs
 -- And what the functions give that serve these: no rules of document 01, and no promise of the product rests on them.
 pub mod Walking
 pub mod Memory

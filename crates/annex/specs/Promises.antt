@@ -13,6 +13,7 @@ use Rattle.annex.specs.Finding.{commonFound, transferFound, findAnswer, 
 use Rattle.annex.specs.Spans.{spansOf, tableOf}
 use Rattle.annex.specs.Editing.{Edit, editingOf, bufferOf}
 use Rattle.annex.specs.Classes.{classOf}
+use Rattle.annex.specs.Charging.{chargingOf, octetCharging, octetCharged}
 use Rattle.annex.specs.Packed.{
   packedAnswer,
   packedStretch,
@@ -31,6 +32,7 @@ use Rattle.annex.specs.declared.Reading.{Reading}
 use Rattle.annex.specs.declared.Imaged.{Imaged}
 use Rattle.annex.specs.declared.Row.{Row}
 use Rattle.annex.specs.declared.ClassAnswer.{ClassAnswer}
+use Rattle.annex.specs.declared.ChargingAnswer.{ChargingAnswer}
 
 -- reader::verdict::verdict
 abbrev pub VerdictPromise : List ℕ → Answer → Type 0
@@ -84,6 +86,14 @@ EditPromise e buffer n r now = (r ≡ editingOf e buffer n) × (now ≡ bufferOf
 abbrev pub ClassPromise : ℕ → ℕ → ClassAnswer → Type 0
 ClassPromise h x r = r ≡ classOf h x
 
+-- charging::charging
+abbrev pub ChargingPromise : List ℕ → ChargingAnswer → Type 0
+ChargingPromise m r = r ≡ chargingOf m
+
+-- charging::octet_charging
+abbrev pub OctetChargingPromise : List ℕ → List ℕ → Answer → List ℕ → Type 0
+OctetChargingPromise m room r now = (r ≡ octetCharging m (length room)) × (now ≡ octetCharged m room)
+
 -- ---- a record's image
 
 -- image_reader::read_image
@@ -123,6 +133,10 @@ TkFindTransferPromise m x r = r ≡ packedStretch (findAnswer m (transferFound x
 -- tk_class
 abbrev pub TkClassPromise : ℕ → ℕ → ℕ → Type 0
 TkClassPromise h x r = r ≡ packedClass (classOf h x)
+
+-- tk_charging
+abbrev pub TkChargingPromise : List ℕ → List ℕ → ℕ → List ℕ → Type 0
+TkChargingPromise m room r now = (r ≡ packedAnswer (octetCharging m (length room))) × (now ≡ octetCharged m room)
 
 -- tk_replace, tk_append, tk_remove
 abbrev pub TkEditPromise : Edit → List ℕ → ℕ → ℕ → List ℕ → Type 0

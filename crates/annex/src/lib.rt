@@ -45,6 +45,8 @@ impl Answer {
     pub const ABSENT: u8 = 16;
 
     pub const NO_CLASS_LIST: u8 = 17;
+
+    pub const CHECK_DIGIT: u8 = 18;
 }
 
 // What is wrong with contents: nothing, or the refusal's number and the offset of the octet in the contents.
@@ -108,11 +110,13 @@ pub enum Marks {
     Typed,
 }
 
-// What is checked of contents that a record holds as they are: nothing more, so many octets, or two octets, these bits of the second 0.
+// What is checked of contents that a record holds as they are: nothing more, so many octets, two octets, these bits of the second 0, or
+// charging information.
 pub enum Check {
     Nothing,
     Long(u8),
     Two(u8),
+    Charging,
 }
 
 // The forms of contents: held as they are, with a check; digits of PLI 10; a number as in D7, as in DC, as in DA.
@@ -517,6 +521,75 @@ impl Row {
 pub struct Cursor {
     pub at: usize,
     pub end: usize,
+}
+
+// How an octet of charging information is drawn: one whole number, a digit in each half, or an IA5 character for a digit.
+pub enum Drawn {
+    Whole,
+    Halves,
+    Character,
+}
+
+// The fields of charging information.
+pub enum Field {
+    UnitFee,
+    InitialUnits,
+    Day,
+    Night,
+    LateNight1,
+    LateNight2,
+    Mbi,
+    InformationInterval,
+    InformationUnits,
+    FreeTime,
+    CheckDigit,
+}
+
+// What charging information says: its kind, and its fields as whole numbers, times in half seconds; 0 where the kind has no such field.
+pub struct Charges {
+    pub kind: u8,
+    pub unit_fee: u16,
+    pub initial_units: u16,
+    pub day: u16,
+    pub night: u16,
+    pub late_night_1: u16,
+    pub late_night_2: u16,
+    pub mbi: u16,
+    pub information_interval: u16,
+    pub information_units: u16,
+    pub free_time: u16,
+    pub check_digit: u16,
+}
+
+impl Charges {
+    // the kinds, by what they tell
+    pub const UNITS_AND_TIMES: u8 = 1;
+
+    pub const NO_RATE: u8 = 2;
+
+    pub const MBI_AND_INTERVAL: u8 = 3;
+
+    pub const MBI_AND_UNITS: u8 = 4;
+
+    pub const MBI_ALONE: u8 = 5;
+
+    pub const FEE_AND_TIMES: u8 = 8;
+
+    pub const FEE_AND_INTERVAL: u8 = 9;
+
+    pub const FEE_AND_UNITS: u8 = 10;
+
+    // the octets before the fields: who is charged and how, carried unread, and the kind
+    pub const HEAD: usize = 2;
+
+    // the octets of the answer for Rust and C: the kind, and two for each field
+    pub const OCTETS: usize = 23;
+}
+
+// What the charging information of a message says, or why there is none.
+pub enum ChargingAnswer {
+    Is(Charges),
+    Refused(u8, usize),
 }
 
 // The class of a code value.

@@ -8,10 +8,11 @@ use mathlib.Core.Path.{_≡_}
 use mathlib.Core.Bool.{Bool, true, false}
 use mathlib.Core.List.{List, [], _∷_, _++_}
 use mathlib.Core.Logic.{_↔_}
-use lib.ListN.{length, take, drop}
+use lib.ListN.{length, getD, take, drop}
 use Rattle.annex.specs.Answers.{numberOf, classNumberOf}
 use Rattle.annex.specs.Units.{nameOf}
-use Rattle.annex.specs.Heads.{among, end-mark}
+use Rattle.annex.specs.Heads.{among, end-mark, charging-information}
+use Rattle.annex.specs.Rates.{chargesOf, chargedContents, Chargeable}
 use Rattle.annex.specs.Items.{Item, Part, contentsOf}
 use Rattle.annex.specs.Layout.{layout}
 use Rattle.annex.specs.Allowed.{every, timesIn, isOctet, itemsIn, namesOf, Allowed, Writable, headersOf}
@@ -19,6 +20,7 @@ use Rattle.annex.specs.Records.{pack, isWhole, view}
 use Rattle.annex.specs.Finding.{commonFound, transferFound, findAnswer}
 use Rattle.annex.specs.Editing.{Edit, edited, editingOf}
 use Rattle.annex.specs.Classes.{classOf}
+use Rattle.annex.specs.Charging.{octetCharging}
 use Rattle.annex.specs.Packed.{imageReading, imageWriting, octetSpans}
 use Rattle.annex.specs.Opening.{hasRoom, valuesWith}
 use Rattle.annex.specs.Promises.{
@@ -31,6 +33,7 @@ use Rattle.annex.specs.Promises.{
   OctetSpansPromise,
   WritePromise,
   EditPromise,
+  OctetChargingPromise,
   ImageReadPromise,
   ImageWritePromise,
   TkReadPromise,
@@ -39,6 +42,7 @@ use Rattle.annex.specs.Promises.{
   TkFindCommonPromise,
   TkFindTransferPromise,
   TkClassPromise,
+  TkChargingPromise,
   TkEditPromise,
   Gives,
   Stores,
@@ -47,9 +51,13 @@ use Rattle.annex.specs.Promises.{
   RecordRefusalPromise,
   FromImagePromise,
   ClassPromise,
+  ChargingPromise,
 }
 use Rattle.annex.specs.declared.Answer.{Answer}
 use Rattle.annex.specs.declared.Answer.the-variants.{Accepted, Refused}
+use Rattle.annex.specs.declared.Charges.{Charges}
+use Rattle.annex.specs.declared.ChargingAnswer.{ChargingAnswer}
+use Rattle.annex.specs.declared.ChargingAnswer.the-variants as chargings
 use Rattle.annex.specs.declared.ClassAnswer.{ClassAnswer}
 use Rattle.annex.specs.declared.Reading.{Reading}
 use Rattle.annex.specs.declared.Record.{Record}
@@ -59,13 +67,16 @@ use Rattle.theorems.specs.Reasons.{NoReason}
 use Rattle.theorems.specs.Edits.{OfOctets}
 use Rattle.theorems.specs.InPlace.{InPlace}
 use Rattle.theorems.specs.Listings.{partContents, partRows}
-use Rattle.tight.specs.Told.{HasNumber, ClassHasNumber}
+use Rattle.tight.specs.Told.{HasNumber, ClassHasNumber, ChargingHasNumber}
 
 abbrev pub Octetwise : List ℕ → Type 0
 Octetwise m = every isOctet m ≡ true
 
 abbrev pub IsAccepted : Answer → Type 0
 IsAccepted a = (n : ℕ) × (a ≡ Accepted n)
+
+abbrev pub IsGiven : ChargingAnswer → Type 0
+IsGiven a = (c : Charges) × (a ≡ chargings.Is c)
 
 -- ---- Demand 1
 
@@ -113,10 +124,12 @@ pub record Demand1 : Type 0 where
   pub record-refusal : (q : Record) → Answering (RecordRefusalPromise q)
   pub from-image : (image : List ℕ) → Answering (λ a. (q : Record) × FromImagePromise image (record { answer = a; held = q }))
   pub class : (h x : ℕ) (r s : ClassAnswer) → ClassPromise h x r → ClassPromise h x s → ClassHasNumber r × (r ≡ s)
+  pub charging : (m : List ℕ) (r s : ChargingAnswer) → ChargingPromise m r → ChargingPromise m s → ChargingHasNumber r × (r ≡ s)
   pub spans : (m : List ℕ) (table : List Row) → Lending table (SpansPromise m table)
   pub octet-spans : (m table : List ℕ) → Lending table (OctetSpansPromise m table)
   pub write : (q : Record) (room : List ℕ) → Lending room (WritePromise q room)
   pub edit : (e : Edit) (d : List ℕ) (n : ℕ) → Lending d (EditPromise e d n)
+  pub octet-charging : (m room : List ℕ) → Lending room (OctetChargingPromise m room)
   pub read-image : (m room : List ℕ) → Lending room (ImageReadPromise m room)
   pub write-image : (image room : List ℕ) → Lending room (ImageWritePromise image room)
   pub tk-read : (m room : List ℕ) → PackedLending room (imageReading m (length room)) (TkReadPromise m room)
@@ -125,6 +138,7 @@ pub record Demand1 : Type 0 where
   pub tk-find-common : (m : List ℕ) (h : ℕ) → PackedAnswering (numberOf (findAnswer m (commonFound h m))) (TkFindCommonPromise m h)
   pub tk-find-transfer : (m : List ℕ) (x : ℕ) → PackedAnswering (numberOf (findAnswer m (transferFound x 0 m))) (TkFindTransferPromise m x)
   pub tk-class : (h x : ℕ) → PackedAnswering (classNumberOf (classOf h x)) (TkClassPromise h x)
+  pub tk-charging : (m room : List ℕ) → PackedLending room (octetCharging m (length room)) (TkChargingPromise m room)
   pub tk-edit : (e : Edit) (d : List ℕ) (n : ℕ) → PackedLending d (editingOf e d n) (TkEditPromise e d n)
   -- the functions that serve these: what does not fit is not stored
   pub stores : (fits : Bool) (stored before : List ℕ) (r : Bool) (now : List ℕ) → Stores fits stored before r now → r ≡ false → now ≡ before
@@ -177,6 +191,19 @@ pub record Demand2 : Type 0 where
       → (part : List ℕ) → FindCommonPromise m h part → part ≡ []
   pub transfer-empty : (m : List ℕ) (x k p : ℕ) → FindTransferAnswerPromise m x (Refused k p)
       → (part : List ℕ) → FindTransferPromise m x part → part ≡ []
+  -- And the charging answer tells what the contents of its first F7 say (document 02, request a). It is given exactly if there is one. What
+  -- is told may be said, and F7's contents are drawn from it; and what F7 was drawn from is told.
+  pub charged : (s : List Part) → Allowed s → (front : List Item) (one : Item) (back : List Item) → itemsIn s ≡ front ++ (one ∷ back)
+      → one .header ≡ charging-information → timesIn (nameOf charging-information) (namesOf front) ≡ 0
+      → (r : ChargingAnswer) → ChargingPromise (layout s) r
+      → (r ≡ chargings.Is (chargesOf (one .values))) × Chargeable (chargesOf (one .values))
+      × (chargedContents (getD (one .values) 0 0) (chargesOf (one .values)) ≡ one .values)
+  pub charged-so : (s : List Part) → Allowed s → (front : List Item) (one : Item) (back : List Item) → itemsIn s ≡ front ++ (one ∷ back)
+      → one .header ≡ charging-information → timesIn (nameOf charging-information) (namesOf front) ≡ 0
+      → (x : ℕ) → x < 256 → (c : Charges) → Chargeable c → one .values ≡ chargedContents x c
+      → (r : ChargingAnswer) → ChargingPromise (layout s) r → r ≡ chargings.Is c
+  pub charging-there : (s : List Part) → Allowed s → (r : ChargingAnswer) → ChargingPromise (layout s) r
+      → IsGiven r ↔ (0 < timesIn (nameOf charging-information) (namesOf (itemsIn s)))
 
 -- ---- Demand 3
 

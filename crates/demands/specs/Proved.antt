@@ -3,7 +3,7 @@ use Prim.Native.Nat.{ℕ, _+_, _≤_, _<_}
 use native.Mathlib.Omega.{arith}
 use mathlib.Core.Path.{_≡_, refl, sym, ap, _∙_}
 use mathlib.Core.Bool.{true}
-use mathlib.Core.List.{List, [], _++_}
+use mathlib.Core.List.{List, [], _∷_, _++_}
 use mathlib.Core.Logic.{_↔_}
 use borrow.Author.Tests.{ltb-true, ltb-false, le-ltb, lt-ltb, ne-eqb}
 use lib.Dec.{ltb}
@@ -11,7 +11,8 @@ use lib.ListN.{length, take, drop}
 use lib.Seq.{take-append-seam}
 use Rattle.annex.specs.Answers.{absent, roomAfter, numberOf, classNumberOf}
 use Rattle.annex.specs.Units.{nameOf}
-use Rattle.annex.specs.Items.{Part}
+use Rattle.annex.specs.Rates.{chargesOf}
+use Rattle.annex.specs.Items.{Item, Part}
 use Rattle.annex.specs.Layout.{layout}
 use Rattle.annex.specs.Allowed.{timesIn, itemsIn, namesOf, Allowed, Writable, headersOf}
 use Rattle.annex.specs.Reading.{verdictOf, recordOf}
@@ -32,20 +33,36 @@ use Rattle.annex.specs.Packed.{
   packedLength,
   packedClass,
 }
-use Rattle.annex.specs.Promises.{ReadPromise, FindTransferAnswerPromise, SpansPromise, WritePromise, EditPromise, FindCommonAnswerPromise}
+use Rattle.annex.specs.Charging.{chargingFound, chargingBy, chargingOf, octetCharging, octetCharged}
+use Rattle.annex.specs.Promises.{
+  ReadPromise,
+  FindTransferAnswerPromise,
+  SpansPromise,
+  WritePromise,
+  EditPromise,
+  FindCommonAnswerPromise,
+  ChargingPromise,
+}
 use Rattle.annex.specs.declared.Answer.{Answer}
 use Rattle.annex.specs.declared.Answer.the-variants.{Accepted, Refused}
+use Rattle.annex.specs.declared.ChargingAnswer.{ChargingAnswer}
+use Rattle.annex.specs.declared.ChargingAnswer.the-variants as chargings
+use Rattle.annex.specs.declared.Check.the-variants.{Charging}
 use Rattle.annex.specs.declared.Found.{Found}
 use Rattle.annex.specs.declared.Found.the-variants.{At, Nowhere}
 use Rattle.annex.specs.declared.Reading.{Reading}
 use Rattle.annex.specs.declared.Record.{Record}
 use Rattle.annex.specs.declared.Row.{Row}
-use Rattle.annex.specs.Heads.{among, end-mark}
+use Rattle.annex.specs.Heads.{among, end-mark, charging-information, formOf}
 use Rattle.annex.specs.Classes.{classOf}
 use Rattle.annex.specs.declared.ClassAnswer.{ClassAnswer}
 use Rattle.annex.specs.declared.Imaged.{Imaged}
+use Rattle.laws.specs.Leaves.{as-they-are}
 use Rattle.laws.specs.Steps.{passed, then-passed}
-use Rattle.theorems.specs.Records.{allowed-within}
+use Rattle.theorems.specs.Charged.{item-charged, said-again}
+use Rattle.theorems.specs.Lists.{each-right, times-append, times-here}
+use Rattle.theorems.specs.Records.{allowed-within, allowed-items, names-append}
+use Rattle.theorems.specs.Transfers.{AllowedItem}
 use Rattle.theorems.specs.Messages.{read-then-laid}
 use Rattle.theorems.specs.Layouts.{laid-then-read}
 use Rattle.theorems.specs.Rounds.{same-record}
@@ -80,11 +97,14 @@ use Rattle.tight.specs.Told.{
   read-image-told,
   write-image-told,
   class-told,
+  charging-told,
+  octet-charging-told,
 }
 use Rattle.tight.specs.Numbers.{read-answer}
 use Rattle.demands.specs.Demands.{
   Octetwise,
   IsAccepted,
+  IsGiven,
   Kept,
   Answering,
   Lending,
@@ -152,7 +172,7 @@ unfolding readingOf
 read-verdict m r p = ap (λ (x : Reading). x .answer) p ∙ read-answer (verdictOf m) (recordOf m)
 
 pub demand-1 : Demand1
-unfolding tableOf octetTable writtenOf bufferOf imageRead imageWritten
+unfolding tableOf octetTable writtenOf bufferOf octetCharged imageRead imageWritten
 demand-1 =
     record {
       verdict = λ m. answering (verdict-told m);
@@ -171,10 +191,12 @@ demand-1 =
             numbered = λ r p. rw (ap (λ (x : Imaged). x .answer) (p .1)) (imaged-told image);
           };
       class = λ h x r s p q. (rw p (class-told h x), p ∙ sym q);
+      charging = λ m r s p q. (rw p (charging-told m), p ∙ sym q);
       spans = λ m table. lending (spans-told m (length table)) (after-refusal (spansOf m (length table)) (rowsOf m) table);
       octet-spans = λ m table. lending (spans-told m _) (octets-kept (octetSpans m (length table)) _ table);
       write = λ q room. lending (writing-told q (length room)) (after-refusal (writingOf q (length room)) _ room);
       edit = λ e d n. lending (editing-told e d n) (λ k q f. buffer-refused e d n k q f);
+      octet-charging = λ m room. lending (octet-charging-told m (length room)) (after-refusal (octetCharging m (length room)) _ room);
       read-image = λ m room. lending (read-image-told m (length room)) (after-refusal (imageReading m (length room)) _ room);
       write-image = λ image room. lending (write-image-told image (length room)) (after-refusal (imageWriting image (length room)) _ room);
       tk-read = λ m room. packed-lending (read-image-told m (length room)) (after-refusal (imageReading m (length room)) _ room);
@@ -184,6 +206,8 @@ demand-1 =
       tk-find-common = λ m h. packed-answering (length-number (findAnswer m (commonFound h m)) _);
       tk-find-transfer = λ m x. packed-answering (length-number (findAnswer m (transferFound x 0 m)) _);
       tk-class = λ h x. packed-answering (class-number (classOf h x));
+      tk-charging = λ m room.
+          packed-lending (octet-charging-told m (length room)) (after-refusal (octetCharging m (length room)) _ room);
       tk-edit = λ e d n. packed-lending (editing-told e d n) (λ k q f. buffer-refused e d n k q f);
       stores = λ fits stored before r now p f. rw f at (p .1);
       opens = λ i used before now p f. p ∙ rw f;
@@ -285,6 +309,37 @@ transfer-so s a x r p =
     let w = found-so (layout s) (length (layout s)) (l .0) (transferFound x 0 (layout s)) r p in
     (λ q. ltb-true 0 times (sym t ∙ w .0 q), λ q. w .1 (t ∙ lt-ltb 0 times q))
 
+-- charging information is given exactly if F7 is found
+given-so : (a : Answer) (part : List ℕ) (r : ChargingAnswer) → r ≡ chargingBy a part → IsGiven r ↔ IsAccepted a
+given-so (Accepted n) part r p = (λ w. (n, refl), λ w. (chargesOf part, p))
+given-so (Refused k q) part r p = (
+  λ w. let s = w .1 in absurd (let z : _≡_ {A = ℕ} 0 1 = cc in omega arith),
+  λ w. let s = w .1 in absurd (let z : _≡_ {A = ℕ} 0 1 = cc in omega arith),
+)
+
+charging-so : (s : List Part) → Allowed s → (r : ChargingAnswer) → ChargingPromise (layout s) r
+    → IsGiven r ↔ (0 < timesIn (nameOf charging-information) (namesOf (itemsIn s)))
+unfolding chargingOf
+charging-so s a r p =
+    let m = layout s in
+    let g = given-so (findAnswer m (chargingFound m)) (findPart m (chargingFound m)) r p in
+    let t = transfer-so s a (nameOf charging-information) (findAnswer m (chargingFound m)) refl in
+    (λ w. t .0 (g .0 w), λ w. g .1 (t .1 w))
+
+charged-first : (s : List Part) → Allowed s → (front : List Item) (one : Item) (back : List Item) → itemsIn s ≡ front ++ (one ∷ back)
+    → one .header ≡ charging-information → timesIn (nameOf charging-information) (namesOf front) ≡ 0
+    → (r : ChargingAnswer) → ChargingPromise (layout s) r → r ≡ chargings.Is (chargesOf (one .values))
+unfolding chargingOf formOf
+charged-first s a front one back w h b r p =
+    let m = layout s in
+    let x = nameOf charging-information in
+    let there : 0 < timesIn x (namesOf (itemsIn s)) =
+    rw (w, names-append front (one ∷ back), times-append, h) (omega (arith, times-here x (namesOf back))) in
+    let found = transfer-so s a x (findAnswer m (chargingFound m)) refl .1 there .1 in
+    let part = transfer-contents s a x 0 front one back w (ap nameOf h) b in
+    let values = as-they-are Charging one (rw h) .contents in
+    p ∙ rw (found, part, values)
+
 allowed-so : (s : List Part) → Writable s → (room : List ℕ) → length (layout s) ≤ length room
     → (w : Answer) (now : List ℕ) → WritePromise (pack s) room w now
     → (w ≡ Accepted (length (layout s))) × (now ≡ layout s ++ drop (length (layout s)) room)
@@ -318,6 +373,13 @@ demand-2 =
       transfer-there = transfer-so;
       common-empty = λ m h k p a part q. q ∙ empty-so m (commonFound h m) k p a;
       transfer-empty = λ m x k p a part q. q ∙ empty-so m (transferFound x 0 m) k p a;
+      charged = λ s a front one back w h b r p.
+          let i = each-right AllowedItem front (one ∷ back) (rw w at (allowed-items s a .each)) .0 in
+          let d = item-charged one i h in
+          (charged-first s a front one back w h b r p, d .0, d .1);
+      charged-so = λ s a front one back w h b x l c k e r p.
+          charged-first s a front one back w h b r p ∙ ap (λ t. chargings.Is (chargesOf t)) e ∙ ap chargings.Is (said-again x l c k .1);
+      charging-there = charging-so;
     }
 
 edited-so : (s : List Part) → Allowed s → (e : Edit) → OfOctets e → (d : List ℕ) → Octetwise d → (n : ℕ) → take n d ≡ layout s

@@ -101,7 +101,7 @@ fn counted_octets(header: u8) -> Asked
         Transfer::CALL_DURATION => listed(0x00, Form::Checked(Check::Long(4))),
         Transfer::CHARGE_NOTICE => listed(0x00, carried),
         Transfer::IP_NUMBER => listed(0x00, carried),
-        Transfer::CHARGING_INFORMATION => listed(0x00, carried),
+        Transfer::CHARGING_INFORMATION => listed(0x00, Form::Checked(Check::Charging)),
         Transfer::NSP_SETTING => listed(0x00, carried),
         Transfer::ORIGINATING_REGION => listed(0x00, carried),
         _ => unlisted(header),

@@ -18,6 +18,7 @@ pub mod Joined
 pub mod Headers
 pub mod Counted
 pub mod Numbers
+pub mod Drawings
 pub mod Leaves
 pub mod Offsets
 pub mod Laid
@@ -29,6 +30,7 @@ pub mod Plain
 pub mod Filling
 pub mod Runs
 pub mod Finding
+pub mod Found
 pub mod Rows
 pub mod Listed
 pub mod Few

@@ -1,25 +1,27 @@
 -- Where a fault lies: 12 may stand at the start of the contents though they are empty, and every other fault has its octet among them.
-use Prim.Native.Nat.{ℕ, zero, suc, _+_, _*_, _/_, _≤_, _<_}
+use Prim.Native.Nat.{ℕ, zero, suc, _+_, _-_, _*_, _/_, _≤_, _<_}
 use native.Mathlib.Omega.{arith}
 use mathlib.Core.Path.{_≡_, refl}
 use mathlib.Core.Bool.{Bool, true, false, cond, not, _&&_}
 use mathlib.Core.List.{List, [], _∷_}
 use mathlib.Core.Logic.{_⊎_, inl, inr}
-use borrow.Author.Tests.{ltb-false, eqb-false, not-true}
+use borrow.Author.Tests.{ltb-false, eqb-true, eqb-false, not-true}
 use lib.Dec.{eqb, ltb}
 use lib.ListN.{length, getD, drop, length-drop}
-use Rattle.annex.specs.Answers.{bad-form, bad-digit, readingAt}
+use Rattle.annex.specs.Answers.{bad-form, bad-digit, check-digit, readingAt}
 use Rattle.annex.specs.Units.{countedBy}
 use Rattle.annex.specs.Heads.{clear, added-calling-number, withheld, zeroesOf, formOf}
 use Rattle.annex.specs.declared.Check.{Check}
 use Rattle.annex.specs.declared.Form.{Form}
-use Rattle.annex.specs.declared.Check.the-variants.{Nothing, Long, Two}
+use Rattle.annex.specs.declared.Check.the-variants.{Nothing, Long, Two, Charging}
 use Rattle.annex.specs.declared.Form.the-variants.{Checked, Digits, Number, Calling, Generic}
 use Rattle.annex.specs.Digits.{halves, isCode, halvesFault, digitsFault}
+use Rattle.annex.specs.Rates.{isKind, isRight, drawnFor, kindIn, drawnIn, drawnFault, checkRight}
 use Rattle.annex.specs.Contents.{
   Rule,
   formedThen,
   formed,
+  faultThen,
   oddOf,
   presentationOf,
   countOf,
@@ -28,6 +30,7 @@ use Rattle.annex.specs.Contents.{
   genericFault,
   dialledFault,
   twoFault,
+  chargingFault,
   checkFault,
   faultBy,
   faultOf,
@@ -35,8 +38,10 @@ use Rattle.annex.specs.Contents.{
 use Rattle.annex.specs.declared.HalfOctets.{HalfOctets}
 use Rattle.annex.specs.declared.Alphabet.{Alphabet}
 use Rattle.annex.specs.declared.Alphabet.the-variants.{Dialled, Numbered}
+use Rattle.annex.specs.declared.Drawn.{Drawn}
 use Rattle.annex.specs.declared.Fault.{Fault}
 use Rattle.annex.specs.declared.Fault.the-variants.{Sound, Bad}
+use Rattle.laws.specs.Bools.{and-right}
 use Rattle.laws.specs.Halves.{length-halves}
 
 -- a fault of contents of n octets: 12 at their start, or at an octet that is there
@@ -63,6 +68,11 @@ formed-alone n b = formed-within n b Sound (λ t. sound-within n)
 cond-within : (n : ℕ) (b : Bool) (f g : Fault) → Within n f → Within n g → Within n (cond b f g)
 cond-within n true f g v w = v
 cond-within n false f g v w = w
+
+-- one fault, and where there is none another
+then-within : (n : ℕ) (f g : Fault) → Within n f → Within n g → Within n (faultThen f g)
+then-within n Sound g v w = w
+then-within n (Bad k i) g v w = v
 
 -- ---- contents
 
@@ -108,12 +118,35 @@ unfolding dialledFault digitsFault halvesFault halves
 dialled-within [] = sound-within 0
 dialled-within (x ∷ s) = digits-within Dialled (countedBy x) 1 s (length (x ∷ s)) (omega arith)
 
+-- charging information: the first octet that is not as it is drawn, or the check digit, which is the last
+drawn-within : (at : ℕ) (ds : List Drawn) (xs : List ℕ) (m : ℕ) → at + length xs ≤ m → Within m (drawnFault at ds xs)
+unfolding drawnFault
+drawn-within at [] xs m l = sound-within m
+drawn-within at (d ∷ ds) [] m l = sound-within m
+drawn-within at (d ∷ ds) (x ∷ xs) m l =
+    cond-within m (isRight d x) (drawnFault (at + 1) ds xs) (Bad bad-digit at) (drawn-within (at + 1) ds xs m (omega arith))
+    (bad-within m bad-digit at (omega arith))
+
+charging-within : (s : List ℕ) → Within (length s) (chargingFault s)
+unfolding chargingFault
+charging-within s =
+    let n = length s in
+    let k = kindIn s in
+    let long = eqb n (2 + length (drawnFor k)) in
+    formed-within n (isKind k && long) _
+    (λ t.
+    let e = eqb-true n (2 + length (drawnFor k)) (and-right (isKind k) long t) in
+    then-within n (drawnFault 2 (drawnFor k) (drawnIn s)) _ (drawn-within 2 (drawnFor k) (drawnIn s) n (omega (arith, length-drop 2 s)))
+    (cond-within n (checkRight k (drawnIn s)) Sound (Bad check-digit (n - 1)) (sound-within n)
+    (bad-within n check-digit (n - 1) (omega arith))))
+
 -- the one law that each check owes
 check-within : (c : Check) (s : List ℕ) → Within (length s) (checkFault c s)
 unfolding twoFault
 check-within Nothing s = sound-within (length s)
 check-within (Long n) s = formed-alone (length s) (eqb (length s) n)
 check-within (Two mask) s = formed-alone (length s) (eqb (length s) 2 && clear mask (getD s 1 0))
+check-within Charging s = charging-within s
 
 by-within : (f : Form) (s : List ℕ) → Within (length s) (faultBy f s)
 by-within (Checked c) s = check-within c s

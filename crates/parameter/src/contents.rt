@@ -11,6 +11,7 @@ use digits::judging::digits_fault;
 use heads::head_of;
 use octets::octet_at;
 use octets::octets_from;
+use rates::judging::charging_fault;
 ghost use mathlib.Core.Path.{_≡_};
 ghost use Prim.Native.Nat.{_≤_};
 ghost use lib.ListN.{drop};
@@ -116,6 +117,7 @@ fn check_fault(check: Check, s: &[u8]) -> Fault
         Check::Nothing => Fault::Sound,
         Check::Long(n) => formed(s.len() == n as usize),
         Check::Two(mask) => two_fault(mask, s),
+        Check::Charging => charging_fault(s),
     }
 }
 

@@ -1,5 +1,5 @@
 -- Theorems about the definitions of document 01: reading and layout undo one another, and so do reading and writing; and what an edit
--- leaves. Beside them: a record's image, read, is the record.
+-- leaves. Beside them: a record's image, read, is the record; and charging information and its fields give one another back.
 pub mod Lists
 pub mod Trails
 pub mod Counts
@@ -26,3 +26,4 @@ pub mod Undone
 pub mod Listings
 pub mod Finds
 pub mod InPlace
+pub mod Charged

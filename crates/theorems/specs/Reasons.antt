@@ -28,7 +28,7 @@ use Rattle.theorems.specs.Messages.{message-read}
 
 -- ---- the reasons
 
--- a new parameter, by itself: not empty (11), its name used (8), its PLI the name's (9), of the told length (11), nothing wrong (12, 13)
+-- a new parameter, by itself: not empty (11), its name used (8), its PLI the name's (9), of the told length (11), sound (12, 13, 18)
 pub record NewRight (new : List ℕ) : Type 0 where
   pub some : 0 < length new
   pub used : nameUsed (newHeader new) ≡ true
@@ -54,7 +54,7 @@ pub record NoReason (e : Edit) (d : List ℕ) (n : ℕ) : Type 0 where
   pub message : verdictOf (take n d) ≡ Accepted n
   -- 16: it has a C5
   pub has-data : among transfer-data (headersOf (recordOf (take n d))) ≡ true
-  -- the edit's own: 11, 8, 9, 16, 10, 11, 12, 13
+  -- the edit's own: 11, 8, 9, 16, 10, 11, 12, 13, 18
   pub right : EditRight e (itemsIn (recordOf (take n d)))
   -- 14: transfer data over 255
   pub few-octets : length (layoutItems (itemsIn (editedIn e d n))) ≤ most-transfer-octets

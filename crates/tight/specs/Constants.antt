@@ -26,7 +26,8 @@ use Rattle.annex.specs.Answers.{
 use Rattle.annex.specs.Units.{countedBy, octetsOf, halvesIn, afterOf, leadOf, commonExtentOf, extentOf}
 use Rattle.annex.specs.Heads.{among, listedHeaders, isCall, nameUsed, pliRight, oftenOf, zeroesOf, formOf}
 use Rattle.annex.specs.Digits.{halves, joined, digitOf, codeOf, isCode, isDigit, halvesFault, digitsFault, digitsOf, packed, halvesFor}
-use Rattle.annex.specs.Contents.{dialledFault, faultUnder, faultOf}
+use Rattle.annex.specs.Rates.{isKind, fieldsOf, numbersDrawn, drawnFault, checkRight, decimal, fieldIn, chargesOf}
+use Rattle.annex.specs.Contents.{dialledFault, chargingFault, faultUnder, faultOf}
 use Rattle.annex.specs.Items.{Item, valuePart, holdingBy, holdingOf, openBy, itemOf, contentsOf, ownOf}
 use Rattle.annex.specs.Layout.{layoutItem, layoutPart, callOctets}
 use Rattle.annex.specs.Allowed.{every, lengthRight, faultIn, valueRight, valueFits}
@@ -73,6 +74,7 @@ use Rattle.annex.specs.Opening.{headFor, valuesWith, openedHead, openedValues, 
 use Rattle.annex.specs.declared.Alphabet.the-variants.{Dialled, Numbered}
 use Rattle.annex.specs.declared.Answer.{Answer}
 use Rattle.annex.specs.declared.Answer.the-variants.{Accepted, Refused}
+use Rattle.annex.specs.declared.Charges.{Charges}
 use Rattle.annex.specs.declared.Check.the-variants.{Nothing}
 use Rattle.annex.specs.declared.Common.{Common}
 use Rattle.annex.specs.declared.CountingUnit.the-variants.{HalfOctet, Octet}
@@ -247,6 +249,8 @@ rows =
     stores (packing Dialled (1 ∷ 2 ∷ []) (lent 1)) (packing Dialled (1 ∷ 2 ∷ []) (lent 0)) ∷  -- pack_digits
     stores (unpacking Dialled (0x21 ∷ []) (countedBy 2) (lent 2) 0) (unpacking Dialled (0x21 ∷ []) (countedBy 2) (lent 2) 1)
     ∷  -- unpack_digits
+    faults (chargingFault (0x00 ∷ 0x05 ∷ 0x12 ∷ 0x31 ∷ [])) (chargingFault (0x00 ∷ 0x05 ∷ 0x12 ∷ 0x32 ∷ [])) ∷  -- charging_fault
+    gives Charges (λ c. c .mbi) (chargesOf (0x00 ∷ 0x05 ∷ 0x12 ∷ 0x31 ∷ [])) (chargesOf (0x00 ∷ 0x05 ∷ 0x21 ∷ 0x31 ∷ [])) ∷  -- charges
     answers (soundThen (headerAt 0) Sound (Accepted 1)) (soundThen (headerAt 0) (Bad 13 2) (Accepted 1)) ∷  -- at_header
     counts (getD (0x21 ∷ 0x43 ∷ []) 0 0) (getD (0x21 ∷ 0x43 ∷ []) 1 0) ∷  -- octet_at
     lists (drop 0 (0x21 ∷ [])) (drop 1 (0x21 ∷ [])) ∷  -- octets_from
@@ -299,10 +303,10 @@ rows =
 
 rows-differ : allDiffer rows ≡ true
 unfolding afterOf extentOf commonExtentOf leadOf nameUsed pliRight oftenOf zeroesOf formOf halves joined digitOf codeOf isCode halvesFault
-    digitsFault digitsOf packed dialledFault faultOf holdingOf itemOf contentsOf ownOf layoutItem lengthRight faultIn valueRight valueFits
-    walk transferBy octetAllowed commonForm endOf commonBy messageVerdictBy verdictBy commonsBy commonIn commonFound pad valuesOf pack
-    lengthsOf transfersSum isWhole viewItems viewParts view overLimits itemWriting partWriting layoutPart pars soughtIn stretchAt
-    stretchHere rowHere nextOf put spliced
+    digitsFault digitsOf packed isKind fieldsOf numbersDrawn drawnFault checkRight decimal fieldIn chargesOf chargingFault dialledFault
+    faultOf holdingOf itemOf contentsOf ownOf layoutItem lengthRight faultIn valueRight valueFits walk transferBy octetAllowed commonForm
+    endOf commonBy messageVerdictBy verdictBy commonsBy commonIn commonFound pad valuesOf pack lengthsOf transfersSum isWhole viewItems
+    viewParts view overLimits itemWriting partWriting layoutPart pars soughtIn stretchAt stretchHere rowHere nextOf put spliced
 rows-differ = refl
 
 -- every row's programs are shut out

@@ -6,4 +6,5 @@ pub mod Wrong
 pub mod WrongRows
 pub mod WrongClasses
 pub mod WrongPacked
+pub mod WrongCharging
 pub mod Constants

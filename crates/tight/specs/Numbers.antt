@@ -1,11 +1,12 @@
 -- The promises by number, place and value. Where a function answers an enum, keeping its promise is the same as this: the number, the place
--- and the value of its answer, which `Answers` states for every case, are those of the definition's, and a refusal has a number.
+-- and the value of its answer, which `Answers` and `Charging` state for every case, are those of the definition's, and a refusal has a
+-- number.
 use Prim.Native.Nat.{ℕ}
 use native.Mathlib.Omega.{arith}
 use mathlib.Core.Path.{_≡_, refl, sym, ap, _∙_}
-use mathlib.Core.List.{List}
+use mathlib.Core.List.{List, _∷_}
 use mathlib.Core.Logic.{_↔_}
-use lib.ListN.{length}
+use lib.ListN.{length, getD}
 use Rattle.annex.specs.Answers.{numberOf, placeOf, givenOf, classValueOf, classNumberOf, classPlaceOf, classGivenOf}
 use Rattle.annex.specs.Items.{Part}
 use Rattle.annex.specs.Reading.{verdictOf, recordOf}
@@ -16,6 +17,15 @@ use Rattle.annex.specs.Finding.{commonFound, transferFound, findAnswer}
 use Rattle.annex.specs.Spans.{spansOf, tableOf}
 use Rattle.annex.specs.Editing.{Edit, editingOf, bufferOf}
 use Rattle.annex.specs.Classes.{classOf}
+use Rattle.annex.specs.Charging.{
+  chargingOf,
+  chargingNumberOf,
+  chargingPlaceOf,
+  fieldNumbers,
+  chargingGivenOf,
+  octetCharging,
+  octetCharged,
+}
 use Rattle.annex.specs.Packed.{imageReading, imageRead, imageWriting, imageWritten, octetSpans, octetTable}
 use Rattle.annex.specs.Promises.{
   VerdictPromise,
@@ -29,12 +39,17 @@ use Rattle.annex.specs.Promises.{
   RecordRefusalPromise,
   EditPromise,
   ClassPromise,
+  ChargingPromise,
+  OctetChargingPromise,
   ImageReadPromise,
   ImageWritePromise,
   FromImagePromise,
 }
 use Rattle.annex.specs.declared.Answer.{Answer}
 use Rattle.annex.specs.declared.Answer.the-variants.{Accepted, Refused}
+use Rattle.annex.specs.declared.Charges.{Charges}
+use Rattle.annex.specs.declared.ChargingAnswer.{ChargingAnswer}
+use Rattle.annex.specs.declared.ChargingAnswer.the-variants as chargings
 use Rattle.annex.specs.declared.Class.{Class}
 use Rattle.annex.specs.declared.Class.the-variants.{Named, HeldBack, Spare}
 use Rattle.annex.specs.declared.ClassAnswer.{ClassAnswer}
@@ -46,6 +61,7 @@ use Rattle.annex.specs.declared.Row.{Row}
 use Rattle.tight.specs.Told.{
   HasNumber,
   ClassHasNumber,
+  ChargingHasNumber,
   verdict-told,
   find-told,
   spans-told,
@@ -56,6 +72,8 @@ use Rattle.tight.specs.Told.{
   write-image-told,
   imaged-told,
   class-told,
+  charging-told,
+  octet-charging-told,
 }
 
 -- ---- an answer by its number, place and value
@@ -123,6 +141,11 @@ pub image-writing-numbers : (image room : List ℕ) (r : Answer) (now : List ℕ
 image-writing-numbers image room r now =
     right-with (imageWriting image (length room)) r (imageWritten image room) now (write-image-told image (length room))
 
+pub octet-charging-numbers : (m room : List ℕ) (r : Answer) (now : List ℕ)
+    → OctetChargingPromise m room r now ↔ (Right (octetCharging m (length room)) r × (now ≡ octetCharged m room))
+octet-charging-numbers m room r now =
+    right-with (octetCharging m (length room)) r (octetCharged m room) now (octet-charging-told m (length room))
+
 -- an answer with a record beside it
 same-reading : (r d : Reading) → (r .answer ≡ d .answer) × (r .«record» ≡ d .«record») → r ≡ d
 same-reading r d e =
@@ -182,4 +205,45 @@ pub class-numbers : (h x : ℕ) (r : ClassAnswer) → ClassPromise h x r ↔ Rig
 class-numbers h x r = (
   λ e. record { told = rw e (class-told h x); number = ap classNumberOf e; place = ap classPlaceOf e; value = ap classGivenOf e },
   same-class-answer (classOf h x) r (class-told h x),
+)
+
+-- ---- the charging answer
+
+pub record RightCharging (d r : ChargingAnswer) : Type 0 where
+  pub told : ChargingHasNumber r
+  pub number : chargingNumberOf r ≡ chargingNumberOf d
+  pub place : chargingPlaceOf r ≡ chargingPlaceOf d
+  pub value : chargingGivenOf r ≡ chargingGivenOf d
+
+-- the kind and the fields by these numbers
+abbrev chargesBy : List ℕ → Charges
+chargesBy l =
+    record {
+      kind = getD l 0 0;
+      «unit_fee» = getD l 1 0;
+      «initial_units» = getD l 2 0;
+      day = getD l 3 0;
+      night = getD l 4 0;
+      «late_night_1» = getD l 5 0;
+      «late_night_2» = getD l 6 0;
+      mbi = getD l 7 0;
+      «information_interval» = getD l 8 0;
+      «information_units» = getD l 9 0;
+      «free_time» = getD l 10 0;
+      «check_digit» = getD l 11 0;
+    }
+
+same-charges : (c b : Charges) → c .kind ∷ fieldNumbers c ≡ b .kind ∷ fieldNumbers b → c ≡ b
+same-charges c b e = ap chargesBy e
+
+same-charging-answer : (d r : ChargingAnswer) → ChargingHasNumber d → RightCharging d r → r ≡ d
+same-charging-answer (chargings.Is c) (chargings.Is b) t e = ap chargings.Is (same-charges b c (e .value))
+same-charging-answer (chargings.Is c) (chargings.Refused k p) t e = absurd (omega (arith, e .told, e .number))
+same-charging-answer (chargings.Refused j q) (chargings.Is b) t e = absurd (omega (arith, e .number))
+same-charging-answer (chargings.Refused j q) (chargings.Refused k p) t e = rw (e .number, e .place)
+
+pub charging-numbers : (m : List ℕ) (r : ChargingAnswer) → ChargingPromise m r ↔ RightCharging (chargingOf m) r
+charging-numbers m r = (
+  λ e. record { told = rw e (charging-told m); number = ap chargingNumberOf e; place = ap chargingPlaceOf e; value = ap chargingGivenOf e },
+  same-charging-answer (chargingOf m) r (charging-told m),
 )

@@ -47,8 +47,10 @@ use Rattle.annex.specs.Heads.{
   formOf,
 }
 use Rattle.annex.specs.Digits.{halves, isCode, isDigit, halvesFault, digitsFault}
+use Rattle.annex.specs.Rates.{isKind, isRight, drawnFor, kindIn, drawnIn, drawnFault, checkRight}
 use Rattle.annex.specs.Contents.{
   formedThen,
+  faultThen,
   presentationOf,
   countOf,
   oddOf,
@@ -57,6 +59,7 @@ use Rattle.annex.specs.Contents.{
   genericFault,
   dialledFault,
   twoFault,
+  chargingFault,
   checkFault,
   faultBy,
   faultOf,
@@ -114,21 +117,25 @@ use Rattle.annex.specs.Writing.{
 }
 use Rattle.annex.specs.Image.{Front, imageOf, partsFront, noImage, isWithin, imagedBy, imagedOf}
 use Rattle.annex.specs.Image.Front.{Taken, Short}
-use Rattle.annex.specs.Finding.{foundAnswer, findAnswer}
+use Rattle.annex.specs.Finding.{foundAnswer, findAnswer, findPart}
 use Rattle.annex.specs.Packed.{imageReading, imageWriting}
 use Rattle.annex.specs.Spans.{rowsOf, spansOf, spansBy}
 use Rattle.annex.specs.Editing.{Edit, newHeader, newAfter, newHead, newContents, editRefusal, edited, recordEditing, editingOf}
 use Rattle.annex.specs.Editing.Edit.{Replacing, Appending, Removing}
 use Rattle.annex.specs.Classes.{ClassList, classLists, classBy, classIn, classOf}
+use Rattle.annex.specs.Charging.{chargingFound, charging-octets, chargingBy, chargingOf, octetChargingBy, octetCharging}
 use Rattle.annex.specs.declared.Alphabet.{Alphabet}
 use Rattle.annex.specs.declared.Alphabet.the-variants.{Dialled, Numbered}
 use Rattle.annex.specs.declared.Answer.{Answer}
 use Rattle.annex.specs.declared.Answer.the-variants.{Accepted, Refused}
+use Rattle.annex.specs.declared.ChargingAnswer.{ChargingAnswer}
+use Rattle.annex.specs.declared.ChargingAnswer.the-variants as chargings
 use Rattle.annex.specs.declared.Check.{Check}
-use Rattle.annex.specs.declared.Check.the-variants.{Nothing, Long, Two}
+use Rattle.annex.specs.declared.Check.the-variants.{Nothing, Long, Two, Charging}
 use Rattle.annex.specs.declared.Class.{Class}
 use Rattle.annex.specs.declared.ClassAnswer.{ClassAnswer}
 use Rattle.annex.specs.declared.ClassAnswer.the-variants as classes
+use Rattle.annex.specs.declared.Drawn.{Drawn}
 use Rattle.annex.specs.declared.Fault.{Fault}
 use Rattle.annex.specs.declared.Fault.the-variants.{Sound, Bad}
 use Rattle.annex.specs.declared.Form.{Form}
@@ -152,6 +159,10 @@ FaultHasNumber (Bad k i) = 0 < k
 abbrev pub ClassHasNumber : ClassAnswer → Type 0
 ClassHasNumber (classes.Is c) = Unit {0}
 ClassHasNumber (classes.Refused k p) = 0 < k
+
+abbrev pub ChargingHasNumber : ChargingAnswer → Type 0
+ChargingHasNumber (chargings.Is c) = Unit {0}
+ChargingHasNumber (chargings.Refused k p) = 0 < k
 
 refused : (b : Bool) (k p : ℕ) (a : Answer) → 0 < k → HasNumber a → HasNumber (refuse b k p a)
 refused true k p a h t = h
@@ -196,11 +207,25 @@ number-told at s =
     (formed (not (eqb (oddOf s) 1 && eqb (length s) 2)) _
     (halves-told Numbered (countOf s .0) _ (halves (drop 2 s))))
 
+faulted : (f g : Fault) → FaultHasNumber f → FaultHasNumber g → FaultHasNumber (faultThen f g)
+faulted Sound g t u = u
+faulted (Bad k i) g t u = t
+
+drawn-told : (at : ℕ) (ds : List Drawn) (xs : List ℕ) → FaultHasNumber (drawnFault at ds xs)
+unfolding drawnFault
+drawn-told at [] xs = record {}
+drawn-told at (d ∷ ds) [] = record {}
+drawn-told at (d ∷ ds) (x ∷ xs) = one-of (isRight d x) (drawnFault (at + 1) ds xs) _ (drawn-told (at + 1) ds xs) (omega arith)
+
 check-told : (c : Check) (s : List ℕ) → FaultHasNumber (checkFault c s)
-unfolding twoFault
+unfolding twoFault chargingFault
 check-told Nothing s = record {}
 check-told (Long n) s = formed (eqb (length s) n) Sound (record {})
 check-told (Two mask) s = formed (eqb (length s) 2 && clear mask (getD s 1 0)) Sound (record {})
+check-told Charging s =
+    formed (isKind (kindIn s) && eqb (length s) (2 + length (drawnFor (kindIn s)))) _
+    (faulted (drawnFault 2 (drawnFor (kindIn s)) (drawnIn s)) _ (drawn-told 2 (drawnFor (kindIn s)) (drawnIn s))
+    (one-of (checkRight (kindIn s) (drawnIn s)) Sound _ (record {}) (omega arith)))
 
 form-told : (f : Form) (s : List ℕ) → FaultHasNumber (faultBy f s)
 unfolding dialledFault digitsFault callingFault genericFault
@@ -435,3 +460,21 @@ class-told h x = among-told classLists
     among-told : (ls : List ClassList) → ClassHasNumber (classIn ls h x)
     among-told [] = omega arith
     among-told (l ∷ ls) = one (eqb h (l .header)) (clear (zeroesOf h) x) (classBy l x) (classIn ls h x) (among-told ls)
+
+-- ---- charging information
+
+pub charging-told : (m : List ℕ) → ChargingHasNumber (chargingOf m)
+unfolding chargingOf
+charging-told m = go (findAnswer m (chargingFound m)) (findPart m (chargingFound m)) (find-told m (chargingFound m))
+  where
+    go : (a : Answer) (s : List ℕ) → HasNumber a → ChargingHasNumber (chargingBy a s)
+    go (Accepted n) s t = record {}
+    go (Refused k p) s t = t
+
+pub octet-charging-told : (m : List ℕ) (room : ℕ) → HasNumber (octetCharging m room)
+unfolding octetCharging
+octet-charging-told m room = go (chargingOf m) (charging-told m)
+  where
+    go : (a : ChargingAnswer) → ChargingHasNumber a → HasNumber (octetChargingBy a room)
+    go (chargings.Is c) t = refused (ltb room charging-octets) no-room 0 (Accepted charging-octets) (omega arith) (record {})
+    go (chargings.Refused k p) t = t

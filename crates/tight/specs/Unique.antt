@@ -1,14 +1,13 @@
 -- Two answers that keep a promise on the same input are equal: the result, and what lent memory holds after it. So no promise lets two
 -- programs differ. A part of the message that finding hands back is equal by its octets; `common-where` and `transfer-where` say with the
 -- answer to the second question where in the message it is.
-use Prim.Native.Nat.{ℕ, zero, suc, _-_}
-use mathlib.Core.Path.{_≡_, refl, sym, ap, _∙_}
+use Prim.Native.Nat.{ℕ}
+use mathlib.Core.Path.{_≡_, sym, ap, _∙_}
 use mathlib.Core.Bool.{Bool, cond}
-use mathlib.Core.List.{List, [], _∷_}
-use lib.ListN.{length, take, drop}
-use Rattle.annex.specs.Answers.{andThen}
+use mathlib.Core.List.{List}
+use lib.ListN.{length}
 use Rattle.annex.specs.Reading.{verdictOf}
-use Rattle.annex.specs.Finding.{commonFound, transferFound, foundAnswer, partBy}
+use Rattle.annex.specs.Finding.{commonFound, transferFound}
 use Rattle.annex.specs.Editing.{Edit}
 use Rattle.annex.specs.Promises.{
   VerdictPromise,
@@ -24,6 +23,8 @@ use Rattle.annex.specs.Promises.{
   RecordRefusalPromise,
   EditPromise,
   ClassPromise,
+  ChargingPromise,
+  OctetChargingPromise,
   ImageReadPromise,
   ImageWritePromise,
   FromImagePromise,
@@ -33,19 +34,19 @@ use Rattle.annex.specs.Promises.{
   TkFindCommonPromise,
   TkFindTransferPromise,
   TkClassPromise,
+  TkChargingPromise,
   TkEditPromise,
   Gives,
   Stores,
 }
 use Rattle.annex.specs.declared.Answer.{Answer}
-use Rattle.annex.specs.declared.Answer.the-variants.{Accepted, Refused}
-use Rattle.annex.specs.declared.Found.{Found}
-use Rattle.annex.specs.declared.Found.the-variants.{At, Nowhere}
 use Rattle.annex.specs.declared.Record.{Record}
 use Rattle.annex.specs.declared.Reading.{Reading}
 use Rattle.annex.specs.declared.Imaged.{Imaged}
 use Rattle.annex.specs.declared.Row.{Row}
 use Rattle.annex.specs.declared.ClassAnswer.{ClassAnswer}
+use Rattle.annex.specs.declared.ChargingAnswer.{ChargingAnswer}
+use Rattle.laws.specs.Found.{stretchFrom, part-where}
 
 -- what is equal to the same is equal
 pub same : {A : Type 0} {x a b : A} → a ≡ x → b ≡ x → a ≡ b
@@ -72,21 +73,6 @@ one-transfer m x a b p q = same p q
 
 pub one-transfer-answer : (m : List ℕ) (x : ℕ) (a b : Answer) → FindTransferAnswerPromise m x a → FindTransferAnswerPromise m x b → a ≡ b
 one-transfer-answer m x a b p q = same p q
-
--- the stretch of so many octets that starts where an answer tells; none where it refuses
-abbrev pub stretchFrom : Answer → ℕ → List ℕ → List ℕ
-stretchFrom (Accepted s) n m = take n (drop s m)
-stretchFrom (Refused k p) n m = []
-
-take-own : (n : ℕ) (l : List ℕ) → take n l ≡ take (length (take n l)) l
-take-own zero l = refl
-take-own (suc n) [] = refl
-take-own (suc n) (x ∷ l) = ap (λ (t : List ℕ). x ∷ t) (take-own n l)
-
-part-where : (v : Answer) (m : List ℕ) (f : Found) → partBy v m f ≡ stretchFrom (andThen v (λ _. foundAnswer f)) (length (partBy v m f)) m
-part-where (Accepted n) m (At s e) = take-own (e - s) (drop s m)
-part-where (Accepted n) m Nowhere = refl
-part-where (Refused k p) m f = refl
 
 -- a part that finding hands back, and the answer to the second question: where in the message the part is
 pub common-where : (m : List ℕ) (h : ℕ) (part : List ℕ) (a : Answer) → FindCommonPromise m h part → FindCommonAnswerPromise m h a
@@ -123,6 +109,13 @@ one-edit e buffer n a b s t p q = both p q
 pub one-class : (h x : ℕ) (a b : ClassAnswer) → ClassPromise h x a → ClassPromise h x b → a ≡ b
 one-class h x a b p q = same p q
 
+pub one-charging : (m : List ℕ) (a b : ChargingAnswer) → ChargingPromise m a → ChargingPromise m b → a ≡ b
+one-charging m a b p q = same p q
+
+pub one-octet-charging : (m room : List ℕ) (a b : Answer) (s t : List ℕ) → OctetChargingPromise m room a s
+    → OctetChargingPromise m room b t → (a ≡ b) × (s ≡ t)
+one-octet-charging m room a b s t p q = both p q
+
 -- ---- a record's image
 
 pub one-imaging : (m room : List ℕ) (a b : Answer) (s t : List ℕ) → ImageReadPromise m room a s → ImageReadPromise m room b t
@@ -156,6 +149,10 @@ one-tk-transfer m x a b p q = same p q
 
 pub one-tk-class : (h x a b : ℕ) → TkClassPromise h x a → TkClassPromise h x b → a ≡ b
 one-tk-class h x a b p q = same p q
+
+pub one-tk-charging : (m room : List ℕ) (a b : ℕ) (s t : List ℕ) → TkChargingPromise m room a s → TkChargingPromise m room b t
+    → (a ≡ b) × (s ≡ t)
+one-tk-charging m room a b s t p q = both p q
 
 pub one-tk-edit : (e : Edit) (buffer : List ℕ) (n a b : ℕ) (s t : List ℕ) → TkEditPromise e buffer n a s → TkEditPromise e buffer n b t
     → (a ≡ b) × (s ≡ t)

@@ -1,5 +1,5 @@
 -- Wrong programs that the promises about a record's image and the functions for Rust and C shut out, at least two for each function, each
--- with the input at which it breaks its promise.
+-- with the input at which it breaks its promise; tk_charging's stand in WrongCharging.
 use Prim.Native.Nat.{ℕ, _+_, _*_, _%_, _<_}
 use native.Mathlib.Omega.{arith}
 use mathlib.Core.Path.{_≡_, refl, ap, _∙_}
@@ -86,7 +86,7 @@ abbrev lacking : List ℕ
 lacking = 1 ∷ 0x01 ∷ 0x01 ∷ 0 ∷ 0 ∷ 0 ∷ 0 ∷ []
 
 -- lent memory before a call
-abbrev lent : ℕ → List ℕ
+abbrev pub lent : ℕ → List ℕ
 lent n = replicate n 0xEE
 
 -- what the definitions say, computed once
@@ -129,7 +129,7 @@ said-packed =
     }
 
 -- what lent memory holds at a place
-abbrev at : ℕ → List ℕ → ℕ
+abbrev pub at : ℕ → List ℕ → ℕ
 at i l = getD l i 0
 
 -- ---- read_image: one that answers the length and writes nothing; one that writes as much as there is room for

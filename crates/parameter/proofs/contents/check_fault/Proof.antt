@@ -9,6 +9,9 @@ returns-2 c = rw (c .before .before .check .given .1) (c .formed .ensures)
 returns-3 : tie.Need-returns-3
 returns-3 c = rw (c .before .before .check2 .given .1) (c .two-fault .ensures)
 
+returns-4 : tie.Need-returns-4
+returns-4 c = rw (c .before .enum-told2 .given .1) (c .charging-fault .ensures)
+
 pub check-fault-spec : {M : Type 1} → statement M
 check-fault-spec =
     tie.close
@@ -20,5 +23,8 @@ check-fault-spec =
     (λ c. search needs)
     (λ c κs. search needs)
     (λ c. search needs)
+    (λ c κs. search needs)
+    (λ c. search needs)
     returns-2
-    returns-3)
+    returns-3
+    returns-4)

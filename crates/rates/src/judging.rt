@@ -1,0 +1,97 @@
+// What is wrong with charging information: kind and length, then each octet, then the check digit.
+use crate::drawing::asked_of;
+use crate::drawing::is_right;
+use crate::drawing::sum_in;
+use annex::Answer;
+use annex::Charges;
+use annex::Drawn;
+use annex::Fault;
+use octets::octet_at;
+ghost use mathlib.Core.Path.{_≡_};
+ghost use Prim.Native.Nat.{_+_, _-_, _≤_};
+ghost use lib.ListN.{length, drop};
+ghost use Rattle.annex.specs.Promises.{Gives};
+ghost use Rattle.annex.specs.Contents.{chargingFault};
+ghost use Rattle.annex.specs.Rates.{drawnFault, numbersDrawn, total};
+ghost use Rattle.rates.specs.Asked.{behind, charactersFault, charactersSum};
+
+// The first octet from an offset on that is no character.
+fn characters_fault(s: &[u8], from: usize) -> Fault
+    ensures { λ r. ⌜ r ≡ charactersFault from (drop from (now (s .entry))) ⌝ }
+{
+    let mut i = from;
+    while i < s.len() {
+        if !is_right(Drawn::Character, s[i]) {
+            return Fault::Bad(Answer::BAD_DIGIT, i);
+        }
+        i += 1;
+    }
+    Fault::Sound
+}
+
+// The first octet behind the kind that is not as it is drawn: the first one as `first`, the others as characters.
+fn drawn_fault(first: Drawn, s: &[u8]) -> Fault
+    ensures { λ r. ⌜ r ≡ drawnFault 2 (behind first (length (now (s .entry)) - 2)) (drop 2 (now (s .entry))) ⌝ }
+{
+    if s.len() <= Charges::HEAD {
+        return Fault::Sound;
+    }
+    if !is_right(first, s[Charges::HEAD]) {
+        return Fault::Bad(Answer::BAD_DIGIT, Charges::HEAD);
+    }
+    characters_fault(s, Charges::HEAD + 1)
+}
+
+// What the characters from an offset on add up to.
+fn characters_sum(s: &[u8], from: usize) -> usize
+    requires { ⌜ length (now s) ≤ 257 ⌝ }
+    ensures { λ r. ⌜ r ≡ charactersSum (drop from (now (s .entry))) ⌝ }
+{
+    let mut sum: usize = 0;
+    let mut i = from;
+    while i < s.len() {
+        sum += sum_in(Drawn::Character, s[i]) as usize;
+        i += 1;
+    }
+    sum
+}
+
+// What the numbers behind the kind add up to.
+fn drawn_sum(first: Drawn, s: &[u8]) -> usize
+    requires { ⌜ length (now s) ≤ 257 ⌝ }
+    ensures { λ r. ⌜ r ≡ total (numbersDrawn (behind first (length (now (s .entry)) - 2)) (drop 2 (now (s .entry)))) ⌝ }
+{
+    if s.len() <= Charges::HEAD {
+        return 0;
+    }
+    let lead = sum_in(first, s[Charges::HEAD]) as usize;
+    lead + characters_sum(s, Charges::HEAD + 1)
+}
+
+// 12, 13 or 18 of the contents of F7.
+pub fn charging_fault(s: &[u8]) -> Fault
+    ensures { λ r. ⌜ Gives (chargingFault (now (s .entry))) r ⌝ }
+{
+    let kind = octet_at(s, 1);
+    let asked = asked_of(kind);
+    if !asked.listed {
+        return Fault::Bad(Answer::BAD_FORM, 0);
+    }
+    if s.len() != Charges::HEAD + asked.octets as usize {
+        return Fault::Bad(Answer::BAD_FORM, 0);
+    }
+    let first = asked.first;
+    let f = drawn_fault(first, s);
+    let Fault::Sound = f else {
+        return f;
+    };
+    if !asked.checked {
+        return Fault::Sound;
+    }
+    let sum = kind as usize + drawn_sum(first, s) % 10;
+    if sum % 10 == 9 {
+        Fault::Sound
+    } else {
+        Fault::Bad(Answer::CHECK_DIGIT, s.len() - 1)
+    }
+}
