@@ -24,7 +24,7 @@ use Rattle.annex.specs.Answers.{
   classGivenOf,
 }
 use Rattle.annex.specs.Units.{nameOf, afterOf, extentOf, contentsIn}
-use Rattle.annex.specs.Heads.{clear, among, transfer-data, most-octets, most-transfer-octets, oftenOf, zeroesOf}
+use Rattle.annex.specs.Heads.{clear, among, transfer-data, charging-information, most-octets, most-transfer-octets, oftenOf, zeroesOf}
 use Rattle.annex.specs.Contents.{faultOf}
 use Rattle.annex.specs.Items.{Item, Part}
 use Rattle.annex.specs.Layout.{layoutItems, layout}
@@ -35,10 +35,22 @@ use Rattle.annex.specs.Finding.{foundAnswer, foundPart, findAnswer, findPart, f
 use Rattle.annex.specs.Spans.{rowsOf, spansBy}
 use Rattle.annex.specs.Editing.{Edit, newHeader, newAfter, newHead, newContents, editRefusal, edited, recordEditing, editingOf}
 use Rattle.annex.specs.Editing.Edit.{Replacing, Appending, Removing}
+use Rattle.annex.specs.Charging.{
+  chargingFound,
+  chargingBy,
+  chargingOf,
+  chargingPlaceOf,
+  charging-octets,
+  octetChargingBy,
+  octetCharging,
+}
 use Rattle.annex.specs.Classes.{ClassList, classLists, classBy, classIn, classOf}
 use Rattle.annex.specs.declared.Answer.{Answer}
 use Rattle.annex.specs.declared.Answer.the-variants.{Accepted, Refused}
+use Rattle.annex.specs.declared.ChargingAnswer.{ChargingAnswer}
+use Rattle.annex.specs.declared.ChargingAnswer.the-variants as chargings
 use Rattle.annex.specs.declared.Key.{Key}
+use Rattle.annex.specs.declared.Key.the-variants.{Name}
 use Rattle.annex.specs.declared.Found.{Found}
 use Rattle.annex.specs.declared.Found.the-variants.{At, Nowhere}
 use Rattle.annex.specs.declared.Class.{Class}
@@ -130,6 +142,23 @@ module _ (m : List ℕ) where
 
   pub find-upto : (k : Key) → Told (foundBy k m)
   find-upto k = told-by (foundBy k m) (plainBy k m) (plain-found k m) (plain-inside k m)
+
+-- ---- charging information
+
+octets-upto : (a : ChargingAnswer) (room : ℕ) → chargingPlaceOf a ≤ farthest → Upto farthest (octetChargingBy a room)
+octets-upto (chargings.Is c) room h =
+    let given = Accepted charging-octets in
+    upto-refuse (ltb room charging-octets) no-room 0 farthest given (omega arith) (omega arith, omega arith)
+octets-upto (chargings.Refused k p) room h = (h, omega arith)
+
+pub charging-upto : (m : List ℕ) (room : ℕ) → Upto farthest (octetCharging m room)
+unfolding octetCharging chargingOf
+charging-upto m room =
+    octets-upto (chargingOf m) room (go (findAnswer m (chargingFound m)) (find-upto m (Name (nameOf charging-information) 0) .0))
+  where
+    go : (a : Answer) → Upto farthest a → chargingPlaceOf (chargingBy a (findPart m (chargingFound m))) ≤ farthest
+    go (Accepted n) u = omega arith
+    go (Refused k p) u = u .0
 
 -- ---- editing
 

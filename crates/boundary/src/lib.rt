@@ -4,6 +4,7 @@ use annex::Answer;
 use annex::Class;
 use annex::ClassAnswer;
 use annex::Key;
+use charging::packing::octet_charging;
 use classes::class_of;
 use editor::append;
 use editor::remove;
@@ -23,6 +24,7 @@ ghost use Rattle.annex.specs.Promises.{
   TkFindCommonPromise,
   TkFindTransferPromise,
   TkClassPromise,
+  TkChargingPromise,
   TkEditPromise,
 };
 
@@ -117,6 +119,14 @@ pub extern "C" fn tk_class(header: u8, octet: u8) -> u64
         ClassAnswer::Is(c) => pack(0, 0, class_value(c)),
         ClassAnswer::Refused(k, p) => pack(k, p, 0),
     }
+}
+
+// What the charging information says, as octets at the front of the lent ones: how many there are. A refusal leaves them as they were.
+#[no_mangle]
+pub extern "C" fn tk_charging(message: &[u8], out: &mut [u8]) -> u64
+    ensures { λ r. ⌜ TkChargingPromise (now (message .entry)) (now (out .entry)) r (now (out .exit)) ⌝ }
+{
+    pack_answer(octet_charging(message, out))
 }
 
 // The parameter of the new octets in the place of the one with its name, in the message that the buffer's first n octets hold.

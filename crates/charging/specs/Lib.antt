@@ -1,0 +1,2 @@
+-- The answers about charging information, with what the lent octets then hold.
+pub mod Answering
