@@ -25,6 +25,8 @@ extern "C" {
 #define TK_ROW_LEN 5
 /* Room for the image of any record that is read: the count, 6 common and 52 transfer parameters, two values to an octet of C5. */
 #define TK_IMAGE_MAX (1 + 6 * 6 + 52 * 11 + 2 * 255)
+/* The octets of the opened charging information. */
+#define TK_CHARGING_LEN 23
 
 /* Why a call was refused. */
 enum tk_number {
@@ -41,11 +43,12 @@ enum tk_number {
     TK_REPEATED_NAME = 10, /* a transfer name for the second time */
     TK_CUT_CONTENTS = 11,  /* contents that run past their end, or are not as long as their PLI says */
     TK_BAD_FORM = 12,      /* a bit that must be 0 is not, contents of the wrong form, or a value too large for its bits */
-    TK_BAD_DIGIT = 13,     /* a digit code without a meaning, or half an octet left over that is not 0 */
+    TK_BAD_DIGIT = 13,     /* a digit code without a meaning, a character that is no digit, or half an octet left over that is not 0 */
     TK_TRANSFER_OVER = 14, /* transfer data longer than 255 octets */
     TK_NO_ROOM = 15,       /* what is lent is too short */
     TK_ABSENT = 16,        /* the parameter, or the transfer data, is not there */
-    TK_NO_CLASS_LIST = 17  /* the header's code values have no classes */
+    TK_NO_CLASS_LIST = 17, /* the header's code values have no classes */
+    TK_CHECK_DIGIT = 18    /* the check digit of the charging information is wrong */
 };
 
 /* The class of a code value. */
@@ -88,8 +91,8 @@ static inline size_t tk_value_of(uint64_t answer) { return (size_t)(answer & 0xF
 
 /*
  * A message is read from left to right. "Reading's" refusals are 1 at 0; for each common parameter 2, 3, 4, 5 at its header, and for
- * each transfer parameter of C5 8 to 13 at its own; 4 at the message's length if there is no end mark; 6 at the end mark; 7 at the
- * octet behind it. The first that applies is the answer, here and below.
+ * each transfer parameter of C5 8 to 13 and 18 at its own; 4 at the message's length if there is no end mark; 6 at the end mark; 7 at
+ * the octet behind it. The first that applies is the answer, here and below.
  */
 
 /* The record of a message. Value: the length of its image, at the front of `image`; the octets behind it stay.
@@ -98,8 +101,8 @@ uint64_t tk_read(const uint8_t *message, size_t message_len, uint8_t *image, siz
 
 /* The message of a record. Value: the message's length; it stands at the front of `room`, and the octets behind it stay.
  * Refused: 1 at 0, also for an image that ends too early or too late; where the headers would stand, 2, 3, 5, 12 (call number or
- * sequence octet too large) and 8 to 13; 14 at C5 after its last parameter; 6 where the end mark would stand; 15 at 0 if `room` is too
- * short. */
+ * sequence octet too large) and 8 to 13 and 18; 14 at C5 after its last parameter; 6 where the end mark would stand; 15 at 0 if `room`
+ * is too short. */
 uint64_t tk_write(const uint8_t *image, size_t image_len, uint8_t *room, size_t room_len);
 
 /* A row for each parameter, in the order of the message, the end mark last. Value: the count of rows, at the front of `table`;
@@ -119,6 +122,13 @@ uint64_t tk_find_transfer(const uint8_t *message, size_t message_len, uint8_t na
  * Refused: 17 at 0; 12 at 0 if a bit is set that must be 0. */
 uint64_t tk_class(uint8_t header, uint8_t octet);
 
+/* The charging information, F7, opened. Value: TK_CHARGING_LEN; so many octets stand at the front of `out`; those behind them stay.
+ * They are the rate kind, then eleven numbers (2 octets each, least first), 0 for what the kind does not have: unit fee, initial
+ * units, day, night, late night 1, late night 2, MBI, information interval, information units, free time, check digit. Times, which
+ * are day to late night 2, information interval and free time, are in half seconds.
+ * Refused: reading's; 16 at 0 if there is no F7; 15 at 0 if `out` is too short. */
+uint64_t tk_charging(const uint8_t *message, size_t message_len, uint8_t *out, size_t out_len);
+
 /*
  * Edits of the message in the first `n` octets of `buffer`. Value: the message's new length. Octets between the new end and a later
  * old one become 0; those behind both stay. `new_octets` is a whole transfer parameter, header first. An `n` beyond the buffer is
@@ -127,7 +137,7 @@ uint64_t tk_class(uint8_t header, uint8_t octet);
 
 /* Puts the new parameter in the place of the one with its name.
  * Refused: 15 (n); reading's; then at 0: 16 (no transfer data), 11 (no new octets), 8, 9, 16 (name absent), 11 (new octets too few
- * or left over), 12, 13, 14, 15 (`buffer` too short). */
+ * or left over), 12, 13, 18, 14, 15 (`buffer` too short). */
 uint64_t tk_replace(uint8_t *buffer, size_t buffer_len, size_t n, const uint8_t *new_octets, size_t new_len);
 
 /* Puts the new parameter behind the last one of the transfer data.

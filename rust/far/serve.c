@@ -7,7 +7,7 @@
  */
 #include "tsurakemobu.h"
 
-enum { READ, WRITE, ROWS, FIND_COMMON, FIND_TRANSFER, CLASS, REPLACE, APPEND, REMOVE };
+enum { READ, WRITE, ROWS, FIND_COMMON, FIND_TRANSFER, CLASS, REPLACE, APPEND, REMOVE, CHARGING };
 
 /* What comes first in a request. */
 struct head {
@@ -122,6 +122,7 @@ static uint64_t call(const struct head *h, const uint8_t *fixed, uint8_t *lent) 
     case REPLACE: return tk_replace(lent, h->lent_len, h->first, fixed, h->fixed_len);
     case APPEND: return tk_append(lent, h->lent_len, h->first, fixed, h->fixed_len);
     case REMOVE: return tk_remove(lent, h->lent_len, h->first, (uint8_t)h->second);
+    case CHARGING: return tk_charging(fixed, h->fixed_len, lent, h->lent_len);
     default: leave(1);
     }
 }

@@ -24,6 +24,7 @@ extern "C" {
     fn tk_replace(buffer: *mut u8, len: usize, n: usize, new: *const u8, new_len: usize) -> u64;
     fn tk_append(buffer: *mut u8, len: usize, n: usize, new: *const u8, new_len: usize) -> u64;
     fn tk_remove(buffer: *mut u8, len: usize, n: usize, name: u8) -> u64;
+    fn tk_charging(message: *const u8, len: usize, out: *mut u8, out_len: usize) -> u64;
 }
 
 /// The record's image of `message`, into the front of `image`; value: its length.
@@ -97,6 +98,14 @@ pub fn append(buffer: &mut [u8], n: usize, new: &[u8]) -> u64 {
 pub fn remove(buffer: &mut [u8], n: usize, name: u8) -> u64 {
     // SAFETY: pointer and length are a slice's, and `buffer` overlaps nothing.
     unsafe { tk_remove(buffer.as_mut_ptr(), buffer.len(), n, name) }
+}
+
+/// The charging information of `message`, opened, into the front of `out`; value:
+/// how many octets it takes.
+pub fn charging(message: &[u8], out: &mut [u8]) -> u64 {
+    let (octets, len) = (out.as_mut_ptr(), out.len());
+    // SAFETY: each pointer and length is a slice's, and `out` overlaps nothing.
+    unsafe { tk_charging(message.as_ptr(), message.len(), octets, len) }
 }
 
 /// Memory for octets. It is not cleared first: an octet of it is set or not.

@@ -28,10 +28,12 @@
 mod answer;
 #[allow(unsafe_code)]
 pub mod boundary;
+mod charging;
 mod image;
 pub mod record;
 mod refusal;
 
+pub use charging::Charging;
 pub use record::{Common, Record, Stretch, Transfer};
 pub use refusal::Refusal;
 
@@ -51,6 +53,9 @@ pub const ROWS_MAX: usize = 59;
 /// that is read: the count, 6 common and 52 transfer parameters, and two values
 /// for each of the 255 octets that their contents can have together.
 pub const IMAGE_MAX: usize = 1 + 6 * 6 + 52 * 11 + 2 * 255;
+/// Octets of the charging information as the static library gives it: the kind,
+/// and eleven numbers of two octets.
+pub const CHARGING_LEN: usize = 1 + 11 * 2;
 /// Octets of a row in the table that the static library fills.
 const ROW_LEN: usize = 5;
 /// The most octets of that table.
@@ -82,7 +87,7 @@ pub enum Class {
 ///
 /// # Errors
 ///
-/// Numbers 1 to 13, tried from left to right.
+/// Numbers 1 to 13 and 18, tried from left to right.
 pub fn read(message: &[u8]) -> Result<Record, Refusal> {
     let mut memory = Room::new();
     let image = boundary::read_into(message, &mut memory)?;
@@ -94,7 +99,7 @@ pub fn read(message: &[u8]) -> Result<Record, Refusal> {
 ///
 /// # Errors
 ///
-/// Number 1, then 2, 3, 5 and 8 to 14 in the reader's order, at the places
+/// Number 1, then 2, 3, 5, 8 to 14 and 18 in the reader's order, at the places
 /// where octets would stand, 6 at the end, and 15 if the room is too short.
 pub fn write(record: &Record, room: &mut [u8]) -> Result<usize, Refusal> {
     let mut memory = Room::new();
@@ -179,6 +184,26 @@ pub fn class_of(header: u8, octet: u8) -> Result<Class, Refusal> {
     })
 }
 
+/// The charging information of `message`, opened.
+///
+/// ```
+/// let message = [
+///     0x01, 0x01, 0x06, 0x11, 0xC5, 0x06, 0xF7, 0x04, 0x00, 0x05, 0x12, 0x31, 0x00,
+/// ];
+/// let charging = codec::charging(&message)?;
+/// assert_eq!((charging.kind, charging.mbi, charging.check_digit), (5, 12, 1));
+/// # Ok::<(), codec::Refusal>(())
+/// ```
+///
+/// # Errors
+///
+/// Those of [`read`], then 16 at 0 if there is none.
+pub fn charging(message: &[u8]) -> Result<Charging, Refusal> {
+    let mut octets = [0; CHARGING_LEN];
+    unpack(boundary::charging(message, &mut octets))?;
+    Ok(Charging::of(&octets))
+}
+
 /// Puts the transfer parameter `new` (its octets, header first) in the place of
 /// the one with its name, in the message in the first `n` octets of `buffer`;
 /// gives the message's new length.
@@ -189,8 +214,8 @@ pub fn class_of(header: u8, octet: u8) -> Result<Class, Refusal> {
 ///
 /// 15 at 0 if `n` is beyond the buffer, those of [`read`], then all at 0: 16
 /// without transfer data, 11 without octets, 8, 9, 16 if the name is absent, 11
-/// if octets are too few or too many, 12, 13, 14, and 15 if the buffer is too
-/// short.
+/// if octets are too few or too many, 12, 13, 18, 14, and 15 if the buffer is
+/// too short.
 pub fn replace(buffer: &mut [u8], n: usize, new: &[u8]) -> Result<usize, Refusal> {
     Ok(unpack(boundary::replace(buffer, n, new))?.value)
 }

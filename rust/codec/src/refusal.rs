@@ -6,7 +6,7 @@ use std::fmt;
 /// Why a call was refused, and where in the message.
 #[derive(Clone, Copy, Debug, PartialEq, Eq, Hash)]
 pub struct Refusal {
-    /// One of the numbers 1 to 17, the constants below.
+    /// One of the numbers 1 to 18, the constants below.
     pub number: u8,
     /// The offset in the message at which the fault stands; 0 where the
     /// number has no place.
@@ -40,7 +40,8 @@ impl Refusal {
     /// 12: a set bit that must be 0, contents of the wrong form, or a value too
     /// large for its bits.
     pub const BAD_FORM: u8 = 12;
-    /// 13: a digit without a meaning, or a filler that is not 0.
+    /// 13: a digit without a meaning, a character that is no digit, or a filler
+    /// that is not 0.
     pub const BAD_DIGIT: u8 = 13;
     /// 14: transfer data longer than 255 octets.
     pub const TRANSFER_OVER: u8 = 14;
@@ -50,6 +51,8 @@ impl Refusal {
     pub const ABSENT: u8 = 16;
     /// 17: a header whose code values have no classes.
     pub const NO_CLASS_LIST: u8 = 17;
+    /// 18: a check digit of the charging information that is wrong.
+    pub const CHECK_DIGIT: u8 = 18;
 
     /// The refusal `number` at `place`.
     pub const fn new(number: u8, place: usize) -> Self {
@@ -71,11 +74,12 @@ impl Refusal {
             Self::REPEATED_NAME => "repeated transfer name",
             Self::CUT_CONTENTS => "contents cut, or of another length",
             Self::BAD_FORM => "bad form",
-            Self::BAD_DIGIT => "bad digit or filler",
+            Self::BAD_DIGIT => "bad digit, character or filler",
             Self::TRANSFER_OVER => "transfer data over 255 octets",
             Self::NO_ROOM => "too little room",
             Self::ABSENT => "absent",
             Self::NO_CLASS_LIST => "no classes for this header",
+            Self::CHECK_DIGIT => "wrong check digit",
             _ => "unknown number",
         }
     }

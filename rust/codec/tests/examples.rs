@@ -1,4 +1,4 @@
-//! The example prints what stands beside it.
+//! Each example prints what stands beside it.
 
 use std::env;
 use std::path::{Path, PathBuf};
@@ -26,13 +26,22 @@ fn command(program: &Path) -> Command {
     command
 }
 
-#[test]
-fn area() {
-    let path = example("area");
+/// Runs the example `name`, which must print `expected`.
+fn prints(name: &str, expected: &str) {
+    let path = example(name);
     let ran = command(&path)
         .output()
         .unwrap_or_else(|error| panic!("{}: {error}", path.display()));
     assert!(ran.status.success(), "{ran:?}");
-    let printed = String::from_utf8_lossy(&ran.stdout);
-    assert_eq!(printed, include_str!("../examples/area.stdout"));
+    assert_eq!(String::from_utf8_lossy(&ran.stdout), expected);
+}
+
+#[test]
+fn area() {
+    prints("area", include_str!("../examples/area.stdout"));
+}
+
+#[test]
+fn charging() {
+    prints("charging", include_str!("../examples/charging.stdout"));
 }

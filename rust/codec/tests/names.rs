@@ -1,7 +1,10 @@
-//! The refusal numbers have the same names here and in the header for C, and
-//! both lend as much room for an image as is proved to suffice.
+//! The refusal numbers have the same names here and in the header for C, and so
+//! have the lengths the same values; both lend as much room for an image as is
+//! proved to suffice.
 
 use std::collections::BTreeMap;
+
+const HEADER: &str = include_str!("../../../include/tsurakemobu.h");
 
 /// The names that stand between `before` and `after` in a line, by the number
 /// that follows.
@@ -17,9 +20,9 @@ fn names<'t>(text: &'t str, before: &str, after: &str) -> BTreeMap<u8, &'t str> 
 #[test]
 fn of_all_numbers() {
     let here = names(include_str!("../src/refusal.rs"), "pub const ", ": u8 = ");
-    let mut header = names(include_str!("../../../include/tsurakemobu.h"), "TK_", " = ");
+    let mut header = names(HEADER, "TK_", " = ");
     assert_eq!(header.remove(&0), Some("ACCEPTED"));
-    assert_eq!(here.len(), 17);
+    assert_eq!(here.len(), 18);
     assert_eq!(here, header);
 }
 
@@ -41,7 +44,19 @@ fn value(sum: &str) -> usize {
 fn of_the_longest_image() {
     let proved = include_str!("../../../crates/boundary/specs/SmallImages.antt");
     let proved = value(line(proved, "pub image-max : most-image ≡ ", '\n'));
-    let header = include_str!("../../../include/tsurakemobu.h");
-    assert_eq!(value(line(header, "#define TK_IMAGE_MAX (", ')')), proved);
+    assert_eq!(value(line(HEADER, "#define TK_IMAGE_MAX (", ')')), proved);
     assert_eq!(codec::IMAGE_MAX, proved);
+}
+
+#[test]
+fn of_the_other_lengths() {
+    let lengths = [
+        ("TK_MESSAGE_MAX", codec::MESSAGE_MAX),
+        ("TK_ROWS_MAX", codec::ROWS_MAX),
+        ("TK_CHARGING_LEN", codec::CHARGING_LEN),
+    ];
+    for (name, here) in lengths {
+        let told = line(HEADER, &format!("#define {name} "), '\n');
+        assert_eq!(value(told), here, "{name}");
+    }
 }

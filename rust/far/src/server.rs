@@ -16,6 +16,7 @@ pub(crate) enum Function {
     Replace = 6,
     Append = 7,
     Remove = 8,
+    Charging = 9,
 }
 
 /// Octets of an answer before the lent ones: what the function returned, and
