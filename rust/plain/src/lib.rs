@@ -3,8 +3,8 @@
 //! A message is a sequence of common parameters closed by an end mark; one of
 //! them, the transfer data, holds transfer parameters of its own. This crate
 //! reads a message to a [`Record`], writes a record, finds a parameter's
-//! contents, lists the spans of all parameters, classes code values and edits
-//! a message in place.
+//! contents, lists the spans of all parameters, classes code values, opens the
+//! charging information and edits a message in place.
 //!
 //! Every question is answered with what was asked for, or with a [`Refusal`]:
 //! a number that says why, and a place that says where. No call changes lent
@@ -24,6 +24,7 @@
 #![forbid(unsafe_code)]
 #![warn(missing_docs)]
 
+pub mod charging;
 pub mod classes;
 pub mod common;
 mod digits;
@@ -38,6 +39,7 @@ pub mod refusal;
 pub mod transfer;
 pub mod writing;
 
+pub use charging::{charging, Charging};
 pub use classes::{class_of, Class};
 pub use editing::{append, remove, replace};
 pub use finding::{find_common, find_transfer};

@@ -3,7 +3,7 @@
 /// Why a call was refused, and where in the message.
 #[derive(Clone, Copy, Debug, PartialEq, Eq, Hash)]
 pub struct Refusal {
-    /// One of the refusal numbers 1 to 17, the constants below.
+    /// One of the refusal numbers 1 to 18, the constants below.
     pub number: u8,
     /// The offset that the number's rule names; 0 where it names none.
     pub place: usize,
@@ -35,7 +35,7 @@ impl Refusal {
     pub const CONTENTS_CUT: u8 = 11;
     /// 12: a zero bit is set, the form is bad, or a field too large for its bits.
     pub const BAD_FORM: u8 = 12;
-    /// 13: a digit is spare, or the filler is not 0.
+    /// 13: a digit is spare, a character is no digit, or the filler is not 0.
     pub const SPARE_DIGIT: u8 = 13;
     /// 14: the transfer data is over 255 octets.
     pub const DATA_OVER: u8 = 14;
@@ -45,6 +45,8 @@ impl Refusal {
     pub const ABSENT: u8 = 16;
     /// 17: there is no class list for this header.
     pub const NO_CLASS_LIST: u8 = 17;
+    /// 18: the check digit of the charging information is wrong.
+    pub const CHECK_DIGIT: u8 = 18;
 
     /// The refusal `number` at `place`.
     pub const fn new(number: u8, place: usize) -> Self {

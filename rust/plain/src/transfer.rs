@@ -1,5 +1,6 @@
 //! Transfer parameters: their names, their layouts, the check of one of them.
 
+use crate::charging;
 use crate::digits::{octets_for, DIALLED};
 use crate::number;
 use crate::refusal::Refusal;
@@ -11,6 +12,8 @@ pub const DATA_LIMIT: usize = 255;
 pub const NAME_COUNT: usize = 52;
 /// The most digits under PLI 10.
 pub const DIGIT_LIMIT: usize = 63;
+/// Header of the charging information.
+pub const CHARGING: u8 = 0xF7;
 /// The first octet of a DA whose rest is a number.
 pub const GENERIC_IS_NUMBER: u8 = 0x06;
 
@@ -44,6 +47,8 @@ pub enum Layout {
         /// The bits of the second octet that must be 0.
         zero: u8,
     },
+    /// PLI 11: the charging information, F7.
+    Charging,
     /// PLI 11: contents carried unread.
     Carried,
 }
@@ -94,7 +99,7 @@ const IN_USE: [(u8, Layout); NAME_COUNT] = [
     (0xF2, Layout::Four),
     (0xF4, Layout::Carried),
     (0xF6, Layout::Carried),
-    (0xF7, Layout::Carried),
+    (CHARGING, Layout::Charging),
     (0xF8, Layout::Carried),
     (0xFD, Layout::Carried),
     (0x07, Layout::Open),
@@ -199,7 +204,7 @@ pub(crate) fn check_header(header: u8) -> Result<Layout, u8> {
     }
 }
 
-/// Tries 12 and 13 on contents whose length is as the PLI rule gives it.
+/// Tries 12, 13 and 18 on contents whose length is as the PLI rule gives it.
 pub(crate) fn check_contents(layout: Layout, contents: &[u8]) -> Result<(), u8> {
     match layout {
         Layout::Unused | Layout::Open | Layout::Carried => Ok(()),
@@ -222,6 +227,7 @@ pub(crate) fn check_contents(layout: Layout, contents: &[u8]) -> Result<(), u8> 
         },
         Layout::Four => formed(contents.len() == 4),
         Layout::Two { zero } => formed(matches!(contents, [_, second] if second & zero == 0)),
+        Layout::Charging => charging::open(contents).map(|_| ()),
     }
 }
 

@@ -150,8 +150,9 @@ fn parameters(rng: &mut Rng, len: usize) -> Vec<u8> {
     const TWO: usize = 16;
     around(rng, len, |rng, data, message| {
         let octets = names_with(|layout| matches!(layout, Layout::Octet { .. }));
-        let carried = names_with(|layout| layout == Layout::Carried);
-        for (k, (octet, carried)) in octets.into_iter().zip(carried).enumerate() {
+        // The names that take any contents under PLI 11, more than are needed.
+        let carried = [Layout::Carried, Layout::Open].map(|wanted| names_with(|l| l == wanted));
+        for (k, (octet, carried)) in octets.into_iter().zip(carried.concat()).enumerate() {
             let Some(left) = data.checked_sub(k * TWO).filter(|&left| left > 0) else {
                 break;
             };

@@ -3,7 +3,7 @@
 use crate::input::{Input, Kind, KINDS};
 use crate::messages::{message, sound_draft, sound_message, Size};
 use crate::outcome::ROW_LEN;
-use crate::parameters::{shuffled_names, sound, spoilt_somehow};
+use crate::parameters::{charging_somehow, shuffled_names, sound, spoilt_somehow, CHARGING_NAME};
 use crate::records;
 use crate::rng::Rng;
 
@@ -185,8 +185,9 @@ fn growth(kind: Kind, message: &[u8], new: &[u8]) -> usize {
 fn new_parameter(rng: &mut Rng, kind: Kind, message: &[u8]) -> Vec<u8> {
     let names = names_in(message);
     let wanted = |name: &u8| names.contains(name) == (kind == Kind::Replace);
-    match rng.weighted(&[14, 5, 3, 1, 1]) {
-        0 => {
+    match rng.weighted(&[14, 5, 3, 1, 1, 3]) {
+        5 if wanted(&CHARGING_NAME) => charging_somehow(rng),
+        0 | 5 => {
             let all = shuffled_names(rng);
             let name = all.iter().copied().find(wanted).unwrap_or(all[0]);
             let room = rng.pick(&[6, 12, 12, 257]);

@@ -18,6 +18,7 @@
 #![warn(missing_docs)]
 
 pub mod cases;
+mod charging;
 pub mod coverage;
 pub mod generation;
 pub mod input;

@@ -1,7 +1,11 @@
 //! Transfer parameters in octets: sound ones of every name, and spoilt ones.
 
+use crate::charging;
 use crate::rng::Rng;
-use plain::transfer::{layout_of, Layout};
+use plain::transfer::{layout_of, name_of, Layout, CHARGING};
+
+/// The name of the charging information.
+pub const CHARGING_NAME: u8 = name_of(CHARGING);
 
 /// What can be wrong with a transfer parameter by itself.
 #[derive(Clone, Copy, Debug, PartialEq, Eq)]
@@ -18,16 +22,19 @@ pub enum Fault {
     SpareDigit,
     /// A digit is spare, and something else is wrong, too.
     Twofold,
+    /// The check digit of the charging information is wrong.
+    CheckDigit,
 }
 
 /// All faults.
-pub const FAULTS: [Fault; 6] = [
+pub const FAULTS: [Fault; 7] = [
     Fault::UnusedName,
     Fault::WrongPli,
     Fault::WrongLength,
     Fault::BadForm,
     Fault::SpareDigit,
     Fault::Twofold,
+    Fault::CheckDigit,
 ];
 
 /// The names whose layout is as wanted.
@@ -49,6 +56,7 @@ pub fn shortest(name: u8) -> usize {
         Layout::Octet { .. } | Layout::Digits { .. } | Layout::Carried => 2,
         Layout::GenericNumber => 3,
         Layout::UserNumber | Layout::CallingNumber | Layout::Two { .. } => 4,
+        Layout::Charging => 2 + charging::SHORTEST,
         Layout::Four => 6,
     }
 }
@@ -64,6 +72,11 @@ fn counted(name: u8, contents: &[u8]) -> Vec<u8> {
     let mut octets = vec![0xC0 | name, contents.len() as u8];
     octets.extend_from_slice(contents);
     octets
+}
+
+/// The charging information with these contents.
+fn charged(contents: Vec<u8>) -> Vec<u8> {
+    counted(CHARGING_NAME, &contents)
 }
 
 /// A sound parameter of `name` in at most `room` octets, if [`shortest`] goes
@@ -100,6 +113,7 @@ pub fn sound(rng: &mut Rng, name: u8, room: usize) -> Vec<u8> {
         }
         Layout::Four => counted(name, &rng.octets(4)),
         Layout::Two { zero } => counted(name, &[rng.octet(), rng.octet() & !zero]),
+        Layout::Charging => charged(charging::sound(rng, charging::SHORTEST + spare)),
         Layout::Carried => {
             let len = count(rng, spare);
             counted(name, &rng.octets(len))
@@ -200,8 +214,11 @@ pub fn spoilt(rng: &mut Rng, fault: Fault) -> Vec<u8> {
         Fault::WrongPli => wrong_pli(rng),
         Fault::WrongLength => wrong_length(rng),
         Fault::BadForm => bad_form(rng),
+        Fault::SpareDigit if rng.one_in(5) => charged(charging::bad_digit(rng)),
         Fault::SpareDigit => spare_digit(rng),
+        Fault::Twofold if rng.one_in(5) => charged(charging::twofold(rng)),
         Fault::Twofold => twofold(rng),
+        Fault::CheckDigit => charged(charging::wrong_check_digit(rng)),
     }
 }
 
@@ -209,6 +226,24 @@ pub fn spoilt(rng: &mut Rng, fault: Fault) -> Vec<u8> {
 pub fn spoilt_somehow(rng: &mut Rng) -> Vec<u8> {
     let fault = rng.pick(&FAULTS);
     spoilt(rng, fault)
+}
+
+/// The charging information, sound or spoilt.
+pub fn charging_somehow(rng: &mut Rng) -> Vec<u8> {
+    match rng.below(2) {
+        0 => sound(rng, CHARGING_NAME, usize::MAX),
+        _ => spoilt_charging(rng),
+    }
+}
+
+/// The charging information with any fault of its own.
+pub fn spoilt_charging(rng: &mut Rng) -> Vec<u8> {
+    charged(match rng.weighted(&[3, 4, 1, 2]) {
+        0 => charging::bad_form(rng),
+        1 => charging::bad_digit(rng),
+        2 => charging::twofold(rng),
+        _ => charging::wrong_check_digit(rng),
+    })
 }
 
 fn wrong_pli(rng: &mut Rng) -> Vec<u8> {
@@ -239,8 +274,8 @@ fn wrong_length(rng: &mut Rng) -> Vec<u8> {
 }
 
 fn bad_form(rng: &mut Rng) -> Vec<u8> {
-    let name = if rng.one_in(4) {
-        rng.pick(&[0x1C, 0x1C, 0x1B])
+    let name = if rng.one_in(3) {
+        rng.pick(&[0x1C, 0x1C, 0x1B, CHARGING_NAME, CHARGING_NAME])
     } else {
         rng.pick(&names_with(has_form))
     };
@@ -269,6 +304,7 @@ fn bad_form(rng: &mut Rng) -> Vec<u8> {
             let len = rng.pick(&[0, 1, 1, 3, 3, 4, 250]);
             counted(name, &rng.octets(len))
         }
+        Layout::Charging => charged(charging::bad_form(rng)),
         _ => counted(name, &bad_number(rng)),
     }
 }
@@ -394,6 +430,7 @@ mod tests {
             assert_eq!(number(Fault::WrongPli, &mut rng), Err(9));
             assert_eq!(number(Fault::BadForm, &mut rng), Err(12));
             assert_eq!(number(Fault::SpareDigit, &mut rng), Err(13));
+            assert_eq!(number(Fault::CheckDigit, &mut rng), Err(18));
         }
     }
 }

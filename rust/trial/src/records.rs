@@ -1,7 +1,7 @@
 //! Records and their images: sound, with fields out of range, over the limits.
 
 use crate::messages::{self, sound_draft, with_alone, Size};
-use crate::parameters::{shuffled_names, sound, spoilt_somehow};
+use crate::parameters::{shuffled_names, sound, spoilt_charging, spoilt_somehow};
 use crate::record::{fields_in, fields_of, Common, Record, Transfer, WITH_FIELDS};
 use crate::record::{INCOMPLETE, NUMBER_TYPE, PLAN, PRESENTATION, SCREENING};
 use crate::rng::Rng;
@@ -158,7 +158,7 @@ fn damage_common(rng: &mut Rng, record: &mut Record) {
 }
 
 fn damage_transfers(rng: &mut Rng, transfers: &mut Vec<Transfer>) {
-    let parameter = match rng.below(12) {
+    let parameter = match rng.below(13) {
         0 | 1 if !transfers.is_empty() => {
             let mut again = transfers[rng.below(transfers.len())].clone();
             if rng.one_in(3) {
@@ -171,11 +171,8 @@ fn damage_transfers(rng: &mut Rng, transfers: &mut Vec<Transfer>) {
         4 => not_withheld(rng),
         5 => twofold(rng),
         6 if rng.one_in(3) => crowd(rng, transfers),
-        7 | 8 => {
-            let parameter = at_limit(rng);
-            transfers.retain(|t| (t.header ^ parameter.header) & 0x3F != 0);
-            parameter
-        }
+        7 | 8 => alone_of_its_name(transfers, at_limit(rng)),
+        9 => alone_of_its_name(transfers, as_octets(&spoilt_charging(rng))),
         _ if !transfers.is_empty() => {
             let at = rng.below(transfers.len());
             damage_transfer(rng, &mut transfers[at]);
@@ -188,6 +185,12 @@ fn damage_transfers(rng: &mut Rng, transfers: &mut Vec<Transfer>) {
     };
     let to = rng.between(0, transfers.len());
     transfers.insert(to, parameter);
+}
+
+/// The parameter, those of its name taken out of `transfers`.
+fn alone_of_its_name(transfers: &mut Vec<Transfer>, parameter: Transfer) -> Transfer {
+    transfers.retain(|t| (t.header ^ parameter.header) & 0x3F != 0);
+    parameter
 }
 
 /// Brings the transfer parameters to 50 to 53, and gives one more.

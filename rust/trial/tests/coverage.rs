@@ -39,17 +39,33 @@ fn every_possible_answer_occurs() {
     assert_eq!(coverage.surplus(), [""; 0]);
 
     // 12 names are unused, 47 of the others have a PLI of their own. Eleven
-    // names under PLI 01 and three under PLI 10 have zero bits, and six under
-    // PLI 11 a form; eight hold digits.
+    // names under PLI 01 and three under PLI 10 have zero bits, and seven under
+    // PLI 11 a form; nine hold digits, one of them a check digit.
     assert_eq!(
         counts(&read),
-        [(8, 12), (9, 47), (10, 52), (11, 52), (12, 20), (13, 8)]
+        [
+            (8, 12),
+            (9, 47),
+            (10, 52),
+            (11, 52),
+            (12, 21),
+            (13, 9),
+            (18, 1)
+        ]
     );
     // In writing no contents under PLI 11 are of a wrong length, save those
     // that are 12; 90, 91, 95 and 98 have marks, A3 has none.
     assert_eq!(
         counts(&written),
-        [(8, 12), (9, 47), (10, 52), (11, 30), (12, 21), (13, 8)]
+        [
+            (8, 12),
+            (9, 47),
+            (10, 52),
+            (11, 30),
+            (12, 22),
+            (13, 9),
+            (18, 1)
+        ]
     );
 }
 
@@ -126,6 +142,11 @@ fn counts(names: &Names) -> Vec<(u8, usize)> {
     names.iter().map(|(&n, names)| (n, names.len())).collect()
 }
 
+/// Whether a transfer parameter was refused.
+fn is_of_transfer(outcome: &Outcome) -> bool {
+    matches!(outcome.number(), 8..=13 | 18)
+}
+
 /// Notes the name at which reading refused a transfer parameter.
 fn note_read(input: &Input, outcome: &Outcome, names: &mut Names) {
     let message = match input {
@@ -135,7 +156,7 @@ fn note_read(input: &Input, outcome: &Outcome, names: &mut Names) {
         | Input::FindTransfer { message, .. } => message,
         _ => return,
     };
-    if (8..=13).contains(&outcome.number()) {
+    if is_of_transfer(outcome) {
         let name = message[outcome.place()] & 0x3F;
         names.entry(outcome.number()).or_default().insert(name);
     }
@@ -146,7 +167,7 @@ fn note_written(input: &Input, outcome: &Outcome, names: &mut Names) {
     let Input::Write { image, .. } = input else {
         return;
     };
-    if !(8..=13).contains(&outcome.number()) {
+    if !is_of_transfer(outcome) {
         return;
     }
     let record = plain::from_image(image).expect("a record within its limits");
