@@ -33,6 +33,7 @@ pub fn proved(input: &Input) -> Outcome {
         Input::Replace { n, new, .. } => boundary::replace(lent, (*n).into(), new),
         Input::Append { n, new, .. } => boundary::append(lent, (*n).into(), new),
         Input::Remove { n, name, .. } => boundary::remove(lent, (*n).into(), *name),
+        Input::Charging { message, .. } => boundary::charging(message, lent),
     };
     let around = memory.starts_with(&GUARD) && memory.ends_with(&GUARD);
     assert!(around, "written beside the lent memory: {input:02X?}");

@@ -39,6 +39,7 @@ fn lengths_beyond_any_message() {
     assert_eq!(boundary::rows(&long, &mut lent), refused(1, 0));
     assert_eq!(boundary::find_common(&long, 0x01), refused(1, 0));
     assert_eq!(boundary::find_transfer(&long, 0x10), refused(1, 0));
+    assert_eq!(boundary::charging(&long, &mut lent), refused(1, 0));
     for n in [70_001, 1 << 32, usize::MAX] {
         assert_eq!(boundary::replace(&mut lent, n, &long), refused(15, 0));
         assert_eq!(boundary::append(&mut lent, n, &long), refused(15, 0));

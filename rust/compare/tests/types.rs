@@ -1,6 +1,7 @@
 //! The proved codec in Rust's types answers as the plain one does.
 
-use codec::{boundary, Class, Common, Record, Refusal, Row, Transfer, IMAGE_MAX, MESSAGE_MAX};
+use codec::{boundary, Charging, Class, Common, Record, Refusal, Row, Transfer};
+use codec::{IMAGE_MAX, MESSAGE_MAX};
 use trial::{input_at, Input};
 
 const SEED: u64 = 23;
@@ -23,6 +24,23 @@ fn class(class: plain::Class) -> Class {
         plain::Class::Named => Class::Named,
         plain::Class::HeldBack => Class::HeldBack,
         plain::Class::Spare => Class::Spare,
+    }
+}
+
+fn charging(charging: plain::Charging) -> Charging {
+    Charging {
+        kind: charging.kind,
+        unit_fee: charging.unit_fee,
+        initial_units: charging.initial_units,
+        day: charging.day,
+        night: charging.night,
+        late_night_1: charging.late_night_1,
+        late_night_2: charging.late_night_2,
+        mbi: charging.mbi,
+        information_interval: charging.information_interval,
+        information_units: charging.information_units,
+        free_time: charging.free_time,
+        check_digit: charging.check_digit,
     }
 }
 
@@ -58,6 +76,7 @@ fn agree(input: &Input) -> bool {
         Input::Remove { buffer, n, name } => {
             edit_agrees(buffer, *n, *name, codec::remove, plain::remove)
         }
+        Input::Charging { message, .. } => charging_agrees(message),
     }
 }
 
@@ -69,6 +88,11 @@ fn rows_agree(message: &[u8]) -> bool {
 fn class_agrees(header: u8, octet: u8) -> bool {
     let classed = plain::class_of(header, octet).map(class);
     codec::class_of(header, octet) == classed.map_err(refusal)
+}
+
+fn charging_agrees(message: &[u8]) -> bool {
+    let opened = plain::charging(message).map(charging);
+    codec::charging(message) == opened.map_err(refusal)
 }
 
 /// The same record or refusal; and the record, written, is the message.

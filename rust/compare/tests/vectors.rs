@@ -22,9 +22,10 @@ fn messages() {
             image: lent.clone(),
         });
         same(Input::Rows {
-            message,
-            table: lent,
+            message: message.clone(),
+            table: lent.clone(),
         });
+        same(Input::Charging { message, out: lent });
     }
 }
 

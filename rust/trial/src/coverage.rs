@@ -50,10 +50,10 @@ impl Case {
     /// All numbers that such a call can be answered with, 0 for accepted.
     ///
     /// Reading gives 1 to 13 and 18. Finding adds 16; rows, and reading into a
-    /// lent image, add 15. Writing knows no cut message and no octets after the
-    /// end mark: it has neither 4 nor 7, but 14 and 15. An edit gives 15 for a
-    /// length beyond the buffer and reading's numbers; then, where the message
-    /// is sound, its own.
+    /// lent image, add 15; opening the charging information adds both. Writing
+    /// knows no cut message and no octets after the end mark: it has neither 4
+    /// nor 7, but 14 and 15. An edit gives 15 for a length beyond the buffer and
+    /// reading's numbers; then, where the message is sound, its own.
     pub fn possible(self) -> Vec<u8> {
         let reading = (0..=13).chain([18]);
         match (self.kind, self.edits_sound) {
@@ -61,6 +61,7 @@ impl Case {
             (Kind::Write, _) => [0, 1, 2, 3, 5, 6, 18].into_iter().chain(8..=15).collect(),
             (Kind::FindCommon | Kind::FindTransfer, _) => reading.chain([16]).collect(),
             (Kind::Class, _) => vec![0, 12, 17],
+            (Kind::Charging, _) => reading.chain([15, 16]).collect(),
             (_, false) => (1..=13).chain([15, 18]).collect(),
             (Kind::Replace, true) => [0, 8, 9, 18].into_iter().chain(11..=16).collect(),
             (Kind::Append, true) => [0, 18].into_iter().chain(8..=16).collect(),

@@ -1,8 +1,8 @@
 //! One input after another.
 
 use crate::input::{Input, Kind, KINDS};
-use crate::messages::{message, sound_draft, sound_message, Size};
-use crate::outcome::ROW_LEN;
+use crate::messages::{charged_message, message, sound_draft, sound_message, Size};
+use crate::outcome::{CHARGING_LEN, ROW_LEN};
 use crate::parameters::{charging_somehow, shuffled_names, sound, spoilt_somehow, CHARGING_NAME};
 use crate::records;
 use crate::rng::Rng;
@@ -14,8 +14,8 @@ pub fn input_at(seed: u64, index: u64) -> Input {
 
 /// An input of any kind.
 pub fn generate(rng: &mut Rng) -> Input {
-    // Read, write, rows, the two finds, class, replace, append, remove.
-    let kind = KINDS[rng.weighted(&[22, 26, 8, 6, 8, 4, 11, 9, 6])];
+    // Read, write, rows, the two finds, class, replace, append, remove, charging.
+    let kind = KINDS[rng.weighted(&[22, 26, 8, 6, 8, 4, 11, 9, 6, 10])];
     match kind {
         Kind::Read => read(rng),
         Kind::Write => write(rng),
@@ -32,6 +32,7 @@ pub fn generate(rng: &mut Rng) -> Input {
             Input::Append { buffer, n, new }
         }
         Kind::Remove => remove(rng),
+        Kind::Charging => charging(rng),
     }
 }
 
@@ -228,4 +229,13 @@ fn remove(rng: &mut Rng) -> Input {
     let buffer = buffer_of(rng, &message, past);
     let n = length_for(rng, &message, &buffer);
     Input::Remove { buffer, n, name }
+}
+
+fn charging(rng: &mut Rng) -> Input {
+    let message = match rng.below(4) {
+        0 => message(rng),
+        _ => charged_message(rng),
+    };
+    let out = lent(rng, CHARGING_LEN);
+    Input::Charging { message, out }
 }

@@ -21,10 +21,12 @@ pub enum Kind {
     Append = 7,
     /// Removing a transfer parameter.
     Remove = 8,
+    /// Opening the charging information.
+    Charging = 9,
 }
 
 /// All kinds, each at the index of its own number.
-pub const KINDS: [Kind; 9] = [
+pub const KINDS: [Kind; 10] = [
     Kind::Read,
     Kind::Write,
     Kind::Rows,
@@ -34,6 +36,7 @@ pub const KINDS: [Kind; 9] = [
     Kind::Replace,
     Kind::Append,
     Kind::Remove,
+    Kind::Charging,
 ];
 
 /// One call with all its arguments; lent memory as it is before the call.
@@ -108,6 +111,13 @@ pub enum Input {
         /// The name.
         name: u8,
     },
+    /// Open the charging information of `message` into `out`.
+    Charging {
+        /// The message.
+        message: Vec<u8>,
+        /// The lent octets.
+        out: Vec<u8>,
+    },
 }
 
 impl Input {
@@ -123,6 +133,7 @@ impl Input {
             Input::Replace { .. } => Kind::Replace,
             Input::Append { .. } => Kind::Append,
             Input::Remove { .. } => Kind::Remove,
+            Input::Charging { .. } => Kind::Charging,
         }
     }
 
@@ -135,6 +146,7 @@ impl Input {
             Input::Replace { buffer, .. }
             | Input::Append { buffer, .. }
             | Input::Remove { buffer, .. } => buffer,
+            Input::Charging { out, .. } => out,
             Input::FindCommon { .. } | Input::FindTransfer { .. } | Input::Class { .. } => &[],
         }
     }

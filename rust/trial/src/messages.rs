@@ -1,9 +1,9 @@
 //! Messages: sound ones, short to full, and damaged ones.
 
-use crate::parameters::{self, shortest, shuffled_names, sound};
+use crate::parameters::{self, shortest, shuffled_names, sound, CHARGING_NAME};
 use crate::rng::Rng;
 use plain::common::{is_signal_kind, MESSAGE_LIMIT};
-use plain::transfer::{layout_of, Layout, DATA_LIMIT};
+use plain::transfer::{layout_of, name_of, Layout, DATA_LIMIT};
 
 /// A message taken apart.
 #[derive(Clone, Debug, PartialEq, Eq)]
@@ -197,6 +197,19 @@ pub fn with_alone(parameter: &[u8]) -> Vec<u8> {
 pub fn sound_message(rng: &mut Rng) -> Vec<u8> {
     let size = size(rng);
     sound_draft(rng, size).octets()
+}
+
+/// A message that is sound but, as the case may be, for its charging
+/// information; it has some if it has transfer data.
+pub fn charged_message(rng: &mut Rng) -> Vec<u8> {
+    let size = size(rng);
+    let mut draft = sound_draft(rng, size);
+    if let Some((parameters, _)) = draft.data() {
+        parameters.retain(|parameter| name_of(parameter[0]) != CHARGING_NAME);
+        let charging = parameters::charging_somehow(rng);
+        put(rng, parameters, charging);
+    }
+    draft.octets()
 }
 
 /// A message of any kind: sound, damaged, or none at all.

@@ -1,12 +1,16 @@
 //! What the plain codec answers to an input, in one form for all kinds.
 
 use crate::input::Input;
-use plain::{Class, Refusal, Row};
+use plain::{Charging, Class, Refusal, Row};
 use std::ops::Range;
 
 /// Octets of a row in a lent table: offset (2, least first), header, contents
 /// length (2, least first).
 pub const ROW_LEN: usize = 5;
+
+/// Octets of the opened charging information: the kind, then eleven numbers (2
+/// each, least first).
+pub const CHARGING_LEN: usize = 23;
 
 /// What came of a call.
 #[derive(Clone, Debug, PartialEq, Eq)]
@@ -77,19 +81,24 @@ pub fn answer(input: &Input) -> Outcome {
         Input::Remove { n, name, .. } => {
             edited(memory, |buffer| plain::remove(buffer, (*n).into(), *name))
         }
+        Input::Charging { message, .. } => charging(message, memory),
     }
 }
 
 fn read(message: &[u8], mut memory: Vec<u8>) -> Outcome {
-    let answer = plain::read(message).and_then(|record| {
-        let image = plain::image(&record);
-        memory
-            .get_mut(..image.len())
-            .ok_or(Refusal::new(Refusal::ROOM_SHORT, 0))?
-            .copy_from_slice(&image);
-        Ok(image.len())
-    });
+    let read = plain::read(message);
+    let answer = read.and_then(|record| put(&plain::image(&record), &mut memory));
     Outcome::new(packed(answer), memory)
+}
+
+/// Puts octets into the front of lent memory; gives how many they are. Refused is
+/// 15 at 0 if the memory is too short.
+fn put(octets: &[u8], memory: &mut [u8]) -> Result<usize, Refusal> {
+    memory
+        .get_mut(..octets.len())
+        .ok_or(Refusal::new(Refusal::ROOM_SHORT, 0))?
+        .copy_from_slice(octets);
+    Ok(octets.len())
 }
 
 fn write(image: &[u8], mut memory: Vec<u8>) -> Outcome {
@@ -127,6 +136,34 @@ fn class(header: u8, octet: u8) -> u64 {
         Class::HeldBack => 1,
         Class::Spare => 2,
     }))
+}
+
+fn charging(message: &[u8], mut memory: Vec<u8>) -> Outcome {
+    let opened = plain::charging(message);
+    let answer = opened.and_then(|charging| put(&charging_octets(&charging), &mut memory));
+    Outcome::new(packed(answer), memory)
+}
+
+/// The charging information as it stands in lent octets.
+pub fn charging_octets(charging: &Charging) -> [u8; CHARGING_LEN] {
+    let numbers = [
+        charging.unit_fee,
+        charging.initial_units,
+        charging.day,
+        charging.night,
+        charging.late_night_1,
+        charging.late_night_2,
+        charging.mbi,
+        charging.information_interval,
+        charging.information_units,
+        charging.free_time,
+        charging.check_digit,
+    ];
+    let mut octets = [charging.kind; CHARGING_LEN];
+    for (two, number) in octets[1..].chunks_exact_mut(2).zip(numbers) {
+        two.copy_from_slice(&number.to_le_bytes());
+    }
+    octets
 }
 
 fn edited(mut memory: Vec<u8>, edit: impl FnOnce(&mut [u8]) -> Result<usize, Refusal>) -> Outcome {

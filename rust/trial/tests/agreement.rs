@@ -1,9 +1,11 @@
 //! What the plain codec's answers must have to do with one another, over many
 //! inputs.
 
+use plain::transfer::{name_of, CHARGING};
 use plain::{Refusal, Row};
+use std::array;
 use std::ops::Range;
-use trial::outcome::ROW_LEN;
+use trial::outcome::{CHARGING_LEN, ROW_LEN};
 use trial::record::{Record, Transfer};
 use trial::records::held;
 use trial::{answer, input_at, Input, Outcome};
@@ -57,6 +59,7 @@ fn agrees(input: &Input, outcome: &Outcome) {
                 transfers.remove(position(transfers, *name));
             });
         }
+        Input::Charging { message, .. } => charging_agrees(message, input, outcome),
     }
 }
 
@@ -181,4 +184,45 @@ fn edit_agrees(input: &Input, n: u16, outcome: &Outcome, edit: impl FnOnce(&mut 
     let end = n.max(new_n);
     assert!(outcome.memory[new_n..end].iter().all(|&octet| octet == 0));
     assert_eq!(outcome.memory[end..], input.lent()[end..]);
+}
+
+/// Opening the charging information is refused as finding it is, and with 15 just
+/// where too few octets are lent; the numbers, laid out, are the contents again.
+fn charging_agrees(message: &[u8], input: &Input, outcome: &Outcome) {
+    let expected = match plain::find_transfer(message, name_of(CHARGING)) {
+        Err(refusal) => Err(refusal),
+        Ok(_) if input.lent().len() < CHARGING_LEN => Err(Refusal::new(Refusal::ROOM_SHORT, 0)),
+        Ok(contents) => Ok(&message[contents]),
+    };
+    match expected {
+        Err(refusal) => assert_eq!(outcome.packed, refused(refusal), "{message:02X?}"),
+        Ok(contents) => {
+            assert_eq!(outcome.packed, CHARGING_LEN as u64, "{message:02X?}");
+            let (told, behind) = outcome.memory.split_at(CHARGING_LEN);
+            assert_eq!(behind, &input.lent()[CHARGING_LEN..]);
+            assert_eq!(laid_out(told), contents[1..]);
+        }
+    }
+}
+
+/// The contents from the kind on that these octets tell.
+fn laid_out(told: &[u8]) -> Vec<u8> {
+    let number = |index: usize| u16::from_le_bytes([told[1 + 2 * index], told[2 + 2 * index]]);
+    let [fee, initial, day, night, late_1, late_2, mbi, interval, units, free, check] =
+        array::from_fn(number);
+    let code = |digit: u16| if digit == 0 { 10 } else { digit as u8 };
+    let halves = vec![code(mbi / 10) << 4 | code(mbi % 10)];
+    let fee = vec![fee as u8];
+    let rates = format!("{initial:02}{day:03}{night:03}{late_1:03}{late_2:03}");
+    let (first, characters) = match told[0] {
+        1 => (vec![], format!("{rates}{check}")),
+        2 => (vec![], String::new()),
+        3 => (halves, format!("{interval:03}{free:03}{check}")),
+        4 => (halves, format!("{units:04}{free:03}{check}")),
+        5 => (halves, check.to_string()),
+        8 => (fee, rates),
+        9 => (fee, format!("{rates}{interval:03}{free:03}")),
+        _ => (fee, format!("{rates}{units:04}{free:03}")),
+    };
+    [vec![told[0]], first, characters.into_bytes()].concat()
 }

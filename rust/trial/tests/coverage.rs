@@ -1,13 +1,16 @@
 //! Over many inputs every answer occurs that a call can have, and no other;
 //! every name meets every refusal that its layout can give; every field is met
-//! at its limit and one above; and every condition of a list occurs.
+//! at its limit and one above, and every rate kind of the charging information at
+//! its limits; and every condition of a list occurs.
 
+mod charging;
 mod conditions;
 
+use charging::Sights;
 use conditions::CONDITIONS;
 use std::collections::{BTreeMap, BTreeSet};
 use trial::record::{fields_in, fields_of, Common, Record, Transfer, WITH_FIELDS};
-use trial::{answer, input_at, Coverage, Input, Outcome};
+use trial::{answer, input_at, Coverage, Input, Kind, Outcome};
 
 const SEED: u64 = 17;
 const COUNT: u64 = 200_000;
@@ -23,6 +26,8 @@ fn calls() -> impl Iterator<Item = (Input, Outcome)> {
 
 /// Names by refusal number.
 type Names = BTreeMap<u8, BTreeSet<u8>>;
+/// Rate kinds by refusal number, 0 for those that were accepted.
+type Kinds = BTreeMap<u8, BTreeSet<u8>>;
 
 #[test]
 fn every_possible_answer_occurs() {
@@ -80,6 +85,33 @@ fn every_condition_occurs() {
     }
     let missing: Vec<&str> = missing.into_iter().map(|(name, _)| name).collect();
     panic!("did not occur: {missing:?}");
+}
+
+#[test]
+fn every_rate_kind_occurs_at_its_limits() {
+    let (mut read, mut written, mut edited) = (Kinds::new(), Kinds::new(), Kinds::new());
+    let mut seen = Sights::new();
+    for (input, outcome) in calls() {
+        let Some(contents) = charging::contents_in(&input, &outcome) else {
+            continue;
+        };
+        let kinds = match input.kind() {
+            Kind::Write => &mut written,
+            Kind::Replace | Kind::Append => &mut edited,
+            _ => {
+                seen.extend(charging::sights(&contents, outcome.number()));
+                &mut read
+            }
+        };
+        let kinds = kinds.entry(outcome.number()).or_default();
+        kinds.extend(charging::kind_of(&contents));
+    }
+    let missing: Vec<_> = charging::all().difference(&seen).copied().collect();
+    assert_eq!(missing, []);
+    // All kinds but one have digits, and four a check digit.
+    for kinds in [read, written, edited] {
+        assert_eq!(counts(&kinds), [(0, 8), (12, 8), (13, 7), (18, 4)]);
+    }
 }
 
 /// Headers and indices of fields.
@@ -153,7 +185,8 @@ fn note_read(input: &Input, outcome: &Outcome, names: &mut Names) {
         Input::Read { message, .. }
         | Input::Rows { message, .. }
         | Input::FindCommon { message, .. }
-        | Input::FindTransfer { message, .. } => message,
+        | Input::FindTransfer { message, .. }
+        | Input::Charging { message, .. } => message,
         _ => return,
     };
     if is_of_transfer(outcome) {

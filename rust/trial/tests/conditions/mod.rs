@@ -106,6 +106,9 @@ pub const CONDITIONS: &[Condition] = &[
     ("buffer short by one for one more", |i, o| {
         short(i, o, Kind::Append)
     }),
+    ("octets for charging short by one", |i, o| {
+        short(i, o, Kind::Charging)
+    }),
 ];
 
 /// Whether a message that is wanted was read, with this number for an answer.
@@ -200,7 +203,8 @@ fn short(input: &Input, outcome: &Outcome, kind: Kind) -> bool {
         | Input::Rows { table: lent, .. }
         | Input::Replace { buffer: lent, .. }
         | Input::Append { buffer: lent, .. }
-        | Input::Remove { buffer: lent, .. } => lent.push(0),
+        | Input::Remove { buffer: lent, .. }
+        | Input::Charging { out: lent, .. } => lent.push(0),
         _ => return false,
     }
     input.kind() == kind && outcome.number() == 15 && answer(&longer).number() == 0
