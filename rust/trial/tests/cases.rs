@@ -2,6 +2,9 @@
 
 use trial::cases::octets;
 
+/// The program reads so many octets, and no more.
+const MOST: usize = 65_536;
+
 #[test]
 fn the_text_is_what_the_program_reads() {
     let read = include_bytes!("../../../crates/cases/stdin");
@@ -9,4 +12,5 @@ fn the_text_is_what_the_program_reads() {
     let same = told.iter().zip(read).take_while(|(a, b)| a == b).count();
     assert_eq!(told.len(), read.len(), "the same up to octet {same}");
     assert_eq!(same, read.len(), "the same up to octet {same}");
+    assert!(read.len() <= MOST, "{} octets", read.len());
 }
