@@ -10,6 +10,7 @@ fn main() {
     common_part();
     transfer_headers();
     transfer_contents();
+    charging();
 }
 
 fn accepted() {
@@ -111,5 +112,32 @@ fn transfer_contents() {
     case(
         b"13: code 10 in a number",
         b"\x01\x01\x06\x11\xc5\x05\xd7\x03\x83\x11\x0a\x00",
+    );
+}
+
+fn charging() {
+    case(
+        b"charging information: MBI alone",
+        b"\x01\x01\x06\x11\xc5\x06\xf7\x04\x00\x05\x12\x31\x00",
+    );
+    case(
+        b"12: a rate kind that is not listed",
+        b"\x01\x01\x06\x11\xc5\x06\xf7\x04\x00\x06\x12\x31\x00",
+    );
+    case(
+        b"12: an octet too many for the rate kind",
+        b"\x01\x01\x06\x11\xc5\x05\xf7\x03\x00\x02\x30\x00",
+    );
+    case(
+        b"13: a half of MBI that is no digit",
+        b"\x01\x01\x06\x11\xc5\x06\xf7\x04\x00\x05\x10\x33\x00",
+    );
+    case(
+        b"13: a character that is no digit",
+        b"\x01\x01\x06\x11\xc5\x06\xf7\x04\x00\x05\x12\x3a\x00",
+    );
+    case(
+        b"18: a wrong check digit",
+        b"\x01\x01\x06\x11\xc5\x06\xf7\x04\x00\x05\x12\x32\x00",
     );
 }
