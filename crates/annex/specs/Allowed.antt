@@ -104,7 +104,7 @@ numberRight w i = fieldsRight i && cond (w && eqb (i .presentation) withheld) (w
 abbrev pub valuesFault : List ℕ → Fault
 valuesFault ds = cond (every isDigit ds) Sound (Bad bad-digit 0)
 
--- Writing, 12 and then 13: contents held as they are have the faults of contents; of digits and numbers, a mark or field has too many
+-- Writing, 12, 13 and 18: contents held as they are have the faults of contents; of digits and numbers, a mark or field has too many
 -- bits, or a value is no digit
 abbrev pub faultAs : Holding → Item → Fault
 faultAs AsContents i = faultOf (i .header) (i .values)

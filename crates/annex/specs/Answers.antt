@@ -63,7 +63,7 @@ cut-contents = 11
 abbrev pub bad-form : ℕ
 bad-form = 12
 
--- 13: a digit code without a meaning, or a half-octet left over that is not 0
+-- 13: a digit code without a meaning, a character that is no digit, or a half-octet left over that is not 0
 abbrev pub bad-digit : ℕ
 bad-digit = 13
 

@@ -47,7 +47,7 @@ newItem new = itemOf (newHeader new) (contentsIn (extentOf (newHeader new)) (new
 abbrev pub newHead : List ℕ → Answer → Answer
 newHead new a = refuse (eqb (length new) 0) cut-contents 0 (headWriting 0 (newHeader new) a)
 
--- 11, 12 and 13 of the octets after it
+-- 11 of the octets after it, and what is wrong with their contents
 abbrev pub newContents : List ℕ → Answer
 newContents new =
     let h = newHeader new in

@@ -76,7 +76,7 @@ abbrev pub spotAnswer : Kind → Found → Answer → Answer
 spotAnswer k (At s e) a = a
 spotAnswer k Nowhere a = Refused (noSpot k) 0
 
--- the octets behind that header are as many as it asks, and right: 11, 12, 13. Nothing brought is right
+-- the octets behind that header are as many as it asks, and nothing is wrong with them. Nothing brought is right
 abbrev pub contentsAnswer : List ℕ → Answer
 contentsAnswer new = cond (eqb (length new) 0) (Accepted 0) (newContents new)
 

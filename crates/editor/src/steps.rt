@@ -46,7 +46,8 @@ pub fn head_answer(kind: Kind, new: &[u8]) -> Answer
     }
 }
 
-// The octets after that header: 11 if they are too few or some are left over, 12, 13. Nothing brought is accepted.
+// The octets after that header: 11 if they are too few or some are left over, then what is wrong with the contents. Nothing brought is
+// accepted.
 pub fn contents_answer(new: &[u8]) -> Answer
     ensures { λ r. ⌜ Gives (contentsAnswer (now (new .entry))) r ⌝ }
 {

@@ -1,4 +1,5 @@
-// One transfer parameter, its header and the octets after it: 8 to 13 in their order, all placed at the header.
+// One transfer parameter, its header and the octets after it: 8 to 11 and what is wrong with its contents, in their order, all placed at
+// the header.
 use crate::contents::at_header;
 use crate::contents::fault_under;
 use annex::Answer;
@@ -37,7 +38,7 @@ fn judged(asked: Asked, times: u8, header: u8, xs: &[u8]) -> Answer
     at_header(f, n)
 }
 
-// 8 to 13 of a parameter whose name stood `times` before, or how many of the octets xs after its header are its own.
+// What refuses a parameter whose name stood `times` before, or how many of the octets xs after its header are its own.
 pub fn transfer(times: u8, header: u8, xs: &[u8]) -> Answer
     ensures { λ r. ⌜ Gives (transferOf times header (now (xs .entry))) r ⌝ }
 {

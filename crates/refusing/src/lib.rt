@@ -37,8 +37,8 @@ pub fn placed(a: Answer, p: usize) -> Answer
     }
 }
 
-// The n transfer parameters from index `first` of the array on, the header of the first of them at the place `start`: 8 to 13, or the place
-// behind them.
+// The n transfer parameters from index `first` of the array on, the header of the first of them at the place `start`: what refuses the
+// first that is refused, or the place behind them.
 fn items_refusal(q: Record, first: usize, n: usize, start: usize) -> Answer
     requires { ⌜ Within q (first + n) × (start ≤ 65536) ⌝ }
     ensures { λ r. ⌜ r ≡ itemsWriting unseen start (itemsAt q first n) ⌝ }
