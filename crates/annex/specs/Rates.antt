@@ -41,18 +41,19 @@ pub record FieldRow : Type 0 where
 abbrev row : ℕ → Drawn → ℕ → FieldRow
 row p d w = record { place = p; drawn = d; width = w }
 
+-- with the annex's letters for its digits
 abbrev pub fieldRow : Field → FieldRow
 fieldRow UnitFee = row 0 Whole 1
-fieldRow InitialUnits = row 1 Character 2
-fieldRow Day = row 2 Character 3
-fieldRow Night = row 3 Character 3
-fieldRow LateNight1 = row 4 Character 3
-fieldRow LateNight2 = row 5 Character 3
-fieldRow Mbi = row 6 Halves 1
-fieldRow InformationInterval = row 7 Character 3
-fieldRow InformationUnits = row 8 Character 4
-fieldRow FreeTime = row 9 Character 3
-fieldRow CheckDigit = row 10 Character 1
+fieldRow InitialUnits = row 1 Character 2  -- M N
+fieldRow Day = row 2 Character 3  -- A B C
+fieldRow Night = row 3 Character 3  -- D E F
+fieldRow LateNight1 = row 4 Character 3  -- G H I
+fieldRow LateNight2 = row 5 Character 3  -- J K L
+fieldRow Mbi = row 6 Halves 1  -- M10 M1
+fieldRow InformationInterval = row 7 Character 3  -- A B C of kind 3, O P Q of kind 9
+fieldRow InformationUnits = row 8 Character 4  -- A B C D of kind 4, O P Q R of kind 10
+fieldRow FreeTime = row 9 Character 3  -- D E F of kind 3, E F G of 4, R S T of 9, S T U of 10
+fieldRow CheckDigit = row 10 Character 1  -- CK
 
 -- a kind: its number, and its fields in the order in which they are drawn
 pub record KindRow : Type 0 where
@@ -68,14 +69,14 @@ times = InitialUnits ∷ Day ∷ Night ∷ LateNight1 ∷ LateNight2 ∷ []
 
 abbrev pub kinds : List KindRow
 kinds =
-    kind 1 (times ++ (CheckDigit ∷ [])) ∷
-    kind 2 [] ∷
-    kind 3 (Mbi ∷ InformationInterval ∷ FreeTime ∷ CheckDigit ∷ []) ∷
-    kind 4 (Mbi ∷ InformationUnits ∷ FreeTime ∷ CheckDigit ∷ []) ∷
-    kind 5 (Mbi ∷ CheckDigit ∷ []) ∷
-    kind 8 (UnitFee ∷ times) ∷
-    kind 9 (UnitFee ∷ (times ++ (InformationInterval ∷ FreeTime ∷ []))) ∷
-    kind 10 (UnitFee ∷ (times ++ (InformationUnits ∷ FreeTime ∷ []))) ∷ []
+    kind 1 (times ++ (CheckDigit ∷ [])) ∷  -- figure 2.2.15
+    kind 2 [] ∷  -- no rate
+    kind 3 (Mbi ∷ InformationInterval ∷ FreeTime ∷ CheckDigit ∷ []) ∷  -- figure 2.2.16
+    kind 4 (Mbi ∷ InformationUnits ∷ FreeTime ∷ CheckDigit ∷ []) ∷  -- figure 2.2.17
+    kind 5 (Mbi ∷ CheckDigit ∷ []) ∷  -- figure 2.2.18
+    kind 8 (UnitFee ∷ times) ∷  -- figure 2.2.19
+    kind 9 (UnitFee ∷ (times ++ (InformationInterval ∷ FreeTime ∷ []))) ∷  -- figure 2.2.19.1
+    kind 10 (UnitFee ∷ (times ++ (InformationUnits ∷ FreeTime ∷ []))) ∷ []  -- figure 2.2.19.2
 
 -- ---- looked up
 

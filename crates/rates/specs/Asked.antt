@@ -10,7 +10,20 @@ use lib.Dec.{eqb}
 use lib.ListN.{length, getD, drop, replicate, length-drop, drop-of-length-le}
 use lib.Seq.{drop-cons}
 use Rattle.annex.specs.Answers.{bad-form, bad-digit, check-digit}
-use Rattle.annex.specs.Rates.{isKind, fieldsOf, hasField, drawnFor, isRight, numbersIn, numbersDrawn, kindIn, drawnIn, drawnFault, total, checkRight}
+use Rattle.annex.specs.Rates.{
+  isKind,
+  fieldsOf,
+  hasField,
+  drawnFor,
+  isRight,
+  numbersIn,
+  numbersDrawn,
+  kindIn,
+  drawnIn,
+  drawnFault,
+  total,
+  checkRight,
+}
 use Rattle.annex.specs.Contents.{faultThen, chargingFault}
 use Rattle.annex.specs.declared.Drawn.{Drawn}
 use Rattle.annex.specs.declared.Drawn.the-variants.{Character}
@@ -102,7 +115,9 @@ module _ (d : Drawn) (s : List ℕ) where
       → drawnFault 2 (behind d (length s - 2)) (drop 2 s)
       ≡ cond (isRight d (getD s 2 0)) (charactersFault 3 (drop 3 s)) (Bad bad-digit 2)
   unfolding drawnFault
-  behind-fault h = let e = split h in ap (λ n. drawnFault 2 (behind d n) (drop 2 s)) (e .1) ∙ ap (drawnFault 2 (behind d (suc (length (drop 3 s))))) (e .0)
+  behind-fault h =
+      let e = split h in
+      ap (λ n. drawnFault 2 (behind d n) (drop 2 s)) (e .1) ∙ ap (drawnFault 2 (behind d (suc (length (drop 3 s))))) (e .0)
 
   pub behind-sum : 2 < length s
       → total (numbersDrawn (behind d (length s - 2)) (drop 2 s)) ≡ total (numbersIn d (getD s 2 0)) + charactersSum (drop 3 s)

@@ -18,7 +18,8 @@ startsOf k = map (λ f. fieldStart f k) fields
 -- each is at its place
 pub start-at : (f : Field) (k : ℕ) → getD (startsOf k) (fieldRow f .place) 0 ≡ fieldStart f k
 start-at f k =
-    each-field (λ g. getD (startsOf k) (fieldRow g .place) 0 ≡ fieldStart g k) (refl, refl, refl, refl, refl, refl, refl, refl, refl, refl, refl) f
+    each-field (λ g. getD (startsOf k) (fieldRow g .place) 0 ≡ fieldStart g k)
+    (refl, refl, refl, refl, refl, refl, refl, refl, refl, refl, refl) f
 
 -- the places are those of an array of eleven
 pub place-below : (f : Field) → fieldRow f .place < 11

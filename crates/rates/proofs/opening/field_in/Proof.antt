@@ -95,14 +95,16 @@ returns-3 c =
     let t = c .before .before in
     let o = t .before .before in
     let d = o .before .before .before .before .row-of .result .drawn in
-    c .number-in .ensures ∙ (ap (λ x. decimal 0 (numbersIn d x)) (c .before .octet-at2 .ensures) ∙ alone o Halves (t .enum-told2 .given .1) (λ w. refl))
+    c .number-in .ensures
+    ∙ (ap (λ x. decimal 0 (numbersIn d x)) (c .before .octet-at2 .ensures) ∙ alone o Halves (t .enum-told2 .given .1) (λ w. refl))
 
 returns-4 : tie.Need-returns-4
 returns-4 c =
     let t = c .before .before in
     let o = t .before .before in
     let d = o .before .before .before .before .row-of .result .drawn in
-    c .number-in2 .ensures ∙ (ap (λ x. decimal 0 (numbersIn d x)) (c .before .octet-at3 .ensures) ∙ alone o Whole (t .enum-told3 .given .1) (λ w. refl))
+    c .number-in2 .ensures
+    ∙ (ap (λ x. decimal 0 (numbersIn d x)) (c .before .octet-at3 .ensures) ∙ alone o Whole (t .enum-told3 .given .1) (λ w. refl))
 
 pub field-in-spec : {M : Type 1} → statement M
 field-in-spec =
