@@ -1,13 +1,13 @@
 -- The charging information of a message, beside its record: document 02, request a. Reading's numbers, then 16 where there is no F7, or
 -- what F7 says; and the same as octets for Rust and C.
 use Prim.Native.Nat.{ℕ}
-use mathlib.Core.List.{List, [], _∷_, _++_}
+use mathlib.Core.List.{List, [], _∷_, _++_, map}
 use lib.Dec.{ltb}
 use lib.ListN.{length}
 use Rattle.annex.specs.Answers.{no-room, refuse, roomAfter}
 use Rattle.annex.specs.Units.{nameOf}
 use Rattle.annex.specs.Heads.{charging-information}
-use Rattle.annex.specs.Rates.{chargesOf}
+use Rattle.annex.specs.Rates.{fields, chargesOf, valueOf}
 use Rattle.annex.specs.Finding.{transferFound, findAnswer, findPart}
 use Rattle.annex.specs.Image.{twoOctets}
 use Rattle.annex.specs.declared.Answer.{Answer}
@@ -28,6 +28,7 @@ abbrev pub chargingBy : Answer → List ℕ → ChargingAnswer
 chargingBy (answers.Accepted n) s = Is (chargesOf s)
 chargingBy (answers.Refused k p) s = Refused k p
 
+-- of a message
 unfoldable pub chargingOf : List ℕ → ChargingAnswer
 chargingOf m = chargingBy (findAnswer m (chargingFound m)) (findPart m (chargingFound m))
 
@@ -42,11 +43,9 @@ abbrev pub chargingPlaceOf : ChargingAnswer → ℕ
 chargingPlaceOf (Is c) = 0
 chargingPlaceOf (Refused k p) = p
 
--- the fields, in the order of the answer for Rust and C
+-- the fields in their order
 abbrev pub fieldNumbers : Charges → List ℕ
-fieldNumbers c =
-    c .«unit_fee» ∷ c .«initial_units» ∷ c .day ∷ c .night ∷ c .«late_night_1» ∷ c .«late_night_2» ∷ c .mbi ∷ c .«information_interval» ∷
-    c .«information_units» ∷ c .«free_time» ∷ c .«check_digit» ∷ []
+fieldNumbers c = map (λ f. valueOf f c) fields
 
 abbrev pub chargingGivenOf : ChargingAnswer → List ℕ
 chargingGivenOf (Is c) = c .kind ∷ fieldNumbers c
@@ -54,9 +53,11 @@ chargingGivenOf (Refused k p) = []
 
 -- ---- for Rust and C
 
+-- the octets that are given
 abbrev pub charging-octets : ℕ
 charging-octets = 23
 
+-- each number in two octets
 abbrev pub allInTwo : List ℕ → List ℕ
 allInTwo [] = []
 allInTwo (n ∷ ns) = twoOctets n ++ allInTwo ns
@@ -70,10 +71,12 @@ abbrev pub octetChargingBy : ChargingAnswer → ℕ → Answer
 octetChargingBy (Is c) room = refuse (ltb room charging-octets) no-room 0 (answers.Accepted charging-octets)
 octetChargingBy (Refused k p) room = answers.Refused k p
 
+-- the octets, and none where refused
 abbrev pub chargeOctetsBy : ChargingAnswer → List ℕ
 chargeOctetsBy (Is c) = chargeOctets c
 chargeOctetsBy (Refused k p) = []
 
+-- of a message, for a room of so many octets
 unfoldable pub octetCharging : List ℕ → ℕ → Answer
 octetCharging m room = octetChargingBy (chargingOf m) room
 

@@ -14,7 +14,7 @@ use Rattle.annex.specs.declared.Form.{Form}
 use Rattle.annex.specs.declared.Check.the-variants.{Nothing, Long, Two, Charging}
 use Rattle.annex.specs.declared.Form.the-variants.{Checked, Digits, Number, Calling, Generic}
 use Rattle.annex.specs.Digits.{digitsFault}
-use Rattle.annex.specs.Rates.{isKind, drawnFor, kindIn, drawnIn, drawnFault, checkRight}
+use Rattle.annex.specs.Rates.{isKind, drawnFor, kindIn, fieldOctets, drawnFault, checkRight}
 use Rattle.annex.specs.declared.Alphabet.the-variants.{Dialled, Numbered}
 use Rattle.annex.specs.declared.Fault.{Fault}
 use Rattle.annex.specs.declared.Fault.the-variants.{Sound, Bad}
@@ -80,8 +80,8 @@ twoFault mask s = formed (eqb (length s) 2 && clear mask (getD s 1 0))
 unfoldable pub chargingFault : List ℕ → Fault
 chargingFault s =
     formedThen (isKind (kindIn s) && eqb (length s) (2 + length (drawnFor (kindIn s))))
-    (faultThen (drawnFault 2 (drawnFor (kindIn s)) (drawnIn s))
-    (cond (checkRight (kindIn s) (drawnIn s)) Sound (Bad check-digit (length s - 1))))
+    (faultThen (drawnFault 2 (drawnFor (kindIn s)) (fieldOctets s))
+    (cond (checkRight (kindIn s) (fieldOctets s)) Sound (Bad check-digit (length s - 1))))
 
 -- contents that a record holds as they are, by their check
 abbrev pub checkFault : Check → List ℕ → Fault

@@ -69,7 +69,7 @@ added-calling-number = 0x06
 abbrev pub withheld : ℕ
 withheld = 2
 
--- Request a: the charging information
+-- Request a: F7
 abbrev pub charging-information : ℕ
 charging-information = 0xF7
 

@@ -1,5 +1,5 @@
--- Document 01 as definitions, a file to a chapter, in the order in which they build on each other; with a record's image and what is
--- packed for Rust and C.
+-- Document 01, with the requests of document 02, as definitions, a file to a chapter, in the order in which they build on each other; with
+-- a record's image and what is packed for Rust and C.
 pub mod Answers
 pub mod Units
 pub mod Heads
@@ -23,7 +23,7 @@ pub mod Packed
 pub mod Promises
 pub mod Bench
 pub mod Tariffs
--- And what the functions give that serve these: no rules of document 01, and no promise of the product rests on them.
+-- And what the functions give that serve these: no rules of the documents, and no promise of the product rests on them.
 pub mod Walking
 pub mod Memory
 pub mod Opening

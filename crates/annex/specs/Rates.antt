@@ -32,7 +32,13 @@ use Rattle.annex.specs.declared.Field.the-variants.{
 
 -- ---- the two tables
 
--- a field: its place among the fields of an answer, how each of its octets is drawn, and how many octets it has
+-- the fields, in the order in which an answer tells them
+abbrev pub fields : List Field
+fields =
+    UnitFee ∷ InitialUnits ∷ Day ∷ Night ∷ LateNight1 ∷ LateNight2 ∷ Mbi ∷ InformationInterval ∷ InformationUnits ∷ FreeTime ∷
+    CheckDigit ∷ []
+
+-- a field: its place in that order, how each of its octets is drawn, and how many octets it has
 pub record FieldRow : Type 0 where
   pub place : ℕ
   pub drawn : Drawn
@@ -64,37 +70,42 @@ abbrev kind : ℕ → List Field → KindRow
 kind k fs = record { number = k; fields = fs }
 
 -- the units at the start, and for how long a unit lasts, by day, by night and late at night
-abbrev times : List Field
-times = InitialUnits ∷ Day ∷ Night ∷ LateNight1 ∷ LateNight2 ∷ []
+abbrev tariff : List Field
+tariff = InitialUnits ∷ Day ∷ Night ∷ LateNight1 ∷ LateNight2 ∷ []
 
+-- with the annex's figure of each
 abbrev pub kinds : List KindRow
 kinds =
-    kind 1 (times ++ (CheckDigit ∷ [])) ∷  -- figure 2.2.15
+    kind 1 (tariff ++ (CheckDigit ∷ [])) ∷  -- figure 2.2.15
     kind 2 [] ∷  -- no rate
     kind 3 (Mbi ∷ InformationInterval ∷ FreeTime ∷ CheckDigit ∷ []) ∷  -- figure 2.2.16
     kind 4 (Mbi ∷ InformationUnits ∷ FreeTime ∷ CheckDigit ∷ []) ∷  -- figure 2.2.17
     kind 5 (Mbi ∷ CheckDigit ∷ []) ∷  -- figure 2.2.18
-    kind 8 (UnitFee ∷ times) ∷  -- figure 2.2.19
-    kind 9 (UnitFee ∷ (times ++ (InformationInterval ∷ FreeTime ∷ []))) ∷  -- figure 2.2.19.1
-    kind 10 (UnitFee ∷ (times ++ (InformationUnits ∷ FreeTime ∷ []))) ∷ []  -- figure 2.2.19.2
+    kind 8 (UnitFee ∷ tariff) ∷  -- figure 2.2.19
+    kind 9 (UnitFee ∷ (tariff ++ (InformationInterval ∷ FreeTime ∷ []))) ∷  -- figure 2.2.19.1
+    kind 10 (UnitFee ∷ (tariff ++ (InformationUnits ∷ FreeTime ∷ []))) ∷ []  -- figure 2.2.19.2
 
 -- ---- looked up
 
+-- how the octets of a field are drawn, and how many they are
 abbrev pub drawnAs : Field → Drawn
 drawnAs f = fieldRow f .drawn
 
 abbrev pub widthOf : Field → ℕ
 widthOf f = fieldRow f .width
 
+-- fields are known by their places
 abbrev pub sameField : Field → Field → Bool
 sameField f g = eqb (fieldRow f .place) (fieldRow g .place)
 
-abbrev numberIn : KindRow → ℕ
-numberIn r = r .number
+abbrev kindNumber : KindRow → ℕ
+kindNumber r = r .number
 
+-- 12: the kinds of the list
 unfoldable pub isKind : ℕ → Bool
-isKind k = among k (map numberIn kinds)
+isKind k = among k (map kindNumber kinds)
 
+-- the fields of a kind, none where it is not of the list
 abbrev fieldsIn : List KindRow → ℕ → List Field
 fieldsIn [] k = []
 fieldsIn (r ∷ rs) k = cond (eqb k (r .number)) (r .fields) (fieldsIn rs k)
@@ -102,6 +113,7 @@ fieldsIn (r ∷ rs) k = cond (eqb k (r .number)) (r .fields) (fieldsIn rs k)
 unfoldable pub fieldsOf : ℕ → List Field
 fieldsOf k = fieldsIn kinds k
 
+-- a field is one of these
 abbrev pub hasField : Field → List Field → Bool
 hasField f [] = false
 hasField f (g ∷ gs) = sameField f g || hasField f gs
@@ -131,6 +143,7 @@ numbersIn Whole x = x ∷ []
 numbersIn Halves x = zeroFrom Dialled (x / 16) ∷ zeroFrom Dialled (x % 16) ∷ []
 numbersIn Character x = x % 16 ∷ []
 
+-- those of octets that are drawn so
 unfoldable pub numbersDrawn : List Drawn → List ℕ → List ℕ
 numbersDrawn [] xs = []
 numbersDrawn (d ∷ ds) [] = []
@@ -138,12 +151,12 @@ numbersDrawn (d ∷ ds) (x ∷ xs) = numbersIn d x ++ numbersDrawn ds xs
 
 -- ---- what is asked of them
 
--- the contents: an octet that is carried, the kind, and the octets of its fields
+-- the contents: an octet that is carried, the kind (house), and the octets of its fields
 abbrev pub kindIn : List ℕ → ℕ
 kindIn s = getD s 1 0
 
-abbrev pub drawnIn : List ℕ → List ℕ
-drawnIn s = drop 2 s
+abbrev pub fieldOctets : List ℕ → List ℕ
+fieldOctets s = drop 2 s
 
 -- 13: the first octet that is not right; `at` is the offset of the first of them
 unfoldable pub drawnFault : ℕ → List Drawn → List ℕ → Fault
@@ -151,6 +164,7 @@ drawnFault at [] xs = Sound
 drawnFault at (d ∷ ds) [] = Sound
 drawnFault at (d ∷ ds) (x ∷ xs) = cond (isRight d x) (drawnFault (at + 1) ds xs) (Bad bad-digit at)
 
+-- the sum of numbers
 abbrev pub total : List ℕ → ℕ
 total [] = 0
 total (n ∷ ns) = n + total ns
@@ -167,22 +181,21 @@ unfoldable pub decimal : ℕ → List ℕ → ℕ
 decimal n [] = n
 decimal n (d ∷ ds) = decimal (10 * n + d) ds
 
--- where the field f starts, if the first of these fields starts at the offset `at`; 0 where it is none of them
-abbrev pub startIn : Field → ℕ → List Field → ℕ
-startIn f at [] = 0
-startIn f at (g ∷ gs) = cond (sameField f g) at (startIn f (at + widthOf g) gs)
+-- the number that w octets make, all drawn so
+abbrev pub madeBy : Drawn → ℕ → List ℕ → ℕ
+madeBy d w xs = decimal 0 (numbersDrawn (replicate w d) xs)
 
-abbrev pub fieldStart : Field → ℕ → ℕ
-fieldStart f k = startIn f 2 (fieldsOf k)
+-- the number of the field f in octets that these fields take in turn, 0 where it is none of them
+abbrev pub valueIn : Field → List Field → List ℕ → ℕ
+valueIn f [] xs = 0
+valueIn f (g ∷ gs) xs =
+    cond (sameField f g) (madeBy (drawnAs g) (widthOf g) (take (widthOf g) xs)) (valueIn f gs (drop (widthOf g) xs))
 
--- the number of a field that starts at the offset `at`
-abbrev pub fieldAt : Field → ℕ → List ℕ → ℕ
-fieldAt f at s = decimal 0 (numbersDrawn (replicate (widthOf f) (drawnAs f)) (drop at s))
-
--- the number of a field in the contents s, 0 where their kind does not have it
+-- the number of a field in the contents s
 unfoldable pub fieldIn : Field → List ℕ → ℕ
-fieldIn f s = cond (eqb (fieldStart f (kindIn s)) 0) 0 (fieldAt f (fieldStart f (kindIn s)) s)
+fieldIn f s = valueIn f (fieldsOf (kindIn s)) (fieldOctets s)
 
+-- what the contents s say
 unfoldable pub chargesOf : List ℕ → Charges
 chargesOf s =
     record {
@@ -202,6 +215,7 @@ chargesOf s =
 
 -- ---- and back: the octets as which the fields are drawn
 
+-- what is told of a field
 abbrev pub valueOf : Field → Charges → ℕ
 valueOf UnitFee c = c .«unit_fee»
 valueOf InitialUnits c = c .«initial_units»
@@ -220,11 +234,13 @@ unfoldable pub charactersOf : ℕ → ℕ → List ℕ
 charactersOf zero v = []
 charactersOf (suc w) v = charactersOf w (v / 10) ++ ((0x30 + v % 10) ∷ [])
 
+-- a number in w octets, drawn so
 abbrev pub drawnOctets : Drawn → ℕ → ℕ → List ℕ
 drawnOctets Whole w v = v ∷ []
 drawnOctets Halves w v = (16 * zeroTo Dialled (v / 10) + zeroTo Dialled (v % 10)) ∷ []
 drawnOctets Character w v = charactersOf w v
 
+-- these fields, one after the other
 unfoldable pub octetsFor : List Field → Charges → List ℕ
 octetsFor [] c = []
 octetsFor (f ∷ fs) c = drawnOctets (drawnAs f) (widthOf f) (valueOf f c) ++ octetsFor fs c
@@ -233,13 +249,14 @@ octetsFor (f ∷ fs) c = drawnOctets (drawnAs f) (widthOf f) (valueOf f c) ++ oc
 unfoldable pub chargedContents : ℕ → Charges → List ℕ
 chargedContents x c = x ∷ c .kind ∷ octetsFor (fieldsOf (c .kind)) c
 
--- what charging information may say: the kind is one of the list; a field that it has fits its octets, and any other is 0; the check
--- digit fits
+-- a number fits w octets that are drawn so
 abbrev pub fits : Drawn → ℕ → ℕ → Bool
 fits Whole w v = ltb v 256
 fits Halves w v = ltb v 100
 fits Character w v = ltb v (10 ^ w)
 
+-- what charging information may say: the kind is one of the list; a field that it has fits its octets, and any other is 0; the check
+-- digit fits
 pub record Chargeable (c : Charges) : Type 0 where
   pub listed : isKind (c .kind) ≡ true
   pub fitting : (f : Field) → hasField f (fieldsOf (c .kind)) ≡ true → fits (drawnAs f) (widthOf f) (valueOf f c) ≡ true

@@ -1,4 +1,4 @@
-// The types of document 01, with the constants and constructors of the common, transfer and signal kinds.
+// The types of document 01 and of document 02's requests, with the constants and constructors of the common, transfer and signal kinds.
 // What they mean is said in specs/, which a reader has to believe; docs/TRUST.md says what else.
 ghost use Rattle.annex.specs.Promises.{Gives};
 ghost use Rattle.annex.specs.Units.{countedBy, octetsOf, halvesIn};

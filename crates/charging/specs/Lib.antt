@@ -1,2 +1,2 @@
--- The answers about charging information, with what the lent octets then hold.
+-- Laws that the proofs of this crate cite.
 pub mod Answering

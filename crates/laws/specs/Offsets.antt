@@ -16,7 +16,7 @@ use Rattle.annex.specs.declared.Form.{Form}
 use Rattle.annex.specs.declared.Check.the-variants.{Nothing, Long, Two, Charging}
 use Rattle.annex.specs.declared.Form.the-variants.{Checked, Digits, Number, Calling, Generic}
 use Rattle.annex.specs.Digits.{halves, isCode, halvesFault, digitsFault}
-use Rattle.annex.specs.Rates.{isKind, isRight, drawnFor, kindIn, drawnIn, drawnFault, checkRight}
+use Rattle.annex.specs.Rates.{isKind, isRight, drawnFor, kindIn, fieldOctets, drawnFault, checkRight}
 use Rattle.annex.specs.Contents.{
   Rule,
   formedThen,
@@ -136,8 +136,8 @@ charging-within s =
     formed-within n (isKind k && long) _
     (λ t.
     let e = eqb-true n (2 + length (drawnFor k)) (and-right (isKind k) long t) in
-    then-within n (drawnFault 2 (drawnFor k) (drawnIn s)) _ (drawn-within 2 (drawnFor k) (drawnIn s) n (omega (arith, length-drop 2 s)))
-    (cond-within n (checkRight k (drawnIn s)) Sound (Bad check-digit (n - 1)) (sound-within n)
+    then-within n (drawnFault 2 (drawnFor k) (fieldOctets s)) _ (drawn-within 2 (drawnFor k) (fieldOctets s) n (omega (arith, length-drop 2 s)))
+    (cond-within n (checkRight k (fieldOctets s)) Sound (Bad check-digit (n - 1)) (sound-within n)
     (bad-within n check-digit (n - 1) (omega arith))))
 
 -- the one law that each check owes

@@ -19,7 +19,7 @@ use Rattle.annex.specs.Rates.{
   numbersIn,
   numbersDrawn,
   kindIn,
-  drawnIn,
+  fieldOctets,
   drawnFault,
   total,
   checkRight,
@@ -151,8 +151,8 @@ module _ (s : List ℕ) (l : kindIn s < 256) (r : Asked) (e : r ≡ askedOf (kin
 
   pub by-asked : r .listed ≡ true → length s ≡ 2 + r .octets
       → chargingFault s
-      ≡ faultThen (drawnFault 2 asDrawn (drawnIn s))
-      (cond (cond (r .checked) (eqb ((kindIn s + total (numbersDrawn asDrawn (drawnIn s))) % 10) 9) true) Sound
+      ≡ faultThen (drawnFault 2 asDrawn (fieldOctets s))
+      (cond (cond (r .checked) (eqb ((kindIn s + total (numbersDrawn asDrawn (fieldOctets s))) % 10) 9) true) Sound
       (Bad check-digit (length s - 1)))
   unfolding chargingFault checkRight
   by-asked h n =

@@ -43,29 +43,30 @@ fn drawn_fault(first: Drawn, s: &[u8]) -> Fault
 }
 
 // What the characters from an offset on add up to.
-fn characters_sum(s: &[u8], from: usize) -> usize
+fn characters_sum(s: &[u8], from: usize) -> u16
     requires { ⌜ length (now s) ≤ 257 ⌝ }
     ensures { λ r. ⌜ r ≡ charactersSum (drop from (now (s .entry))) ⌝ }
 {
-    let mut sum: usize = 0;
+    let mut sum: u16 = 0;
     let mut i = from;
     while i < s.len() {
-        sum += sum_in(Drawn::Character, s[i]) as usize;
+        sum += sum_in(Drawn::Character, s[i]);
         i += 1;
     }
     sum
 }
 
-// What the numbers behind the kind add up to.
-fn drawn_sum(first: Drawn, s: &[u8]) -> usize
+// What the kind and the numbers behind it add up to.
+fn check_sum(kind: u8, first: Drawn, s: &[u8]) -> usize
     requires { ⌜ length (now s) ≤ 257 ⌝ }
-    ensures { λ r. ⌜ r ≡ total (numbersDrawn (behind first (length (now (s .entry)) - 2)) (drop 2 (now (s .entry)))) ⌝ }
+    ensures { λ r. ⌜ r ≡ kind + total (numbersDrawn (behind first (length (now (s .entry)) - 2)) (drop 2 (now (s .entry)))) ⌝ }
 {
     if s.len() <= Charges::HEAD {
-        return 0;
+        return kind as usize;
     }
-    let lead = sum_in(first, s[Charges::HEAD]) as usize;
-    lead + characters_sum(s, Charges::HEAD + 1)
+    let lead = sum_in(first, s[Charges::HEAD]);
+    let rest = characters_sum(s, Charges::HEAD + 1);
+    kind as usize + lead as usize + rest as usize
 }
 
 // 12, 13 or 18 of the contents of F7.
@@ -88,8 +89,7 @@ pub fn charging_fault(s: &[u8]) -> Fault
     if !asked.checked {
         return Fault::Sound;
     }
-    let sum = kind as usize + drawn_sum(first, s) % 10;
-    if sum % 10 == 9 {
+    if check_sum(kind, first, s) % 10 == 9 {
         Fault::Sound
     } else {
         Fault::Bad(Answer::CHECK_DIGIT, s.len() - 1)

@@ -10,11 +10,10 @@ use mathlib.Core.List.{List, [], _∷_, _++_, map, append-assoc, append-nil}
 use borrow.Author.Tests.{eqb-true, eqb-false, eq-eqb, ne-eqb, leb-true, le-leb, ltb-true, lt-ltb, not-true}
 use lib.Dec.{eqb, leb}
 use lib.ListN.{length, getD, take, drop, replicate, length-replicate, length-drop, take-append-drop}
-use lib.Seq.{take-at, drop-at, drop-drop}
+use lib.Seq.{take-at, drop-at}
 use Rattle.annex.specs.Answers.{bad-digit, check-digit}
 use Rattle.annex.specs.Digits.{zeroFrom, zeroTo}
 use Rattle.annex.specs.Rates.{
-  fieldRow,
   kinds,
   drawnAs,
   widthOf,
@@ -28,12 +27,12 @@ use Rattle.annex.specs.Rates.{
   isRight,
   numbersDrawn,
   kindIn,
-  drawnIn,
+  fieldOctets,
   drawnFault,
   checkRight,
   decimal,
-  startIn,
-  fieldAt,
+  madeBy,
+  valueIn,
   fieldIn,
   chargesOf,
   valueOf,
@@ -56,21 +55,8 @@ use Rattle.annex.specs.declared.Drawn.the-variants.{Whole, Halves, Character}
 use Rattle.annex.specs.declared.Fault.{Fault}
 use Rattle.annex.specs.declared.Fault.the-variants.{Sound, Bad}
 use Rattle.annex.specs.declared.Field.{Field}
-use Rattle.annex.specs.declared.Field.the-variants.{
-  UnitFee,
-  InitialUnits,
-  Day,
-  Night,
-  LateNight1,
-  LateNight2,
-  Mbi,
-  InformationInterval,
-  InformationUnits,
-  FreeTime,
-  CheckDigit,
-}
 use Rattle.laws.specs.Bools.{and-left, and-right, and-both, or-left, or-right}
-use Rattle.laws.specs.Drawings.{fields, each-field}
+use Rattle.laws.specs.Drawings.{each-field, same-self, met, same-charges}
 use Rattle.laws.specs.Faults.{passed, then-sound}
 use Rattle.laws.specs.Leaves.{as-they-are}
 use Rattle.laws.specs.Members.{among-every}
@@ -132,17 +118,6 @@ right-joined [] ds [] zs r q = q
 right-joined [] ds (y ∷ ys) zs r q = absurd r
 right-joined (e ∷ es) ds [] zs r q = absurd r
 right-joined (e ∷ es) ds (y ∷ ys) zs r q = (r .0, r .1, right-joined es ds ys zs (r .2) q)
-
--- the number that a run of w octets makes
-abbrev madeBy : Drawn → ℕ → List ℕ → ℕ
-madeBy d w xs = decimal 0 (numbersDrawn (replicate w d) xs)
-
--- the first w octets alone tell it
-numbers-taken : (w : ℕ) (d : Drawn) (xs : List ℕ) → numbersDrawn (replicate w d) xs ≡ numbersDrawn (replicate w d) (take w xs)
-unfolding numbersDrawn
-numbers-taken zero d xs = refl
-numbers-taken (suc w) d [] = refl
-numbers-taken (suc w) d (x ∷ xs) = rw (numbers-taken w d xs)
 
 -- ---- the octets of one field
 
@@ -254,22 +229,6 @@ run =
     each-field (λ f. Run (drawnAs f) (widthOf f))
     (whole, written _, written _, written _, written _, written _, halved, written _, written _, written _, written _)
 
--- and stands at its place
-at-place : (f : Field) → getD fields (fieldRow f .place) UnitFee ≡ f
-at-place = each-field (λ f. getD fields (fieldRow f .place) UnitFee ≡ f) (refl, refl, refl, refl, refl, refl, refl, refl, refl, refl, refl)
-
--- a field is the same as itself, and as no other
-same-self : (f : Field) → sameField f f ≡ true
-same-self f = eq-eqb (fieldRow f .place) (fieldRow f .place) refl
-
-met : (f g : Field) → (f ≡ g) ⊎ (sameField f g ≡ false)
-met f g = by (sameField f g) refl
-  where
-    by : (b : Bool) → sameField f g ≡ b → (f ≡ g) ⊎ (sameField f g ≡ false)
-    by true e =
-        inl (sym (at-place f) ∙ ap (λ n. getD fields n UnitFee) (eqb-true (fieldRow f .place) (fieldRow g .place) e) ∙ at-place g)
-    by false e = inr e
-
 has-here : (g : Field) (gs : List Field) → hasField g (g ∷ gs) ≡ true
 has-here g gs = rw (same-self g)
 
@@ -285,23 +244,6 @@ apart (f ∷ fs) = not (hasField f fs) && apart fs
 apart-kind : (k : ℕ) → isKind k ≡ true → apart (fieldsOf k) ≡ true
 unfolding isKind fieldsOf
 apart-kind = among-every (λ k. apart (fieldsOf k)) (map (λ r. r .number) kinds) refl
-
--- the number of a field in octets that the fields of a list take in turn, 0 where it is none of them
-abbrev valueIn : Field → List Field → List ℕ → ℕ
-valueIn f [] xs = 0
-valueIn f (g ∷ gs) xs =
-    cond (sameField f g) (madeBy (drawnAs f) (widthOf f) (take (widthOf f) xs)) (valueIn f gs (drop (widthOf g) xs))
-
--- it is found where the field starts, if the first of them starts at the offset `at`
-value-placed : (f : Field) (at : ℕ) (fs : List Field) (s : List ℕ) → 0 < at
-    → cond (eqb (startIn f at fs) 0) 0 (fieldAt f (startIn f at fs) s) ≡ valueIn f fs (drop at s)
-value-placed f at [] s l = refl
-value-placed f at (g ∷ gs) s l =
-    elim (met f g) [
-      | inl e ↦
-          rw (e, same-self g, ne-eqb at 0 (λ z. omega arith)) (ap (decimal 0) (numbers-taken (widthOf g) (drawnAs g) (drop at s)))
-      | inr e ↦ rw (e, drop-drop) (value-placed f (at + widthOf g) gs s (omega arith))
-    ]
 
 -- octets that are right: the number of a field that they have fits, and that of another is 0
 value-fits : (f : Field) (fs : List Field) (xs : List ℕ) → Right (drawing fs) xs → hasField f fs ≡ true
@@ -368,37 +310,18 @@ module _ (c : Charges) where
 
 -- ---- the contents
 
--- charges with the same kind and the same number for each field are the same
-same-charges : (a b : Charges) → a .kind ≡ b .kind → ((f : Field) → valueOf f a ≡ valueOf f b) → a ≡ b
-same-charges a b k v =
-    λ i. record {
-      kind = k i;
-      «unit_fee» = v UnitFee i;
-      «initial_units» = v InitialUnits i;
-      day = v Day i;
-      night = v Night i;
-      «late_night_1» = v LateNight1 i;
-      «late_night_2» = v LateNight2 i;
-      mbi = v Mbi i;
-      «information_interval» = v InformationInterval i;
-      «information_units» = v InformationUnits i;
-      «free_time» = v FreeTime i;
-      «check_digit» = v CheckDigit i;
-    }
-
 -- the number that contents say of a field
-value-said : (s : List ℕ) (f : Field) → valueOf f (chargesOf s) ≡ valueIn f (fieldsOf (kindIn s)) (drawnIn s)
+value-said : (s : List ℕ) (f : Field) → valueOf f (chargesOf s) ≡ valueIn f (fieldsOf (kindIn s)) (fieldOctets s)
 unfolding chargesOf fieldIn
 value-said s f =
     each-field (λ g. valueOf g (chargesOf s) ≡ fieldIn g s) (refl, refl, refl, refl, refl, refl, refl, refl, refl, refl, refl) f
-    ∙ value-placed f 2 (fieldsOf (kindIn s)) s (omega arith)
 
 -- what sound contents keep
 record Kept (s : List ℕ) : Type 0 where
   two : 2 ≤ length s
   listed : isKind (kindIn s) ≡ true
-  right : Right (drawnFor (kindIn s)) (drawnIn s)
-  check : checkRight (kindIn s) (drawnIn s) ≡ true
+  right : Right (drawnFor (kindIn s)) (fieldOctets s)
+  check : checkRight (kindIn s) (fieldOctets s) ≡ true
 
 then-both : (f g : Fault) → faultThen f g ≡ Sound → (f ≡ Sound) × (g ≡ Sound)
 then-both Sound g e = (refl, e)
@@ -411,19 +334,19 @@ kept s o e =
     let a = isKind k in
     let b = eqb (length s) (2 + length (drawnFor k)) in
     let p = then-sound (a && b) _ e in
-    let q = then-both (drawnFault 2 (drawnFor k) (drawnIn s)) _ (p .1) in
+    let q = then-both (drawnFault 2 (drawnFor k) (fieldOctets s)) _ (p .1) in
     let l : length s ≡ 2 + length (drawnFor k) = eqb-true (length s) (2 + length (drawnFor k)) (and-right a b (p .0)) in
-    let n : length (drawnIn s) ≡ length (drawnFor k) = omega (arith, length-drop 2 s) in
+    let n : length (fieldOctets s) ≡ length (drawnFor k) = omega (arith, length-drop 2 s) in
     record {
       two = omega arith;
       listed = and-left a b (p .0);
-      right = sound-right 2 (drawnFor k) (drawnIn s) (every-drop isOctet 2 s o) n (q .0);
-      check = passed (checkRight k (drawnIn s)) Sound check-digit (length s - 1) (q .1) .0;
+      right = sound-right 2 (drawnFor k) (fieldOctets s) (every-drop isOctet 2 s o) n (q .0);
+      check = passed (checkRight k (fieldOctets s)) Sound check-digit (length s - 1) (q .1) .0;
     }
 
-kept-drawn : (s : List ℕ) → Kept s → octetsFor (fieldsOf (kindIn s)) (chargesOf s) ≡ drawnIn s
+kept-drawn : (s : List ℕ) → Kept s → octetsFor (fieldsOf (kindIn s)) (chargesOf s) ≡ fieldOctets s
 kept-drawn s p =
-    drawn-back (chargesOf s) (fieldsOf (kindIn s)) (drawnIn s) (apart-kind (kindIn s) (p .listed)) (p .right) (λ f h. value-said s f)
+    drawn-back (chargesOf s) (fieldsOf (kindIn s)) (fieldOctets s) (apart-kind (kindIn s) (p .listed)) (p .right) (λ f h. value-said s f)
 
 -- what is sound may be said
 pub sound-chargeable : (s : List ℕ) → every isOctet s ≡ true → chargingFault s ≡ Sound → Chargeable (chargesOf s)
@@ -433,8 +356,8 @@ sound-chargeable s o e =
     let fs = fieldsOf (kindIn s) in
     record {
       listed = p .listed;
-      fitting = λ f h. rw (value-said s f) (value-fits f fs (drawnIn s) (p .right) h);
-      others = λ f h. value-said s f ∙ value-none f fs (drawnIn s) h;
+      fitting = λ f h. rw (value-said s f) (value-fits f fs (fieldOctets s) (p .right) h);
+      others = λ f h. value-said s f ∙ value-none f fs (fieldOctets s) h;
       checked = rw (kept-drawn s p) (p .check);
     }
 

@@ -50,7 +50,7 @@ editedIn e d n = edited e (recordOf (take n d))
 pub record NoReason (e : Edit) (d : List ℕ) (n : ℕ) : Type 0 where
   -- 15: the message lies within the buffer
   pub within : n ≤ length d
-  -- 1 to 13: and reading accepts it
+  -- 1 to 13 and 18: reading accepts it
   pub message : verdictOf (take n d) ≡ Accepted n
   -- 16: it has a C5
   pub has-data : among transfer-data (headersOf (recordOf (take n d))) ≡ true

@@ -6,7 +6,7 @@ use native.Mathlib.Omega.{arith}
 use mathlib.Core.Path.{_≡_, refl, sym, ap, _∙_}
 use mathlib.Core.List.{List, _∷_}
 use mathlib.Core.Logic.{_↔_}
-use lib.ListN.{length, getD}
+use lib.ListN.{length, getD, drop}
 use Rattle.annex.specs.Answers.{numberOf, placeOf, givenOf, classValueOf, classNumberOf, classPlaceOf, classGivenOf}
 use Rattle.annex.specs.Items.{Part}
 use Rattle.annex.specs.Reading.{verdictOf, recordOf}
@@ -17,6 +17,7 @@ use Rattle.annex.specs.Finding.{commonFound, transferFound, findAnswer}
 use Rattle.annex.specs.Spans.{spansOf, tableOf}
 use Rattle.annex.specs.Editing.{Edit, editingOf, bufferOf}
 use Rattle.annex.specs.Classes.{classOf}
+use Rattle.annex.specs.Rates.{fieldRow, valueOf}
 use Rattle.annex.specs.Charging.{
   chargingOf,
   chargingNumberOf,
@@ -58,6 +59,7 @@ use Rattle.annex.specs.declared.Imaged.{Imaged}
 use Rattle.annex.specs.declared.Reading.{Reading}
 use Rattle.annex.specs.declared.Record.{Record}
 use Rattle.annex.specs.declared.Row.{Row}
+use Rattle.laws.specs.Drawings.{at-place, same-charges}
 use Rattle.tight.specs.Told.{
   HasNumber,
   ClassHasNumber,
@@ -215,29 +217,13 @@ pub record RightCharging (d r : ChargingAnswer) : Type 0 where
   pub place : chargingPlaceOf r ≡ chargingPlaceOf d
   pub value : chargingGivenOf r ≡ chargingGivenOf d
 
--- the kind and the fields by these numbers
-abbrev chargesBy : List ℕ → Charges
-chargesBy l =
-    record {
-      kind = getD l 0 0;
-      «unit_fee» = getD l 1 0;
-      «initial_units» = getD l 2 0;
-      day = getD l 3 0;
-      night = getD l 4 0;
-      «late_night_1» = getD l 5 0;
-      «late_night_2» = getD l 6 0;
-      mbi = getD l 7 0;
-      «information_interval» = getD l 8 0;
-      «information_units» = getD l 9 0;
-      «free_time» = getD l 10 0;
-      «check_digit» = getD l 11 0;
-    }
-
-same-charges : (c b : Charges) → c .kind ∷ fieldNumbers c ≡ b .kind ∷ fieldNumbers b → c ≡ b
-same-charges c b e = ap chargesBy e
+same-numbers : (c b : Charges) → c .kind ∷ fieldNumbers c ≡ b .kind ∷ fieldNumbers b → c ≡ b
+same-numbers c b e =
+    same-charges c b (ap (λ l. getD l 0 0) e)
+    (λ f. sym (at-place (λ g. valueOf g c) 0 f) ∙ ap (λ l. getD (drop 1 l) (fieldRow f .place) 0) e ∙ at-place (λ g. valueOf g b) 0 f)
 
 same-charging-answer : (d r : ChargingAnswer) → ChargingHasNumber d → RightCharging d r → r ≡ d
-same-charging-answer (chargings.Is c) (chargings.Is b) t e = ap chargings.Is (same-charges b c (e .value))
+same-charging-answer (chargings.Is c) (chargings.Is b) t e = ap chargings.Is (same-numbers b c (e .value))
 same-charging-answer (chargings.Is c) (chargings.Refused k p) t e = absurd (omega (arith, e .told, e .number))
 same-charging-answer (chargings.Refused j q) (chargings.Is b) t e = absurd (omega (arith, e .number))
 same-charging-answer (chargings.Refused j q) (chargings.Refused k p) t e = rw (e .number, e .place)

@@ -47,7 +47,7 @@ use Rattle.annex.specs.Heads.{
   formOf,
 }
 use Rattle.annex.specs.Digits.{halves, isCode, isDigit, halvesFault, digitsFault}
-use Rattle.annex.specs.Rates.{isKind, isRight, drawnFor, kindIn, drawnIn, drawnFault, checkRight}
+use Rattle.annex.specs.Rates.{isKind, isRight, drawnFor, kindIn, fieldOctets, drawnFault, checkRight}
 use Rattle.annex.specs.Contents.{
   formedThen,
   faultThen,
@@ -224,8 +224,8 @@ check-told (Long n) s = formed (eqb (length s) n) Sound (record {})
 check-told (Two mask) s = formed (eqb (length s) 2 && clear mask (getD s 1 0)) Sound (record {})
 check-told Charging s =
     formed (isKind (kindIn s) && eqb (length s) (2 + length (drawnFor (kindIn s)))) _
-    (faulted (drawnFault 2 (drawnFor (kindIn s)) (drawnIn s)) _ (drawn-told 2 (drawnFor (kindIn s)) (drawnIn s))
-    (one-of (checkRight (kindIn s) (drawnIn s)) Sound _ (record {}) (omega arith)))
+    (faulted (drawnFault 2 (drawnFor (kindIn s)) (fieldOctets s)) _ (drawn-told 2 (drawnFor (kindIn s)) (fieldOctets s))
+    (one-of (checkRight (kindIn s) (fieldOctets s)) Sound _ (record {}) (omega arith)))
 
 form-told : (f : Form) (s : List ℕ) → FaultHasNumber (faultBy f s)
 unfolding dialledFault digitsFault callingFault genericFault

@@ -1,11 +1,9 @@
 -- `octet_charging` meets its contract: the answer decides, and its octets are copied to the front where they fit.
-use native.Mathlib.Omega.{arith}
 use denote.Ref.{now}
 use mathlib.Core.Path.{_≡_, sym, _∙_}
 use borrow.Author.Needs.{needs}
-use lib.ListN.{length}
 use Rattle.annex.specs.Charging.{chargingOf, chargeOctets}
-use Rattle.annex.specs.declared.ChargingAnswer.the-variants.{Is, Refused}
+use Rattle.annex.specs.declared.ChargingAnswer.the-variants.{Is}
 use Rattle.laws.specs.Fronts.{front-all}
 use Rattle.octets.specs.Copied.{copied-into}
 use Rattle.charging.specs.Answering.{octets-refused, octets-short, octets-done}

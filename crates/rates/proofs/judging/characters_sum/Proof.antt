@@ -2,9 +2,9 @@
 use Prim.Native.Nat.{_+_, _-_, _≤_}
 use native.Mathlib.Omega.{arith}
 use denote.Ref.{now}
-use mathlib.Core.Path.{_≡_, sym, _∙_}
+use mathlib.Core.Path.{_≡_}
 use borrow.Author.Needs.{needs}
-use lib.ListN.{length, drop, getD, length-drop}
+use lib.ListN.{length, drop, length-drop}
 use Rattle.rates.specs.Asked.{charactersSum, sum-more, sum-most, characters-none}
 use Rattle.rates.proofs.judging.characters_sum.Statement.{statement}
 use Rattle.rates.proofs.judging.characters_sum.Tie as tie
@@ -49,7 +49,6 @@ characters-sum-spec =
     (λ c. omega arith)
     (λ c. search needs)
     (λ c κs. search needs)
-    (λ c. search needs)
     add-sum
     (λ c. search needs)
     (λ c. search needs)

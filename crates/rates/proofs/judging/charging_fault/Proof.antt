@@ -10,7 +10,7 @@ use lib.Dec.{eqb}
 use lib.ListN.{length}
 use Rattle.annex.specs.Answers.{check-digit}
 use Rattle.annex.specs.Contents.{faultThen, chargingFault}
-use Rattle.annex.specs.Rates.{kindIn, drawnIn, numbersDrawn, total}
+use Rattle.annex.specs.Rates.{kindIn, fieldOctets, numbersDrawn, total}
 use Rattle.annex.specs.declared.Fault.the-variants.{Sound, Bad}
 use Rattle.rates.specs.Asked.{askedOf, behind, not-listed, not-so-long, by-asked}
 use Rattle.rates.proofs.judging.charging_fault.Statement.{statement}
@@ -40,7 +40,7 @@ past-form : (c : tie.After-drawn-fault) →
     let r = o .asked-of .result in
     chargingFault s
     ≡ faultThen (c .drawn-fault .result)
-    (cond (cond (r .checked) (eqb ((kindIn s + total (numbersDrawn (behind (r .first) (length s - 2)) (drawnIn s))) % 10) 9) true) Sound
+    (cond (cond (r .checked) (eqb ((kindIn s + total (numbersDrawn (behind (r .first) (length s - 2)) (fieldOctets s))) % 10) 9) true) Sound
     (Bad check-digit (length s - 1)))
 past-form c =
     let e = c .before in
@@ -60,23 +60,21 @@ returns-4 c =
     sym (past-form d ∙ rw (n .enum-told .given .1, not-true (o .asked-of .result .checked) (c .if3 .taken)))
 
 -- past 13, where there is a check digit
-past-digits : (c : tie.After-drawn-sum) →
+past-digits : (c : tie.After-check-sum) →
     let o = c .before .before .before .before .before .before .before .before .before .before in
     let s = now (o .before .before .before .args .s) in
-    chargingFault s
-    ≡ cond (eqb ((o .before .octet-at .result + c .drawn-sum .result % 10) % 10) 9) Sound (Bad check-digit (length s - 1))
+    chargingFault s ≡ cond (eqb (c .check-sum .result % 10) 9) Sound (Bad check-digit (length s - 1))
 past-digits c =
     let n = c .before .before .before in
     let d = n .before .before in
     let o = d .before .before .before .before .before in
     let s = now (o .before .before .before .args .s) in
     let r = o .asked-of .result in
-    let all = total (numbersDrawn (behind (r .first) (length s - 2)) (drawnIn s)) in
-    let m : (kindIn s + all) % 10 ≡ (o .before .octet-at .result + c .drawn-sum .result % 10) % 10 =
-    omega (arith, o .before .octet-at .ensures, c .drawn-sum .ensures) in
+    let all = total (numbersDrawn (behind (r .first) (length s - 2)) (fieldOctets s)) in
+    let m : kindIn s + all ≡ c .check-sum .result = omega (arith, o .before .octet-at .ensures, c .check-sum .ensures) in
     past-form d
     ∙ rw (n .enum-told .given .1, not-false (r .checked) (c .before .if3 .left))
-    (ap (λ k. cond (eqb k 9) Sound (Bad check-digit (length s - 1))) m)
+    (ap (λ k. cond (eqb (k % 10) 9) Sound (Bad check-digit (length s - 1))) m)
 
 returns-5 : tie.Need-returns-5
 returns-5 c = sym (past-digits (c .before) ∙ rw (eq-eqb _ _ (c .if4 .taken)))
@@ -99,9 +97,7 @@ charging-fault-spec =
     (λ c. search needs)
     returns-3
     returns-4
-    (λ c. search needs)
     (λ c κs. search needs)
-    (λ c. search needs)
     (λ c. search needs)
     returns-5
     returns-6)
