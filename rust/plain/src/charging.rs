@@ -195,79 +195,33 @@ mod tests {
     }
 
     /// Sound contents of every kind, and what they tell.
+    #[rustfmt::skip]
     fn sound() -> [(Vec<u8>, Charging); 8] {
         let none = Charging::default();
-        let by_seconds = Charging {
-            kind: 1,
-            initial_units: 12,
-            day: 345,
-            night: 678,
-            late_night_1: 901,
-            late_night_2: 234,
-            check_digit: 3,
-            ..none
-        };
-        let mbi_and_interval = Charging {
-            kind: 3,
-            mbi: 10,
-            information_interval: 234,
-            free_time: 56,
-            check_digit: 5,
-            ..none
-        };
-        let mbi_and_units = Charging {
-            kind: 4,
-            mbi: 7,
-            information_units: 1209,
-            free_time: 800,
-            check_digit: 8,
-            ..none
-        };
-        let mbi = Charging {
-            kind: 5,
-            mbi: 12,
-            check_digit: 1,
-            ..none
-        };
-        let by_unit_fee = Charging {
-            kind: 8,
-            unit_fee: 10,
-            initial_units: 1,
-            day: 180,
-            night: 240,
-            late_night_1: 360,
-            late_night_2: 999,
-            ..none
-        };
-        let with_interval = Charging {
-            kind: 9,
-            unit_fee: 255,
-            information_interval: 123,
-            free_time: 456,
-            ..by_unit_fee
-        };
-        let with_units = Charging {
-            kind: 10,
-            unit_fee: 0,
-            information_units: 9876,
-            free_time: 543,
-            ..by_unit_fee
-        };
+        let by_unit_fee = Charging { initial_units: 1, day: 180, night: 240,
+                                     late_night_1: 360, late_night_2: 999, ..none };
         [
-            (contents(1, &[], "12 345 678 901 234 3"), by_seconds),
-            (contents(2, &[], ""), Charging { kind: 2, ..none }),
-            (contents(3, &[0x1A], "234 056 5"), mbi_and_interval),
-            (contents(4, &[0xA7], "1209 800 8"), mbi_and_units),
-            (contents(5, &[0x12], "1"), mbi),
-            (contents(8, &[10], "01 180 240 360 999"), by_unit_fee),
-            (
-                contents(9, &[255], "01 180 240 360 999 123 456"),
-                with_interval,
-            ),
-            (
-                contents(10, &[0], "01 180 240 360 999 9876 543"),
-                with_units,
-            ),
+            (contents(1, &[], "12 345 678 901 234 3"),
+             Charging { kind: 1, initial_units: 12, day: 345, night: 678,
+                        late_night_1: 901, late_night_2: 234, check_digit: 3, ..none }),
+            (contents(2, &[], ""),
+             Charging { kind: 2, ..none }),
+            (contents(3, &[0x1A], "234 056 5"),
+             Charging { kind: 3, mbi: 10, information_interval: 234, free_time: 56,
+                        check_digit: 5, ..none }),
+            (contents(4, &[0xA7], "1209 800 8"),
+             Charging { kind: 4, mbi: 7, information_units: 1209, free_time: 800,
+                        check_digit: 8, ..none }),
+            (contents(5, &[0x12], "1"),
+             Charging { kind: 5, mbi: 12, check_digit: 1, ..none }),
+            (contents(8, &[10], "01 180 240 360 999"),
+             Charging { kind: 8, unit_fee: 10, ..by_unit_fee }),
+            (contents(9, &[255], "01 180 240 360 999 123 456"),
+             Charging { kind: 9, unit_fee: 255, information_interval: 123,
+                        free_time: 456, ..by_unit_fee }),
+            (contents(10, &[0], "01 180 240 360 999 9876 543"),
+             Charging { kind: 10, unit_fee: 0, information_units: 9876,
+                        free_time: 543, ..by_unit_fee }),
         ]
     }
 
