@@ -29,6 +29,32 @@ type Names = BTreeMap<u8, BTreeSet<u8>>;
 /// Rate kinds by refusal number, 0 for those that were accepted.
 type Kinds = BTreeMap<u8, BTreeSet<u8>>;
 
+/// How many names reading refuses with each number. 12 names are unused, 47 of
+/// the others have a PLI of their own. Eleven names under PLI 01 and three under
+/// PLI 10 have zero bits, and seven under PLI 11 a form; nine hold digits, one of
+/// them a check digit.
+const READ: [(u8, usize); 7] = [
+    (8, 12),
+    (9, 47),
+    (10, 52),
+    (11, 52),
+    (12, 21),
+    (13, 9),
+    (18, 1),
+];
+
+/// The same of writing. There no contents under PLI 11 are of a wrong length,
+/// save those that are 12; 90, 91, 95 and 98 have marks, A3 has none.
+const WRITTEN: [(u8, usize); 7] = [
+    (8, 12),
+    (9, 47),
+    (10, 52),
+    (11, 30),
+    (12, 22),
+    (13, 9),
+    (18, 1),
+];
+
 #[test]
 fn every_possible_answer_occurs() {
     let mut coverage = Coverage::default();
@@ -42,36 +68,8 @@ fn every_possible_answer_occurs() {
     println!("{coverage}");
     assert_eq!(coverage.lacking(), [""; 0]);
     assert_eq!(coverage.surplus(), [""; 0]);
-
-    // 12 names are unused, 47 of the others have a PLI of their own. Eleven
-    // names under PLI 01 and three under PLI 10 have zero bits, and seven under
-    // PLI 11 a form; nine hold digits, one of them a check digit.
-    assert_eq!(
-        counts(&read),
-        [
-            (8, 12),
-            (9, 47),
-            (10, 52),
-            (11, 52),
-            (12, 21),
-            (13, 9),
-            (18, 1)
-        ]
-    );
-    // In writing no contents under PLI 11 are of a wrong length, save those
-    // that are 12; 90, 91, 95 and 98 have marks, A3 has none.
-    assert_eq!(
-        counts(&written),
-        [
-            (8, 12),
-            (9, 47),
-            (10, 52),
-            (11, 30),
-            (12, 22),
-            (13, 9),
-            (18, 1)
-        ]
-    );
+    assert_eq!(counts(&read), READ);
+    assert_eq!(counts(&written), WRITTEN);
 }
 
 #[test]
