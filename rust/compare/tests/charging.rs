@@ -52,15 +52,14 @@ fn buffer(message: &[u8]) -> (Vec<u8>, u16) {
     ([message, &[0xEE; 60]].concat(), message.len() as u16)
 }
 
-/// Whether the codecs agree on the contents in every call; gives whether they
-/// accept them.
-fn agree(contents: &[u8]) -> bool {
+/// The calls that read or write these contents.
+fn calls(contents: &[u8]) -> [Input; 6] {
     let new = parameter(contents);
     let message = with_alone(&new);
     let lent = || vec![0xEE; 300];
     let (without, n) = buffer(&EMPTY);
     let (with, with_n) = buffer(&with_alone(&parameter(SOUND[1])));
-    let calls = [
+    [
         Input::Read {
             message: message.clone(),
             image: lent(),
@@ -87,8 +86,13 @@ fn agree(contents: &[u8]) -> bool {
             n: with_n,
             new,
         },
-    ];
-    let numbers = calls.map(|input| {
+    ]
+}
+
+/// Whether the codecs agree on the contents in every call; gives whether they
+/// accept them.
+fn agree(contents: &[u8]) -> bool {
+    let numbers = calls(contents).map(|input| {
         let outcome = answer(&input);
         assert_eq!(proved(&input), outcome, "{input:02X?}");
         outcome.number()
