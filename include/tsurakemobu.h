@@ -123,9 +123,21 @@ uint64_t tk_find_transfer(const uint8_t *message, size_t message_len, uint8_t na
 uint64_t tk_class(uint8_t header, uint8_t octet);
 
 /* The charging information, F7, opened. Value: TK_CHARGING_LEN; so many octets stand at the front of `out`; those behind them stay.
- * They are the rate kind, then eleven numbers (2 octets each, least first), 0 for what the kind does not have: unit fee, initial
- * units, day, night, late night 1, late night 2, MBI, information interval, information units, free time, check digit. Times, which
- * are day to late night 2, information interval and free time, are in half seconds.
+ * They are the rate kind, then eleven numbers with the least octet first; what the kind does not have is 0.
+ *
+ *   1  rate kind
+ *   2  unit fee              yen
+ *   2  initial units         a count
+ *   2  day                   half seconds that a unit lasts, for 10 yen (kind 1) or the unit fee (kinds 8 to 10), as the three below
+ *   2  night
+ *   2  late night 1
+ *   2  late night 2
+ *   2  MBI                   two digits, as a number
+ *   2  information interval  half seconds for 10 yen
+ *   2  information units     a count
+ *   2  free time             half seconds
+ *   2  check digit
+ *
  * Refused: reading's; 16 at 0 if there is no F7; 15 at 0 if `out` is too short. */
 uint64_t tk_charging(const uint8_t *message, size_t message_len, uint8_t *out, size_t out_len);
 

@@ -9,25 +9,27 @@ use crate::CHARGING_LEN;
 pub struct Charging {
     /// The rate kind: 1 to 5 or 8 to 10.
     pub kind: u8,
-    /// The unit fee, of the kinds 8 to 10.
+    /// The unit fee in yen, of the kinds 8 to 10.
     pub unit_fee: u16,
-    /// The units counted at the beginning, of the kinds 1 and 8 to 10.
+    /// How many units are counted at the beginning, of the kinds 1 and 8 to 10.
     pub initial_units: u16,
-    /// The time that a unit lasts by day, of the kinds 1 and 8 to 10.
+    /// How long a unit lasts by day, of the kinds 1 and 8 to 10: half seconds for
+    /// 10 yen under kind 1, for the unit fee under the others.
     pub day: u16,
-    /// The time that a unit lasts by night, of the same kinds.
+    /// How long a unit lasts by night; kinds and unit as by day.
     pub night: u16,
-    /// The time that a unit lasts late at night, first part, of the same kinds.
+    /// How long a unit lasts late at night, first part; as by day.
     pub late_night_1: u16,
-    /// The time that a unit lasts late at night, second part, of the same kinds.
+    /// How long a unit lasts late at night, second part; as by day.
     pub late_night_2: u16,
-    /// The MBI, of the kinds 3 to 5.
+    /// The two digits of the MBI as a number, of the kinds 3 to 5.
     pub mbi: u16,
-    /// The time that a unit of the information's fee lasts, of the kinds 3 and 9.
+    /// How long a unit of the information's fee lasts, of the kinds 3 and 9: half
+    /// seconds for 10 yen.
     pub information_interval: u16,
-    /// The units of the information's fee, of the kinds 4 and 10.
+    /// How many units the information's fee is, of the kinds 4 and 10.
     pub information_units: u16,
-    /// The time for which the information is free, of the kinds 3, 4, 9 and 10.
+    /// How many half seconds the information is free, of the kinds 3, 4, 9 and 10.
     pub free_time: u16,
     /// The check digit, of the kinds 1 and 3 to 5.
     pub check_digit: u16,

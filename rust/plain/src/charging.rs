@@ -11,23 +11,24 @@ use crate::transfer::{formed, name_of, CHARGING};
 pub struct Charging {
     /// The rate kind: 1 to 5 or 8 to 10.
     pub kind: u8,
-    /// The unit fee.
+    /// The unit fee, in yen.
     pub unit_fee: u16,
-    /// The units counted at the beginning.
+    /// How many units are counted at the beginning.
     pub initial_units: u16,
-    /// The time that a unit lasts by day.
+    /// How long a unit lasts by day: for 10 yen under kind 1, for the unit fee
+    /// under the kinds 8 to 10.
     pub day: u16,
-    /// The time that a unit lasts by night.
+    /// How long a unit lasts by night, as by day.
     pub night: u16,
-    /// The time that a unit lasts late at night, first part.
+    /// How long a unit lasts late at night, first part, as by day.
     pub late_night_1: u16,
-    /// The time that a unit lasts late at night, second part.
+    /// How long a unit lasts late at night, second part, as by day.
     pub late_night_2: u16,
-    /// The MBI of the call's fee.
+    /// The MBI of the call's fee: its two digits as a number.
     pub mbi: u16,
-    /// The time that a unit of the information's fee lasts.
+    /// How long a unit of the information's fee lasts: for 10 yen.
     pub information_interval: u16,
-    /// The units of the information's fee.
+    /// How many units the information's fee is.
     pub information_units: u16,
     /// The time for which the information is free.
     pub free_time: u16,
