@@ -90,7 +90,7 @@ ClassPromise h x r = r ≡ classOf h x
 abbrev pub ChargingPromise : List ℕ → ChargingAnswer → Type 0
 ChargingPromise m r = r ≡ chargingOf m
 
--- charging::octet_charging
+-- charging::packing::octet_charging
 abbrev pub OctetChargingPromise : List ℕ → List ℕ → Answer → List ℕ → Type 0
 OctetChargingPromise m room r now = (r ≡ octetCharging m (length room)) × (now ≡ octetCharged m room)
 

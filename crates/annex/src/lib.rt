@@ -579,8 +579,10 @@ impl Charges {
 
     pub const FEE_AND_UNITS: u8 = 10;
 
-    // the octets before the fields: who is charged and how, carried unread, and the kind
+    // the octets before the fields: who is charged and how, carried unread, and the kind; and where the kind stands
     pub const HEAD: usize = 2;
+
+    pub const KIND_AT: usize = 1;
 
     // the octets of the answer for Rust and C: the kind, and two for each field
     pub const OCTETS: usize = 23;

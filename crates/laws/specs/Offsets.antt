@@ -136,7 +136,8 @@ charging-within s =
     formed-within n (isKind k && long) _
     (λ t.
     let e = eqb-true n (2 + length (drawnFor k)) (and-right (isKind k) long t) in
-    then-within n (drawnFault 2 (drawnFor k) (fieldOctets s)) _ (drawn-within 2 (drawnFor k) (fieldOctets s) n (omega (arith, length-drop 2 s)))
+    then-within n (drawnFault 2 (drawnFor k) (fieldOctets s)) _
+    (drawn-within 2 (drawnFor k) (fieldOctets s) n (omega (arith, length-drop 2 s)))
     (cond-within n (checkRight k (fieldOctets s)) Sound (Bad check-digit (n - 1)) (sound-within n)
     (bad-within n check-digit (n - 1) (omega arith))))
 

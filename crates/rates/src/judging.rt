@@ -73,7 +73,7 @@ fn check_sum(kind: u8, first: Drawn, s: &[u8]) -> usize
 pub fn charging_fault(s: &[u8]) -> Fault
     ensures { λ r. ⌜ Gives (chargingFault (now (s .entry))) r ⌝ }
 {
-    let kind = octet_at(s, 1);
+    let kind = octet_at(s, Charges::KIND_AT);
     let asked = asked_of(kind);
     if !asked.listed {
         return Fault::Bad(Answer::BAD_FORM, 0);

@@ -30,6 +30,7 @@ fn row(place: usize, drawn: Drawn, width: usize) -> FieldRow
     }
 }
 
+// How the annex draws each field.
 fn row_of(f: Field) -> FieldRow
     ensures { λ r. ⌜ (r .place ≡ fieldRow f .place) × (r .drawn ≡ fieldRow f .drawn) × (r .width ≡ fieldRow f .width) ⌝ }
 {
@@ -87,7 +88,7 @@ fn field_in(s: &[u8], f: Field) -> u16
 {
     let asked = row_of(f);
     let place = asked.place;
-    let starts = starts_of(octet_at(s, 1));
+    let starts = starts_of(octet_at(s, Charges::KIND_AT));
     let start = starts[place] as usize;
     if start == 0 {
         return 0;
@@ -106,7 +107,7 @@ pub fn charges(s: &[u8]) -> Charges
     ensures { λ r. ⌜ Gives (chargesOf (now (s .entry))) r ⌝ }
 {
     Charges {
-        kind: octet_at(s, 1),
+        kind: octet_at(s, Charges::KIND_AT),
         unit_fee: field_in(s, Field::UnitFee),
         initial_units: field_in(s, Field::InitialUnits),
         day: field_in(s, Field::Day),

@@ -8,7 +8,18 @@ use lib.ListN.{getD, drop, replicate}
 use Rattle.annex.specs.Rates.{drawnAs, widthOf, numbersIn, numbersDrawn, kindIn, decimal, fieldIn}
 use Rattle.annex.specs.declared.Drawn.{Drawn}
 use Rattle.annex.specs.declared.Drawn.the-variants.{Whole, Halves, Character}
-use Rattle.rates.specs.Starts.{fieldStart, startsOf, start-at, place-below, width-most, widthBy, width-by, one-octet, field-none, field-there}
+use Rattle.rates.specs.Starts.{
+  fieldStart,
+  startsOf,
+  start-at,
+  place-below,
+  width-most,
+  widthBy,
+  width-by,
+  one-octet,
+  field-none,
+  field-there,
+}
 use Rattle.rates.proofs.opening.field_in.Statement.{statement}
 use Rattle.rates.proofs.opening.field_in.Tie as tie
 
