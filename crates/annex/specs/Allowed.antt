@@ -6,7 +6,7 @@ use mathlib.Core.Bool.{Bool, true, cond, _&&_}
 use mathlib.Core.List.{List, [], _∷_, _++_, map}
 use lib.Dec.{eqb, leb, ltb}
 use lib.ListN.{length, getD, drop}
-use Rattle.annex.specs.Answers.{bad-digit}
+use Rattle.annex.specs.Answers.{bad-digit, formedThen, isSound}
 use Rattle.annex.specs.Units.{nameOf, afterOf, extentOf}
 use Rattle.annex.specs.Heads.{
   advanced-telephony,
@@ -31,7 +31,7 @@ use Rattle.annex.specs.Heads.{
 use Rattle.annex.specs.declared.Marks.{Marks}
 use Rattle.annex.specs.declared.Marks.the-variants.{Unmarked, Notified, Verified, Typed}
 use Rattle.annex.specs.Digits.{isDigit}
-use Rattle.annex.specs.Contents.{formedThen, isSound, faultOf}
+use Rattle.annex.specs.Contents.{faultOf}
 use Rattle.annex.specs.Items.{Item, Part, part, valuePart, heldAs, contentsOf, ownOf}
 use Rattle.annex.specs.declared.Holding.{Holding}
 use Rattle.annex.specs.declared.Holding.the-variants.{AsContents, AsDigits, AsNumber, AsGeneric}

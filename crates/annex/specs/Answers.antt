@@ -114,6 +114,24 @@ abbrev pub offsetOf : Fault → ℕ
 offsetOf Sound = 0
 offsetOf (Bad k i) = i
 
+-- faults in their order: 12 where the form is not kept comes before other faults
+abbrev pub formedThen : Bool → Fault → Fault
+formedThen true f = f
+formedThen false f = Bad bad-form 0
+
+abbrev pub formed : Bool → Fault
+formed b = formedThen b Sound
+
+-- one fault, and where there is none another
+abbrev pub faultThen : Fault → Fault → Fault
+faultThen Sound g = g
+faultThen (Bad k i) g = Bad k i
+
+-- nothing is wrong
+abbrev pub isSound : Fault → Bool
+isSound Sound = true
+isSound (Bad k i) = false
+
 -- where what was found starts and ends, the empty stretch where there is none
 abbrev pub startOf : Found → ℕ
 startOf (At s e) = s

@@ -5,56 +5,22 @@ use mathlib.Core.Bool.{Bool, true, false, cond, not, _&&_}
 use mathlib.Core.List.{List}
 use lib.Dec.{eqb, ltb}
 use lib.ListN.{length, getD, drop}
-use Rattle.annex.specs.Answers.{bad-form, check-digit}
-use Rattle.annex.specs.Units.{countedBy, halvesIn}
+use Rattle.annex.specs.Answers.{formedThen, formed, faultThen, check-digit}
+use Rattle.annex.specs.Units.{countedBy}
 use Rattle.annex.specs.Heads.{added-calling-number, withheld, clear, zeroesOf, formOf}
-use Rattle.annex.specs.declared.HalfOctets.{HalfOctets}
 use Rattle.annex.specs.declared.Check.{Check}
 use Rattle.annex.specs.declared.Form.{Form}
 use Rattle.annex.specs.declared.Check.the-variants.{Nothing, Long, Two, Charging}
 use Rattle.annex.specs.declared.Form.the-variants.{Checked, Digits, Number, Calling, Generic}
-use Rattle.annex.specs.Digits.{digitsFault}
+use Rattle.annex.specs.Digits.{digitsFault, numberFault}
 use Rattle.annex.specs.Rates.{isKind, drawnFor, kindIn, fieldOctets, drawnFault, checkRight}
-use Rattle.annex.specs.declared.Alphabet.the-variants.{Dialled, Numbered}
+use Rattle.annex.specs.declared.Alphabet.the-variants.{Dialled}
 use Rattle.annex.specs.declared.Fault.{Fault}
 use Rattle.annex.specs.declared.Fault.the-variants.{Sound, Bad}
 
--- 12 where the form is not kept; it comes before other faults
-abbrev pub formedThen : Bool → Fault → Fault
-formedThen true f = f
-formedThen false f = Bad bad-form 0
-
-abbrev pub formed : Bool → Fault
-formed b = formedThen b Sound
-
--- one fault, and where there is none another
-abbrev pub faultThen : Fault → Fault → Fault
-faultThen Sound g = g
-faultThen (Bad k i) g = Bad k i
-
--- nothing is wrong
-abbrev pub isSound : Fault → Bool
-isSound Sound = true
-isSound (Bad k i) = false
-
--- a number's first octet: odd mark (bit 7). Its second: presentation (3-2)
-abbrev pub oddOf : List ℕ → ℕ
-oddOf s = getD s 0 0 / 128
-
+-- a number's second octet: presentation (3-2)
 abbrev pub presentationOf : List ℕ → ℕ
 presentationOf s = getD s 1 0 / 4 % 4
-
--- the digits of a number with these octets: those behind the first two, and one half less where the odd mark is set
-abbrev pub countOf : List ℕ → HalfOctets
-countOf s = record { 0 = halvesIn (drop 2 s) .0 - oddOf s }
-
--- Transfer data, D7: a number whose first octet is at the offset `at`. Its two octets of fields must be there, and where the odd mark is
--- set a digit octet too; then the digits, with filler after an odd count
-unfoldable pub numberFault : ℕ → List ℕ → Fault
-numberFault at s =
-    formedThen (not (ltb (length s) 2))
-    (formedThen (not (eqb (oddOf s) 1 && eqb (length s) 2))
-    (digitsFault Numbered (countOf s) (at + 2) (drop 2 s)))
 
 -- Transfer data, DC: a number; where it is withheld (presentation 2) two octets, with nothing told but presentation and screening
 unfoldable pub callingFault : List ℕ → Fault

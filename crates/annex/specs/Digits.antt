@@ -1,14 +1,14 @@
 -- Digits in half-octets: document 01, "Transfer data", PLI 10 and D7.
-use Prim.Native.Nat.{ℕ, zero, suc, _+_, _*_, _/_, _%_}
+use Prim.Native.Nat.{ℕ, zero, suc, _+_, _-_, _*_, _/_, _%_}
 use mathlib.Core.Bool.{Bool, cond, not, _&&_}
 use mathlib.Core.List.{List, [], _∷_, map}
-use lib.Dec.{eqb, leb}
-use lib.ListN.{length, take}
-use Rattle.annex.specs.Answers.{bad-digit}
-use Rattle.annex.specs.Units.{halvesOf}
+use lib.Dec.{eqb, leb, ltb}
+use lib.ListN.{length, getD, take, drop}
+use Rattle.annex.specs.Answers.{bad-digit, formedThen}
+use Rattle.annex.specs.Units.{halvesOf, halvesIn}
 use Rattle.annex.specs.declared.HalfOctets.{HalfOctets}
 use Rattle.annex.specs.declared.Alphabet.{Alphabet}
-use Rattle.annex.specs.declared.Alphabet.the-variants.{Dialled, Numbered}
+use Rattle.annex.specs.declared.Alphabet.the-variants.{Dialled, Numbered, Decimal}
 use Rattle.annex.specs.declared.Fault.{Fault}
 use Rattle.annex.specs.declared.Fault.the-variants.{Sound, Bad}
 
@@ -23,11 +23,12 @@ joined [] = []
 joined (a ∷ []) = a ∷ []
 joined (a ∷ b ∷ hs) = (a + 16 * b) ∷ joined hs
 
--- the two codes: they differ in the zero, which is 10 where digits are dialled (PLI 10) and 0 in a number (D7). In both 11 and 12 are * and
--- #, which a record holds as 10 and 11
+-- the codes: they differ in the zero, which is 10 where digits are dialled (PLI 10) and 0 in a number (D7). In these two 11 and 12 are *
+-- and #, which a record holds as 10 and 11; decimal digits (request b) are the codes of a number without them
 abbrev pub zeroFrom : Alphabet → ℕ → ℕ
 zeroFrom Dialled h = cond (eqb h 10) 0 h
 zeroFrom Numbered h = h
+zeroFrom Decimal h = h
 
 unfoldable pub digitOf : Alphabet → ℕ → ℕ
 digitOf z h = cond (eqb h 11) 10 (cond (eqb h 12) 11 (zeroFrom z h))
@@ -35,21 +36,33 @@ digitOf z h = cond (eqb h 11) 10 (cond (eqb h 12) 11 (zeroFrom z h))
 abbrev pub zeroTo : Alphabet → ℕ → ℕ
 zeroTo Dialled d = cond (eqb d 0) 10 d
 zeroTo Numbered d = d
+zeroTo Decimal d = d
 
 unfoldable pub codeOf : Alphabet → ℕ → ℕ
 codeOf z d = cond (eqb d 10) 11 (cond (eqb d 11) 12 (zeroTo z d))
 
--- spare codes: 13 to 15 in both, and the other code's zero
-abbrev pub spareUnder13 : Alphabet → ℕ
-spareUnder13 Dialled = 0
-spareUnder13 Numbered = 10
+-- spare codes: those over the last, and the other code's zero
+abbrev pub lastCode : Alphabet → ℕ
+lastCode Dialled = 12
+lastCode Numbered = 12
+lastCode Decimal = 9
+
+abbrev pub otherZero : Alphabet → ℕ
+otherZero Dialled = 0
+otherZero Numbered = 10
+otherZero Decimal = 10
 
 unfoldable pub isCode : Alphabet → ℕ → Bool
-isCode z h = leb h 12 && not (eqb h (spareUnder13 z))
+isCode z h = leb h (lastCode z) && not (eqb h (otherZero z))
 
--- a value that a record holds for a digit
+-- a value that a record holds for a digit; and one that has a code
 abbrev pub isDigit : ℕ → Bool
 isDigit d = leb d 11
+
+abbrev pub isDigitIn : Alphabet → ℕ → Bool
+isDigitIn Dialled d = isDigit d
+isDigitIn Numbered d = isDigit d
+isDigitIn Decimal d = leb d 9
 
 -- the first half that is not as it must be: of the first n a digit, of the others 0. i counts the halves from the contents' start
 unfoldable pub halvesFault : Alphabet → ℕ → ℕ → List ℕ → Fault
@@ -71,3 +84,25 @@ packed z ds = joined (map (codeOf z) ds)
 -- digits by their count: a half-octet each
 abbrev pub halvesFor : List ℕ → HalfOctets
 halvesFor ds = record { 0 = length ds }
+
+-- ---- a number
+
+-- its first octet: odd mark (bit 7)
+abbrev pub oddOf : List ℕ → ℕ
+oddOf s = getD s 0 0 / 128
+
+-- the digits of a number with these octets: those behind the first two, and one half less where the odd mark is set
+abbrev pub countOf : List ℕ → HalfOctets
+countOf s = record { 0 = halvesIn (drop 2 s) .0 - oddOf s }
+
+-- Transfer data, D7: a number whose first octet is at the offset `at`. Its two octets of fields must be there, and where the odd mark is
+-- set a digit octet too; then the digits, in some code, with filler after an odd count
+unfoldable pub numberFaultIn : Alphabet → ℕ → List ℕ → Fault
+numberFaultIn z at s =
+    formedThen (not (ltb (length s) 2))
+    (formedThen (not (eqb (oddOf s) 1 && eqb (length s) 2))
+    (digitsFault z (countOf s) (at + 2) (drop 2 s)))
+
+-- in its own
+abbrev pub numberFault : ℕ → List ℕ → Fault
+numberFault = numberFaultIn Numbered

@@ -10,8 +10,7 @@ use Rattle.annex.specs.declared.Form.{Form}
 use Rattle.annex.specs.declared.Marks.{Marks}
 use Rattle.annex.specs.declared.Marks.the-variants.{Unmarked, Notified, Verified, Typed}
 use Rattle.annex.specs.declared.Form.the-variants.{Checked, Digits, Number, Calling, Generic}
-use Rattle.annex.specs.Digits.{digitsOf, packed}
-use Rattle.annex.specs.Contents.{countOf}
+use Rattle.annex.specs.Digits.{digitsOf, packed, countOf}
 use Rattle.annex.specs.declared.Holding.{Holding}
 use Rattle.annex.specs.declared.Holding.the-variants.{AsContents, AsDigits, AsNumber, AsGeneric}
 use Rattle.annex.specs.declared.Alphabet.the-variants.{Dialled, Numbered}

@@ -96,10 +96,12 @@ pub enum Extent {
     Counted(CountingUnit),
 }
 
-// How half-octets stand for digits: zero is code 10 where digits are dialled (PLI 10), and code 0 in a number (D7).
+// How half-octets stand for digits: zero is code 10 where digits are dialled (PLI 10), and code 0 in a number (D7); decimal digits are those
+// of a number with neither * nor #.
 pub enum Alphabet {
     Dialled,
     Numbered,
+    Decimal,
 }
 
 // The upper two bits of a count octet: none told, notification (bit 7), notification and verification (7, 6), or the type of dialling.

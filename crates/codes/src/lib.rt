@@ -3,7 +3,7 @@ use annex::Alphabet;
 ghost use mathlib.Core.Path.{_≡_};
 ghost use lib.ListN.{getD};
 ghost use Rattle.annex.specs.Promises.{Gives};
-ghost use Rattle.annex.specs.Digits.{halves, zeroTo, digitOf, codeOf, isCode};
+ghost use Rattle.annex.specs.Digits.{halves, zeroTo, digitOf, codeOf, lastCode, isCode};
 
 // The half-octet at i, and 0 past the end.
 pub fn half_at(octets: &[u8], i: usize) -> u8
@@ -20,13 +20,14 @@ pub fn half_at(octets: &[u8], i: usize) -> u8
     }
 }
 
-// The code of a zero, in which the two alphabets differ.
+// The code of a zero.
 fn zero_code(z: Alphabet) -> u8
     ensures { λ r. ⌜ r ≡ zeroTo z 0 ⌝ }
 {
     match z {
         Alphabet::Dialled => 10,
         Alphabet::Numbered => 0,
+        Alphabet::Decimal => 0,
     }
 }
 
@@ -56,15 +57,27 @@ pub fn code_of(z: Alphabet, d: u8) -> u8
     if d == 0 { zero_code(z) } else { d }
 }
 
+// The last code: # where there is one, and else 9.
+fn last_code(z: Alphabet) -> u8
+    ensures { λ r. ⌜ r ≡ lastCode z ⌝ }
+{
+    match z {
+        Alphabet::Dialled => 12,
+        Alphabet::Numbered => 12,
+        Alphabet::Decimal => 9,
+    }
+}
+
 // Whether a half-octet stands for a digit.
 pub fn is_code(z: Alphabet, h: u8) -> bool
     ensures { λ r. ⌜ Gives (isCode z h) r ⌝ }
 {
-    if 12 < h {
+    if last_code(z) < h {
         return false;
     }
     match z {
         Alphabet::Dialled => h != 0,
         Alphabet::Numbered => h != 10,
+        Alphabet::Decimal => h != 10,
     }
 }

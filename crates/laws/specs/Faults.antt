@@ -4,9 +4,8 @@ use mathlib.Core.Bool.{Bool, true, false, cond}
 use mathlib.Core.List.{List}
 use Prim.Native.Nat.{ℕ}
 use native.Mathlib.Omega.{arith}
-use Rattle.annex.specs.Answers.{bad-digit}
+use Rattle.annex.specs.Answers.{bad-digit, formed, formedThen, isSound}
 use Rattle.annex.specs.Digits.{isDigit}
-use Rattle.annex.specs.Contents.{formed, formedThen, isSound}
 use Rattle.annex.specs.Allowed.{every, valuesFault}
 use Rattle.annex.specs.declared.Fault.{Fault}
 use Rattle.annex.specs.declared.Fault.the-variants.{Sound, Bad}

@@ -9,7 +9,7 @@ use Rattle.annex.specs.Units.{halvesIn}
 use Rattle.annex.specs.Digits.{halves, digitOf, digitsOf}
 use Rattle.annex.specs.declared.HalfOctets.{HalfOctets}
 use Rattle.annex.specs.declared.Alphabet.{Alphabet}
-use Rattle.annex.specs.declared.Alphabet.the-variants.{Dialled, Numbered}
+use Rattle.annex.specs.declared.Alphabet.the-variants.{Dialled, Numbered, Decimal}
 
 pub length-halves : (s : List ℕ) → length (halves s) ≡ halvesIn s .0
 unfolding halves
@@ -43,6 +43,7 @@ digit-none : (z : Alphabet) → digitOf z 0 ≡ 0
 unfolding digitOf
 digit-none Dialled = refl
 digit-none Numbered = refl
+digit-none Decimal = refl
 
 mapped : (g : ℕ → ℕ) (l : List ℕ) (i : ℕ) → g 0 ≡ 0 → getD (map g l) i 0 ≡ g (getD l i 0)
 mapped g l i e = rw e at (List·getD-map g l i 0)

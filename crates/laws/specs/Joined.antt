@@ -16,8 +16,10 @@ use Rattle.annex.specs.Digits.{
   digitOf,
   codeOf,
   isCode,
-  spareUnder13,
+  lastCode,
+  otherZero,
   isDigit,
+  isDigitIn,
   halvesFault,
   digitsFault,
   digitsOf,
@@ -27,7 +29,7 @@ use Rattle.annex.specs.Digits.{
 use Rattle.annex.specs.declared.HalfOctets.{HalfOctets}
 use Rattle.annex.specs.Allowed.{every, isOctet}
 use Rattle.annex.specs.declared.Alphabet.{Alphabet}
-use Rattle.annex.specs.declared.Alphabet.the-variants.{Dialled, Numbered}
+use Rattle.annex.specs.declared.Alphabet.the-variants.{Dialled, Numbered, Decimal}
 use Rattle.annex.specs.declared.Fault.the-variants.{Sound, Bad}
 use Rattle.laws.specs.Bools.{T-true, and-left, and-right, and-both}
 use Rattle.laws.specs.Octet.{range}
@@ -42,17 +44,23 @@ pub record Coded (z : Alphabet) (d : ℕ) : Type 0 where
   pub small : codeOf z d ≤ 12
 
 codedTest : Alphabet → ℕ → Bool
-codedTest z d = eqb (digitOf z (codeOf z d)) d && (isCode z (codeOf z d) && leb (codeOf z d) 12)
+codedTest z d = not (isDigitIn z d) || (eqb (digitOf z (codeOf z d)) d && (isCode z (codeOf z d) && leb (codeOf z d) 12))
 
 coded-all : (z : Alphabet) (d : ℕ) → d < 12 → codedTest z d ≡ true
 unfolding codedTest digitOf codeOf isCode
 coded-all Dialled d h = T-true _ (range (codedTest Dialled) 0 12 tt d (omega arith) (omega arith))
 coded-all Numbered d h = T-true _ (range (codedTest Numbered) 0 12 tt d (omega arith) (omega arith))
+coded-all Decimal d h = T-true _ (range (codedTest Decimal) 0 12 tt d (omega arith) (omega arith))
 
-pub coded : (z : Alphabet) (d : ℕ) → isDigit d ≡ true → Coded z d
+digit-small : (z : Alphabet) (d : ℕ) → isDigitIn z d ≡ true → d < 12
+digit-small Dialled d h = omega (arith, leb-true d 11 h)
+digit-small Numbered d h = omega (arith, leb-true d 11 h)
+digit-small Decimal d h = omega (arith, leb-true d 9 h)
+
+pub coded : (z : Alphabet) (d : ℕ) → isDigitIn z d ≡ true → Coded z d
 unfolding codedTest
 coded z d h =
-    let t = coded-all z d (omega (arith, leb-true d 11 h)) in
+    let t = rw h at (coded-all z d (digit-small z d h)) in
     let b = eqb (digitOf z (codeOf z d)) d in
     let c = isCode z (codeOf z d) in
     let s = leb (codeOf z d) 12 in
@@ -65,26 +73,32 @@ coded z d h =
 -- a code stands for a digit, whose code it is
 pub record Decoded (z : Alphabet) (h : ℕ) : Type 0 where
   pub back : codeOf z (digitOf z h) ≡ h
-  pub digit : isDigit (digitOf z h) ≡ true
+  pub digit : isDigitIn z (digitOf z h) ≡ true
 
 decodedTest : Alphabet → ℕ → Bool
-decodedTest z h = not (isCode z h) || (eqb (codeOf z (digitOf z h)) h && isDigit (digitOf z h))
+decodedTest z h = not (isCode z h) || (eqb (codeOf z (digitOf z h)) h && isDigitIn z (digitOf z h))
 
 decoded-all : (z : Alphabet) (h : ℕ) → h < 13 → decodedTest z h ≡ true
 unfolding decodedTest digitOf codeOf isCode
 decoded-all Dialled h l = T-true _ (range (decodedTest Dialled) 0 13 tt h (omega arith) (omega arith))
 decoded-all Numbered h l = T-true _ (range (decodedTest Numbered) 0 13 tt h (omega arith) (omega arith))
+decoded-all Decimal h l = T-true _ (range (decodedTest Decimal) 0 13 tt h (omega arith) (omega arith))
 
 pub code-small : (z : Alphabet) (h : ℕ) → isCode z h ≡ true → h ≤ 12
 unfolding isCode
-code-small z h c = leb-true h 12 (and-left (leb h 12) (not (eqb h (spareUnder13 z))) c)
+code-small z h c = go z (leb-true h (lastCode z) (and-left (leb h (lastCode z)) (not (eqb h (otherZero z))) c))
+  where
+    go : (z : Alphabet) → h ≤ lastCode z → h ≤ 12
+    go Dialled l = l
+    go Numbered l = l
+    go Decimal l = omega arith
 
 pub decoded : (z : Alphabet) (h : ℕ) → isCode z h ≡ true → Decoded z h
 unfolding decodedTest
 decoded z h c =
     let t = rw c at (decoded-all z h (omega (arith, code-small z h c))) in
     let b = eqb (codeOf z (digitOf z h)) h in
-    record { back = eqb-true _ _ (and-left b (isDigit (digitOf z h)) t); digit = and-right b (isDigit (digitOf z h)) t }
+    record { back = eqb-true _ _ (and-left b (isDigitIn z (digitOf z h)) t); digit = and-right b (isDigitIn z (digitOf z h)) t }
 
 -- ---- digits packed into octets
 
@@ -99,54 +113,54 @@ unfolding packed
 length-packed z ds = rw (length-joined (map (codeOf z) ds), length-map ds (codeOf z))
 
 -- digits packed read back
-pub packed-back : (z : Alphabet) (ds : List ℕ) → every isDigit ds ≡ true → digitsOf z (halvesFor ds) (packed z ds) ≡ ds
+pub packed-back : (z : Alphabet) (ds : List ℕ) → every (isDigitIn z) ds ≡ true → digitsOf z (halvesFor ds) (packed z ds) ≡ ds
 unfolding digitsOf packed joined halves
 packed-back z [] h = refl
 packed-back z (a ∷ []) h =
-    let c = coded z a (and-left (isDigit a) true h) in
+    let c = coded z a (and-left (isDigitIn z a) true h) in
     let e : codeOf z a % 16 ≡ codeOf z a = omega arith in
     rw (e, c .back)
 packed-back z (a ∷ b ∷ ds) h =
-    let h′ = and-right (isDigit a) (isDigit b && every isDigit ds) h in
-    let c = coded z a (and-left (isDigit a) (isDigit b && every isDigit ds) h) in
-    let d = coded z b (and-left (isDigit b) (every isDigit ds) h′) in
+    let h′ = and-right (isDigitIn z a) (isDigitIn z b && every (isDigitIn z) ds) h in
+    let c = coded z a (and-left (isDigitIn z a) (isDigitIn z b && every (isDigitIn z) ds) h) in
+    let d = coded z b (and-left (isDigitIn z b) (every (isDigitIn z) ds) h′) in
     let e : (codeOf z a + 16 * codeOf z b) % 16 ≡ codeOf z a = omega arith in
     let f : (codeOf z a + 16 * codeOf z b) / 16 ≡ codeOf z b = omega arith in
-    rw (e, f, c .back, d .back) (ap (λ l. a ∷ b ∷ l) (packed-back z ds (and-right (isDigit b) (every isDigit ds) h′)))
+    rw (e, f, c .back, d .back) (ap (λ l. a ∷ b ∷ l) (packed-back z ds (and-right (isDigitIn z b) (every (isDigitIn z) ds) h′)))
 
-halves-sound : (z : Alphabet) (i : ℕ) (ds : List ℕ) → every isDigit ds ≡ true → halvesFault z (length ds) i (halves (packed z ds)) ≡ Sound
+halves-sound : (z : Alphabet) (i : ℕ) (ds : List ℕ) → every (isDigitIn z) ds ≡ true → halvesFault z (length ds) i (halves (packed z ds)) ≡ Sound
 unfolding halvesFault packed joined halves
 halves-sound z i [] h = refl
 halves-sound z i (a ∷ []) h =
-    let c = coded z a (and-left (isDigit a) true h) in
+    let c = coded z a (and-left (isDigitIn z a) true h) in
     let e : codeOf z a % 16 ≡ codeOf z a = omega arith in
     let f : codeOf z a / 16 ≡ 0 = omega arith in
     rw (e, f, c .code)
 halves-sound z i (a ∷ b ∷ ds) h =
-    let h′ = and-right (isDigit a) (isDigit b && every isDigit ds) h in
-    let c = coded z a (and-left (isDigit a) (isDigit b && every isDigit ds) h) in
-    let d = coded z b (and-left (isDigit b) (every isDigit ds) h′) in
+    let h′ = and-right (isDigitIn z a) (isDigitIn z b && every (isDigitIn z) ds) h in
+    let c = coded z a (and-left (isDigitIn z a) (isDigitIn z b && every (isDigitIn z) ds) h) in
+    let d = coded z b (and-left (isDigitIn z b) (every (isDigitIn z) ds) h′) in
     let e : (codeOf z a + 16 * codeOf z b) % 16 ≡ codeOf z a = omega arith in
     let f : (codeOf z a + 16 * codeOf z b) / 16 ≡ codeOf z b = omega arith in
-    rw (e, f, c .code, d .code) (halves-sound z (i + 1 + 1) ds (and-right (isDigit b) (every isDigit ds) h′))
+    rw (e, f, c .code, d .code) (halves-sound z (i + 1 + 1) ds (and-right (isDigitIn z b) (every (isDigitIn z) ds) h′))
 
 -- and are sound
-pub packed-sound : (z : Alphabet) (at : ℕ) (ds : List ℕ) → every isDigit ds ≡ true → digitsFault z (halvesFor ds) at (packed z ds) ≡ Sound
+pub packed-sound : (z : Alphabet) (at : ℕ) (ds : List ℕ) → every (isDigitIn z) ds ≡ true → digitsFault z (halvesFor ds) at (packed z ds) ≡ Sound
 unfolding digitsFault
 packed-sound z at ds h = halves-sound z (2 * at) ds h
 
 -- the octets are octets
-pub packed-octets : (z : Alphabet) (ds : List ℕ) → every isDigit ds ≡ true → every isOctet (packed z ds) ≡ true
+pub packed-octets : (z : Alphabet) (ds : List ℕ) → every (isDigitIn z) ds ≡ true → every isOctet (packed z ds) ≡ true
 unfolding packed joined
 packed-octets z [] h = refl
 packed-octets z (a ∷ []) h =
-    let c = coded z a (and-left (isDigit a) true h) in
+    let c = coded z a (and-left (isDigitIn z a) true h) in
     rw (lt-ltb (codeOf z a) 256 (omega arith))
 packed-octets z (a ∷ b ∷ ds) h =
-    let h′ = and-right (isDigit a) (isDigit b && every isDigit ds) h in
-    let c = coded z a (and-left (isDigit a) (isDigit b && every isDigit ds) h) in
-    let d = coded z b (and-left (isDigit b) (every isDigit ds) h′) in
-    rw (lt-ltb (codeOf z a + 16 * codeOf z b) 256 (omega arith)) (packed-octets z ds (and-right (isDigit b) (every isDigit ds) h′))
+    let h′ = and-right (isDigitIn z a) (isDigitIn z b && every (isDigitIn z) ds) h in
+    let c = coded z a (and-left (isDigitIn z a) (isDigitIn z b && every (isDigitIn z) ds) h) in
+    let d = coded z b (and-left (isDigitIn z b) (every (isDigitIn z) ds) h′) in
+    rw (lt-ltb (codeOf z a + 16 * codeOf z b) 256 (omega arith)) (packed-octets z ds (and-right (isDigitIn z b) (every (isDigitIn z) ds) h′))
 
 -- and so are the digits
 pub digits-octets : (ds : List ℕ) → every isDigit ds ≡ true → every isOctet ds ≡ true
@@ -160,7 +174,7 @@ digits-octets (d ∷ ds) h =
 -- they hold digits, and the digits pack to them
 pub record Unpacked (z : Alphabet) (n : HalfOctets) (s : List ℕ) : Type 0 where
   pub back : packed z (digitsOf z n s) ≡ s
-  pub digits : every isDigit (digitsOf z n s) ≡ true
+  pub digits : every (isDigitIn z) (digitsOf z n s) ≡ true
 
 halves-back : (z : Alphabet) (n i : ℕ) (s : List ℕ) → length s ≡ (n + 1) / 2 → halvesFault z n i (halves s) ≡ Sound
     → Unpacked z (record { 0 = n }) s

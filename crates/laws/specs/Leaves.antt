@@ -14,8 +14,8 @@ use Rattle.annex.specs.declared.Check.{Check}
 use Rattle.annex.specs.declared.Form.{Form}
 use Rattle.annex.specs.declared.Marks.the-variants.{Unmarked, Notified, Verified, Typed}
 use Rattle.annex.specs.declared.Form.the-variants.{Checked, Digits, Number, Calling, Generic}
-use Rattle.annex.specs.Digits.{packed}
-use Rattle.annex.specs.Contents.{presentationOf, numberFault, genericFault, faultBy, faultOf}
+use Rattle.annex.specs.Digits.{packed, numberFault}
+use Rattle.annex.specs.Contents.{presentationOf, genericFault, faultBy, faultOf}
 use Rattle.annex.specs.Items.{
   Item,
   holdingBy,

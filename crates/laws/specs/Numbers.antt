@@ -8,8 +8,9 @@ use lib.Dec.{eqb, leb, ltb}
 use lib.ListN.{length, getD, drop}
 use borrow.Author.Tests.{eqb-true, eqb-false, leb-true, le-leb, ltb-true, lt-ltb, le-ltb, eq-eqb, ne-eqb}
 use Rattle.annex.specs.Units.{octetsOf}
-use Rattle.annex.specs.Digits.{isDigit, halves, halvesFault, digitsFault, digitsOf, packed, halvesFor}
-use Rattle.annex.specs.Contents.{formed, formedThen, presentationOf, countOf, numberFault, callingFault}
+use Rattle.annex.specs.Digits.{isDigit, halves, halvesFault, digitsFault, digitsOf, packed, halvesFor, countOf, numberFaultIn, numberFault}
+use Rattle.annex.specs.Answers.{formed, formedThen}
+use Rattle.annex.specs.Contents.{presentationOf, callingFault}
 use Rattle.annex.specs.Items.{Item, numberItem, openBy, numberContents, ownFields}
 use Rattle.annex.specs.declared.Holding.the-variants.{AsNumber}
 use Rattle.annex.specs.Allowed.{every, isOctet, fieldsRight, withheldRight}
@@ -77,7 +78,7 @@ some-digit x zero b t = odd-none (eqb (x / 128) 1) refl t
 some-digit x (suc n) b t = omega arith
 
 pub number-open : (at : ℕ) (s : List ℕ) → every isOctet s ≡ true → numberFault at s ≡ Sound → NumberOpen s
-unfolding numberFault
+unfolding numberFaultIn
 number-open at [] o f = absurd (let z : _≡_ {A = ℕ} 0 1 = cc in omega arith)
 number-open at (x ∷ []) o f = absurd (let z : _≡_ {A = ℕ} 0 1 = cc in omega arith)
 number-open at (x ∷ y ∷ t) o f =
@@ -119,7 +120,7 @@ round-up : (n : ℕ) → (n + 1) / 2 ≡ n / 2 + n % 2
 round-up n = omega arith
 
 pub number-closed : (i : Item) (ds : List ℕ) → fieldsRight i ≡ true → every isDigit ds ≡ true → NumberClosed i ds
-unfolding numberFault
+unfolding numberFaultIn
 number-closed i ds r d =
     let f = right-fields i r in
     let n = length ds in
@@ -155,7 +156,7 @@ pub record CallingOpen (h : ℕ) (s : List ℕ) : Type 0 where
   pub withheld : cond (eqb (presentationOf s) 2) (withheldRight (openBy (AsNumber true) h s)) true ≡ true
 
 withheld-open : (h : ℕ) (s : List ℕ) → isWithheld s ≡ true → (numberFault 0 s ≡ Sound) × (withheldRight (openBy (AsNumber true) h s) ≡ true)
-unfolding numberFault digitsFault halves halvesFault digitsOf
+unfolding numberFaultIn digitsFault halves halvesFault digitsOf
 withheld-open h [] t = absurd (let z : _≡_ {A = ℕ} 0 1 = cc in omega arith)
 withheld-open h (x ∷ []) t = absurd (let z : _≡_ {A = ℕ} 0 1 = cc in omega arith)
 withheld-open h (x ∷ y ∷ []) t =

@@ -8,33 +8,16 @@ use mathlib.Core.Logic.{_⊎_, inl, inr}
 use borrow.Author.Tests.{ltb-false, eqb-true, eqb-false, not-true}
 use lib.Dec.{eqb, ltb}
 use lib.ListN.{length, getD, drop, length-drop}
-use Rattle.annex.specs.Answers.{bad-form, bad-digit, check-digit, readingAt}
+use Rattle.annex.specs.Answers.{bad-form, bad-digit, check-digit, readingAt, formedThen, formed, faultThen}
 use Rattle.annex.specs.Units.{countedBy}
 use Rattle.annex.specs.Heads.{clear, added-calling-number, withheld, zeroesOf, formOf}
 use Rattle.annex.specs.declared.Check.{Check}
 use Rattle.annex.specs.declared.Form.{Form}
 use Rattle.annex.specs.declared.Check.the-variants.{Nothing, Long, Two, Charging}
 use Rattle.annex.specs.declared.Form.the-variants.{Checked, Digits, Number, Calling, Generic}
-use Rattle.annex.specs.Digits.{halves, isCode, halvesFault, digitsFault}
+use Rattle.annex.specs.Digits.{halves, isCode, halvesFault, digitsFault, oddOf, countOf, numberFaultIn, numberFault}
 use Rattle.annex.specs.Rates.{isKind, isRight, drawnFor, kindIn, fieldOctets, drawnFault, checkRight}
-use Rattle.annex.specs.Contents.{
-  Rule,
-  formedThen,
-  formed,
-  faultThen,
-  oddOf,
-  presentationOf,
-  countOf,
-  numberFault,
-  callingFault,
-  genericFault,
-  dialledFault,
-  twoFault,
-  chargingFault,
-  checkFault,
-  faultBy,
-  faultOf,
-}
+use Rattle.annex.specs.Contents.{Rule, presentationOf, callingFault, genericFault, dialledFault, twoFault, chargingFault, checkFault, faultBy, faultOf}
 use Rattle.annex.specs.declared.HalfOctets.{HalfOctets}
 use Rattle.annex.specs.declared.Alphabet.{Alphabet}
 use Rattle.annex.specs.declared.Alphabet.the-variants.{Dialled, Numbered}
@@ -90,12 +73,12 @@ digits-within : (z : Alphabet) (n : HalfOctets) (at : ℕ) (s : List ℕ) (m : �
 unfolding digitsFault
 digits-within z n at s m l = halves-within z (n .0) (2 * at) (halves s) m (omega (arith, length-halves s))
 
-number-within : (at : ℕ) (s : List ℕ) (m : ℕ) → at + length s ≤ m → Within m (numberFault at s)
-unfolding numberFault
-number-within at s m l =
+number-within : (z : Alphabet) (at : ℕ) (s : List ℕ) (m : ℕ) → at + length s ≤ m → Within m (numberFaultIn z at s)
+unfolding numberFaultIn
+number-within z at s m l =
     formed-within m (not (ltb (length s) 2)) _
     (λ t. formed-within m (not (eqb (oddOf s) 1 && eqb (length s) 2)) _
-    (λ u. digits-within Numbered (countOf s) (at + 2) (drop 2 s) m
+    (λ u. digits-within z (countOf s) (at + 2) (drop 2 s) m
     (omega (arith, length-drop 2 s, ltb-false (length s) 2 (not-true (ltb (length s) 2) t)))))
 
 calling-within : (s : List ℕ) → Within (length s) (callingFault s)
@@ -103,14 +86,14 @@ unfolding callingFault
 calling-within s =
     let nothing = eqb (length s) 2 && (eqb (getD s 0 0) 0 && ltb (getD s 1 0) 16) in
     cond-within (length s) (eqb (presentationOf s) withheld) (formed nothing) (numberFault 0 s)
-    (formed-alone (length s) nothing) (number-within 0 s (length s) (omega arith))
+    (formed-alone (length s) nothing) (number-within Numbered 0 s (length s) (omega arith))
 
 generic-within : (s : List ℕ) → Within (length s) (genericFault s)
 unfolding genericFault
 generic-within s =
     formed-within (length s) (not (eqb (length s) 0)) _
     (λ t. cond-within (length s) (eqb (getD s 0 0) added-calling-number) (numberFault 1 (drop 1 s)) Sound
-    (number-within 1 (drop 1 s) (length s) (omega (arith, length-drop 1 s, eqb-false (length s) 0 (not-true (eqb (length s) 0) t))))
+    (number-within Numbered 1 (drop 1 s) (length s) (omega (arith, length-drop 1 s, eqb-false (length s) 0 (not-true (eqb (length s) 0) t))))
     (sound-within (length s)))
 
 dialled-within : (s : List ℕ) → Within (length s) (dialledFault s)
@@ -152,7 +135,7 @@ check-within Charging s = charging-within s
 by-within : (f : Form) (s : List ℕ) → Within (length s) (faultBy f s)
 by-within (Checked c) s = check-within c s
 by-within (Digits m) s = dialled-within s
-by-within Number s = number-within 0 s (length s) (omega arith)
+by-within Number s = number-within Numbered 0 s (length s) (omega arith)
 by-within Calling s = calling-within s
 by-within Generic s = generic-within s
 

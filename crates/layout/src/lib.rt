@@ -33,7 +33,7 @@ ghost use lib.Dec.{leb};
 ghost use lib.ListN.{length, getD};
 ghost use Rattle.annex.specs.Promises.{Gives, Keeps};
 ghost use Rattle.annex.specs.Units.{extentOf};
-ghost use Rattle.annex.specs.Contents.{formedThen};
+ghost use Rattle.annex.specs.Answers.{formedThen};
 ghost use Rattle.annex.specs.Items.{holdingBy, holdingOf, upperMarks, numberContents, contentsBy, contentsOf};
 ghost use Rattle.annex.specs.declared.Holding.the-variants.{AsDigits, AsGeneric};
 ghost use Rattle.annex.specs.Layout.{layoutItem};

@@ -4,7 +4,8 @@ use mathlib.Core.Path.{_≡_}
 use mathlib.Core.List.{List}
 use lib.ListN.{getD}
 use Rattle.annex.specs.Heads.{clear}
-use Rattle.annex.specs.Contents.{formedThen, faultBy, faultOf}
+use Rattle.annex.specs.Answers.{formedThen}
+use Rattle.annex.specs.Contents.{faultBy, faultOf}
 use Rattle.heads.specs.Asked.{Asks}
 use Rattle.heads.specs.declared.Asked.{Asked}
 

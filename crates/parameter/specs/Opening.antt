@@ -8,8 +8,7 @@ use borrow.Author.Tests.{not-true, not-false}
 use lib.ListN.{length, drop}
 use lib.Seq.{sets}
 use Rattle.annex.specs.Units.{halvesIn}
-use Rattle.annex.specs.Digits.{digitsOf}
-use Rattle.annex.specs.Contents.{countOf}
+use Rattle.annex.specs.Digits.{digitsOf, countOf}
 use Rattle.annex.specs.Items.{Item}
 use Rattle.annex.specs.Memory.{valuesFit}
 use Rattle.annex.specs.Records.{headOf, noTransfer}

@@ -1,5 +1,4 @@
 // What is wrong with the contents of one transfer parameter: the refusal's number, and the offset of the octet in the contents.
-use crate::counting::count_of;
 use annex::Alphabet;
 use annex::Answer;
 use annex::Check;
@@ -8,28 +7,15 @@ use annex::Form;
 use annex::HalfOctets;
 use annex::Transfer;
 use digits::judging::digits_fault;
+use digits::numbers::number_fault;
 use heads::head_of;
 use octets::octet_at;
-use octets::octets_from;
 use rates::judging::charging_fault;
 ghost use mathlib.Core.Path.{_≡_};
-ghost use Prim.Native.Nat.{_≤_};
-ghost use lib.ListN.{drop};
 ghost use Rattle.annex.specs.Promises.{Gives};
-ghost use Rattle.annex.specs.Answers.{soundThen, headerAt};
+ghost use Rattle.annex.specs.Answers.{soundThen, headerAt, formed as formedOf};
 ghost use Rattle.annex.specs.declared.Answer.the-variants.{Accepted};
-ghost use Rattle.annex.specs.Contents.{
-  formed as formedOf,
-  numberFault,
-  callingFault,
-  genericFault,
-  dialledFault,
-  twoFault,
-  checkFault,
-  faultBy,
-  faultUnder,
-  faultOf,
-};
+ghost use Rattle.annex.specs.Contents.{callingFault, genericFault, dialledFault, twoFault, checkFault, faultBy, faultUnder, faultOf};
 
 // Sound, or bad form.
 fn formed(good: bool) -> Fault
@@ -50,30 +36,13 @@ fn dialled_fault(s: &[u8]) -> Fault
     digits_fault(Alphabet::Dialled, count, s, 1)
 }
 
-// A number as in D7, which starts at the offset `at` of the contents.
-fn number_fault(s: &[u8], at: usize) -> Fault
-    requires { ⌜ at ≤ 1 ⌝ }
-    ensures { λ r. ⌜ r ≡ numberFault at (drop at (now (s .entry))) ⌝ }
-{
-    let number = octets_from(s, at);
-    let n = number.len();
-    if n < 2 {
-        return Fault::Bad(Answer::BAD_FORM, 0);
-    }
-    let odd = number[0] / 128;
-    if odd == 1 && n == 2 {
-        return Fault::Bad(Answer::BAD_FORM, 0);
-    }
-    digits_fault(Alphabet::Numbered, count_of(number), s, at + 2)
-}
-
 // DC: as D7, but with presentation 2 nothing is told.
 fn calling_fault(s: &[u8]) -> Fault
     ensures { λ r. ⌜ r ≡ callingFault (now (s .entry)) ⌝ }
 {
     let second = octet_at(s, 1);
     if second / 4 % 4 != Transfer::WITHHELD {
-        return number_fault(s, 0);
+        return number_fault(Alphabet::Numbered, s, 0);
     }
     if s.len() != 2 {
         return Fault::Bad(Answer::BAD_FORM, 0);
@@ -92,7 +61,7 @@ fn generic_fault(s: &[u8]) -> Fault
         return Fault::Bad(Answer::BAD_FORM, 0);
     }
     if s[0] == Transfer::ADDED_CALLING_NUMBER {
-        number_fault(s, 1)
+        number_fault(Alphabet::Numbered, s, 1)
     } else {
         Fault::Sound
     }
@@ -128,7 +97,7 @@ fn form_fault(form: Form, s: &[u8]) -> Fault
     match form {
         Form::Checked(check) => check_fault(check, s),
         Form::Digits(_) => dialled_fault(s),
-        Form::Number => number_fault(s, 0),
+        Form::Number => number_fault(Alphabet::Numbered, s, 0),
         Form::Calling => calling_fault(s),
         Form::Generic => generic_fault(s),
     }

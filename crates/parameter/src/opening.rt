@@ -1,11 +1,11 @@
 // Opening a transfer parameter: its contents become a head, and values stored in lent room.
-use crate::counting::count_of;
 use annex::Alphabet;
 use annex::Form;
 use annex::HalfOctets;
 use annex::Holding;
 use annex::Marks;
 use annex::Transfer;
+use digits::numbers::count_of;
 use digits::packing::digits_in;
 use digits::packing::has_room;
 use digits::packing::unpack_digits;

@@ -9,7 +9,7 @@ use borrow.Author.Tests.{eq-eqb, ne-eqb}
 use lib.Dec.{eqb}
 use lib.ListN.{length, getD, drop, replicate, length-drop, drop-of-length-le}
 use lib.Seq.{drop-cons}
-use Rattle.annex.specs.Answers.{bad-form, bad-digit, check-digit}
+use Rattle.annex.specs.Answers.{bad-form, bad-digit, check-digit, faultThen}
 use Rattle.annex.specs.Rates.{
   isKind,
   fieldsOf,
@@ -24,7 +24,7 @@ use Rattle.annex.specs.Rates.{
   total,
   checkRight,
 }
-use Rattle.annex.specs.Contents.{faultThen, chargingFault}
+use Rattle.annex.specs.Contents.{chargingFault}
 use Rattle.annex.specs.declared.Drawn.{Drawn}
 use Rattle.annex.specs.declared.Drawn.the-variants.{Character}
 use Rattle.annex.specs.declared.Fault.{Fault}

@@ -11,7 +11,7 @@ use borrow.Author.Tests.{eqb-true, eqb-false, eq-eqb, ne-eqb, leb-true, le-leb, 
 use lib.Dec.{eqb, leb}
 use lib.ListN.{length, getD, take, drop, replicate, length-replicate, length-drop, take-append-drop}
 use lib.Seq.{take-at, drop-at}
-use Rattle.annex.specs.Answers.{bad-digit, check-digit}
+use Rattle.annex.specs.Answers.{bad-digit, check-digit, faultThen}
 use Rattle.annex.specs.Digits.{zeroFrom, zeroTo}
 use Rattle.annex.specs.Rates.{
   kinds,
@@ -44,7 +44,7 @@ use Rattle.annex.specs.Rates.{
   Chargeable,
 }
 use Rattle.annex.specs.Heads.{clear, charging-information, zeroesOf, formOf}
-use Rattle.annex.specs.Contents.{faultThen, chargingFault, faultOf}
+use Rattle.annex.specs.Contents.{chargingFault, faultOf}
 use Rattle.annex.specs.Items.{Item}
 use Rattle.annex.specs.Allowed.{every, isOctet}
 use Rattle.annex.specs.declared.Alphabet.the-variants.{Dialled}

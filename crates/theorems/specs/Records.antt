@@ -30,7 +30,7 @@ use Rattle.annex.specs.Heads.{
 }
 use Rattle.annex.specs.Items.{Item, Part, contentsOf, contentsBy, heldAs, valuePart}
 use Rattle.annex.specs.declared.Holding.{Holding}
-use Rattle.annex.specs.Contents.{isSound}
+use Rattle.annex.specs.Answers.{isSound}
 use Rattle.annex.specs.declared.Holding.the-variants.{AsContents, AsDigits, AsNumber, AsGeneric}
 use Rattle.annex.specs.Digits.{codeOf, joined, packed}
 use Rattle.annex.specs.Layout.{layoutItem, layoutItems}

@@ -5,29 +5,7 @@ use mathlib.Core.Bool.{Bool, true, false, cond, not, _&&_, _||_}
 use mathlib.Core.List.{List, [], _∷_}
 use lib.Dec.{eqb, leb, ltb}
 use lib.ListN.{length, getD, take, drop}
-use Rattle.annex.specs.Answers.{
-  over-limits,
-  unlisted,
-  repeated,
-  cut-short,
-  not-allowed,
-  missing,
-  left-over,
-  unused-name,
-  other-pli,
-  repeated-name,
-  cut-contents,
-  bad-form,
-  transfer-over,
-  no-room,
-  absent,
-  refuse,
-  soundThen,
-  headerAt,
-  readingAt,
-  andThen,
-  shifted,
-}
+use Rattle.annex.specs.Answers.{over-limits, unlisted, repeated, cut-short, not-allowed, missing, left-over, unused-name, other-pli, repeated-name, cut-contents, bad-form, transfer-over, no-room, absent, refuse, soundThen, headerAt, readingAt, andThen, shifted, formedThen, faultThen}
 use Rattle.annex.specs.Units.{nameOf, afterOf, leadOf, extentOf, commonExtentOf, contentsIn}
 use Rattle.annex.specs.Heads.{
   among,
@@ -46,24 +24,9 @@ use Rattle.annex.specs.Heads.{
   zeroesOf,
   formOf,
 }
-use Rattle.annex.specs.Digits.{halves, isCode, isDigit, halvesFault, digitsFault}
+use Rattle.annex.specs.Digits.{halves, isCode, isDigit, halvesFault, digitsFault, countOf, oddOf, numberFaultIn, numberFault}
 use Rattle.annex.specs.Rates.{isKind, isRight, drawnFor, kindIn, fieldOctets, drawnFault, checkRight}
-use Rattle.annex.specs.Contents.{
-  formedThen,
-  faultThen,
-  presentationOf,
-  countOf,
-  oddOf,
-  numberFault,
-  callingFault,
-  genericFault,
-  dialledFault,
-  twoFault,
-  chargingFault,
-  checkFault,
-  faultBy,
-  faultOf,
-}
+use Rattle.annex.specs.Contents.{presentationOf, callingFault, genericFault, dialledFault, twoFault, chargingFault, checkFault, faultBy, faultOf}
 use Rattle.annex.specs.Items.{Item, Part, heldAs}
 use Rattle.annex.specs.Layout.{layoutItem, layoutItems, layoutPart, layout}
 use Rattle.annex.specs.Allowed.{
@@ -200,12 +163,12 @@ halves-told z n i [] = record {}
 halves-told z zero i (h ∷ hs) = one-of (eqb h 0) (halvesFault z zero (i + 1) hs) _ (halves-told z zero (i + 1) hs) (omega arith)
 halves-told z (suc n) i (h ∷ hs) = one-of (isCode z h) (halvesFault z n (i + 1) hs) _ (halves-told z n (i + 1) hs) (omega arith)
 
-number-told : (at : ℕ) (s : List ℕ) → FaultHasNumber (numberFault at s)
-unfolding numberFault digitsFault
-number-told at s =
+number-told : (z : Alphabet) (at : ℕ) (s : List ℕ) → FaultHasNumber (numberFaultIn z at s)
+unfolding numberFaultIn digitsFault
+number-told z at s =
     formed (not (ltb (length s) 2)) _
     (formed (not (eqb (oddOf s) 1 && eqb (length s) 2)) _
-    (halves-told Numbered (countOf s .0) _ (halves (drop 2 s))))
+    (halves-told z (countOf s .0) _ (halves (drop 2 s))))
 
 faulted : (f g : Fault) → FaultHasNumber f → FaultHasNumber g → FaultHasNumber (faultThen f g)
 faulted Sound g t u = u
@@ -231,13 +194,13 @@ form-told : (f : Form) (s : List ℕ) → FaultHasNumber (faultBy f s)
 unfolding dialledFault digitsFault callingFault genericFault
 form-told (Checked c) s = check-told c s
 form-told (Digits m) s = halves-told Dialled _ _ (halves (drop 1 s))
-form-told Number s = number-told 0 s
+form-told Number s = number-told Numbered 0 s
 form-told Calling s =
     one-of (eqb (presentationOf s) withheld) _ (numberFault 0 s)
-    (formed (eqb (length s) 2 && (eqb (getD s 0 0) 0 && ltb (getD s 1 0) 16)) Sound (record {})) (number-told 0 s)
+    (formed (eqb (length s) 2 && (eqb (getD s 0 0) 0 && ltb (getD s 1 0) 16)) Sound (record {})) (number-told Numbered 0 s)
 form-told Generic s =
     formed (not (eqb (length s) 0)) _
-    (one-of (eqb (getD s 0 0) added-calling-number) (numberFault 1 (drop 1 s)) Sound (number-told 1 (drop 1 s)) (record {}))
+    (one-of (eqb (getD s 0 0) added-calling-number) (numberFault 1 (drop 1 s)) Sound (number-told Numbered 1 (drop 1 s)) (record {}))
 
 fault-told : (h : ℕ) (s : List ℕ) → FaultHasNumber (faultOf h s)
 unfolding faultOf

@@ -7,8 +7,7 @@ use mathlib.Core.List.{List}
 use lib.ListN.{length, getD, drop, set, length-drop, length-set}
 use lib.Seq.{sets, drop-drop, getD-drop}
 use Rattle.annex.specs.Heads.{added-calling-number}
-use Rattle.annex.specs.Digits.{digitsOf}
-use Rattle.annex.specs.Contents.{countOf}
+use Rattle.annex.specs.Digits.{digitsOf, countOf}
 use Rattle.annex.specs.Items.{openBy}
 use Rattle.annex.specs.declared.HalfOctets.{HalfOctets}
 use Rattle.annex.specs.declared.Holding.the-variants.{AsGeneric}

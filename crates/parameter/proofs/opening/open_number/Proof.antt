@@ -6,8 +6,7 @@ use mathlib.Core.Bool.{false}
 use mathlib.Core.List.{List}
 use lib.ListN.{length, drop}
 use lib.Seq.{sets}
-use Rattle.annex.specs.Digits.{digitsOf}
-use Rattle.annex.specs.Contents.{countOf}
+use Rattle.annex.specs.Digits.{digitsOf, countOf}
 use Rattle.annex.specs.Items.{openBy}
 use Rattle.annex.specs.Memory.{valuesFit}
 use Rattle.annex.specs.Promises.{Stores}

@@ -8,8 +8,8 @@ use borrow.Author.Needs.{needs}
 use borrow.Author.Tests.{not-true, not-false, eq-eqb, ne-eqb}
 use lib.Dec.{eqb}
 use lib.ListN.{length}
-use Rattle.annex.specs.Answers.{check-digit}
-use Rattle.annex.specs.Contents.{faultThen, chargingFault}
+use Rattle.annex.specs.Answers.{check-digit, faultThen}
+use Rattle.annex.specs.Contents.{chargingFault}
 use Rattle.annex.specs.Rates.{kindIn, fieldOctets, numbersDrawn, total}
 use Rattle.annex.specs.declared.Fault.the-variants.{Sound, Bad}
 use Rattle.rates.specs.Asked.{askedOf, behind, not-listed, not-so-long, by-asked}

@@ -5,10 +5,10 @@ use mathlib.Core.Path.{_≡_, ap}
 use lib.ListN.{drop}
 use borrow.Author.Needs.{needs}
 use Rattle.annex.specs.Units.{halvesIn}
-use Rattle.annex.specs.Contents.{countOf}
+use Rattle.annex.specs.Digits.{countOf}
 use Rattle.annex.specs.declared.HalfOctets.{HalfOctets}
-use Rattle.parameter.proofs.counting.count_of.Statement.{statement}
-use Rattle.parameter.proofs.counting.count_of.Tie as tie
+use Rattle.digits.proofs.numbers.count_of.Statement.{statement}
+use Rattle.digits.proofs.numbers.count_of.Tie as tie
 
 held : (c : tie.After-of) → c .of .result .0 ≡ halvesIn (drop 2 (c .before .before .before .args .s .now)) .0
 held c = ap (λ (n : HalfOctets). n .0) (rw (c .before .octets-from .ensures) at (c .of .ensures))

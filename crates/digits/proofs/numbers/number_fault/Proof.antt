@@ -1,23 +1,24 @@
 -- `number_fault` meets its contract: its tests are those of the definition, in their order, and the digits are those behind two octets.
 use Prim.Native.Nat.{_+_}
+use native.Mathlib.Omega.{arith}
 use mathlib.Core.Path.{_≡_, ap, _∙_}
 use mathlib.Core.Bool.{false, _&&_}
 use mathlib.Core.Logic.{⊎-elim}
 use borrow.Author.Needs.{needs}
 use borrow.Author.Tests.{eq-eqb, ne-eqb, lt-ltb, le-ltb}
 use lib.Dec.{eqb}
-use lib.ListN.{length, drop}
+use lib.ListN.{length, drop, length-drop}
 use lib.Seq.{drop-drop}
-use Rattle.annex.specs.Contents.{oddOf, numberFault}
-use Rattle.parameter.proofs.contents.number_fault.Statement.{statement}
-use Rattle.parameter.proofs.contents.number_fault.Tie as tie
+use Rattle.annex.specs.Digits.{oddOf, numberFaultIn}
+use Rattle.digits.proofs.numbers.number_fault.Statement.{statement}
+use Rattle.digits.proofs.numbers.number_fault.Tie as tie
 
 returns : tie.Need-returns
-unfolding numberFault
+unfolding numberFaultIn
 returns c = rw (← c .before .octets-from .ensures, lt-ltb _ _ (c .if1 .taken))
 
 returns-2 : tie.Need-returns-2
-unfolding numberFault
+unfolding numberFaultIn
 returns-2 c =
     let t = c .before in
     let e = t .before .before in
@@ -30,8 +31,16 @@ digits-follow : (c : tie.Joined2) →
 digits-follow c =
     ⊎-elim (λ w. rw (eq-eqb _ _ (w .0 .taken)) (w .1 .left)) (λ w. rw (ne-eqb _ _ (w .left))) (c .if2 .came)
 
+-- two octets are there, so the place behind them is one of the slice
+add-digits-fault : tie.Need-add-digits-fault
+add-digits-fault c =
+    let e = c .before .before .before in
+    let o = e .before in
+    let a = o .before .before .args in
+    record { fits = omega (arith, e .if1 .left, ap length (o .octets-from .ensures), length-drop (a .at) (a .s .now)) }
+
 returns-3 : tie.Need-returns-3
-unfolding numberFault
+unfolding numberFaultIn
 returns-3 c =
     let j = c .before .before in
     let e = j .before .before in
@@ -51,6 +60,6 @@ number-fault-spec =
     (λ c. search needs)
     returns-2
     (λ c κs. search needs)
-    (λ c. search needs)
+    add-digits-fault
     (λ c κs. search needs)
     returns-3)
