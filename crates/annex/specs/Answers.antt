@@ -87,6 +87,11 @@ no-class-list = 17
 abbrev pub check-digit : ℕ
 check-digit = 18
 
+-- 19: a connection form or a header that is not in the tables, one that may not stand under the form, or one for the second time
+-- (document 02, request b)
+abbrev pub wrong-order : ℕ
+wrong-order = 19
+
 -- the number of an answer, 0 where accepted; its place, 0 where accepted; and the count that it gives, 0 where refused
 abbrev pub numberOf : Answer → ℕ
 numberOf (Accepted n) = 0

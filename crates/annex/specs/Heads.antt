@@ -7,7 +7,7 @@ use lib.Dec.{eqb}
 use lib.Bits.{bitAnd}
 use Rattle.annex.specs.Units.{pliOf, nameOf}
 use Rattle.annex.specs.declared.Marks.the-variants.{Unmarked, Notified, Verified, Typed}
-use Rattle.annex.specs.declared.Check.the-variants.{Nothing, Long, Two, Charging}
+use Rattle.annex.specs.declared.Check.the-variants.{Nothing, Long, Two, Charging, Order}
 use Rattle.annex.specs.declared.Form.{Form}
 use Rattle.annex.specs.declared.Form.the-variants.{Checked, Digits, Number, Calling, Generic}
 
@@ -72,6 +72,10 @@ withheld = 2
 -- Request a: F7
 abbrev pub charging-information : ℕ
 charging-information = 0xF7
+
+-- Request b: E0
+abbrev pub connection-order : ℕ
+connection-order = 0xE0
 
 -- the names, of six bits, and the limits of document 01
 abbrev pub name-count : ℕ
@@ -154,7 +158,7 @@ heads =
     row 0xDA 0x00 Generic ∷  -- generic number
     row 0xDB 0x00 (Checked (Two 0xFC)) ∷  -- second network function kind
     row 0xDC 0x00 Calling ∷  -- calling number
-    row 0xE0 0x00 carried ∷  -- connection order
+    row connection-order 0x00 (Checked Order) ∷  -- connection order
     row 0xE9 0x00 carried ∷  -- rejection control
     row 0xEA 0x00 carried ∷  -- signalling point number
     row 0xEB 0x00 carried ∷  -- reason

@@ -5,6 +5,7 @@ pub mod Units
 pub mod Heads
 pub mod Digits
 pub mod Rates
+pub mod Orders
 pub mod Contents
 pub mod Items
 pub mod Layout
@@ -19,10 +20,12 @@ pub mod Spans
 pub mod Editing
 pub mod Classes
 pub mod Charging
+pub mod Opened
 pub mod Packed
 pub mod Promises
 pub mod Bench
 pub mod Tariffs
+pub mod Circles
 -- And what the functions give that serve these: no rules of the documents, and no promise of the product rests on them.
 pub mod Walking
 pub mod Memory

@@ -22,6 +22,7 @@ use Rattle.annex.specs.Records.{view}
 use Rattle.annex.specs.Writing.{writingOf}
 use Rattle.annex.specs.Image.{twoOctets, imageOf, imagedOf}
 use Rattle.annex.specs.Spans.{rowsOf, spansOf}
+use Rattle.annex.specs.Opened.{orderRowsOf, orderAnswer}
 use Rattle.annex.specs.declared.Answer.{Answer}
 use Rattle.annex.specs.declared.Answer.the-variants.{Accepted, Refused}
 use Rattle.annex.specs.declared.ClassAnswer.{ClassAnswer}
@@ -94,3 +95,10 @@ octetsBy (Refused k p) octets table = table
 
 unfoldable pub octetTable : List ℕ → List ℕ → List ℕ
 octetTable m table = octetsBy (octetSpans m (length table)) (rowsOctets (rowsOf m)) table
+
+-- the same of its connection order
+abbrev pub octetOrder : List ℕ → ℕ → Answer
+octetOrder m room = orderAnswer m (room / row-octets)
+
+unfoldable pub octetOrderTable : List ℕ → List ℕ → List ℕ
+octetOrderTable m table = octetsBy (octetOrder m (length table)) (rowsOctets (orderRowsOf m)) table

@@ -14,6 +14,7 @@ use Rattle.annex.specs.Spans.{spansOf, tableOf}
 use Rattle.annex.specs.Editing.{Edit, editingOf, bufferOf}
 use Rattle.annex.specs.Classes.{classOf}
 use Rattle.annex.specs.Charging.{chargingOf, octetCharging, octetCharged}
+use Rattle.annex.specs.Opened.{orderAnswer, orderTable}
 use Rattle.annex.specs.Packed.{
   packedAnswer,
   packedStretch,
@@ -24,6 +25,8 @@ use Rattle.annex.specs.Packed.{
   imageWritten,
   octetSpans,
   octetTable,
+  octetOrder,
+  octetOrderTable,
 }
 use Rattle.annex.specs.Memory.{Request}
 use Rattle.annex.specs.declared.Answer.{Answer}
@@ -69,6 +72,18 @@ SpansPromise m table r now = (r ≡ spansOf m (length table)) × (now ≡ tableO
 -- rows::octets::octet_spans
 abbrev pub OctetSpansPromise : List ℕ → List ℕ → Answer → List ℕ → Type 0
 OctetSpansPromise m table r now = (r ≡ octetSpans m (length table)) × (now ≡ octetTable m table)
+
+-- rows::opened::check_order
+abbrev pub OrderCheckPromise : List ℕ → ℕ → Answer → Type 0
+OrderCheckPromise m room r = r ≡ orderAnswer m room
+
+-- rows::order
+abbrev pub OrderPromise : List ℕ → List Row → Answer → List Row → Type 0
+OrderPromise m table r now = (r ≡ orderAnswer m (length table)) × (now ≡ orderTable m table)
+
+-- rows::octets::octet_order
+abbrev pub OctetOrderPromise : List ℕ → List ℕ → Answer → List ℕ → Type 0
+OctetOrderPromise m table r now = (r ≡ octetOrder m (length table)) × (now ≡ octetOrderTable m table)
 
 -- writer::write
 abbrev pub WritePromise : Record → List ℕ → Answer → List ℕ → Type 0
@@ -137,6 +152,10 @@ TkClassPromise h x r = r ≡ packedClass (classOf h x)
 -- tk_charging
 abbrev pub TkChargingPromise : List ℕ → List ℕ → ℕ → List ℕ → Type 0
 TkChargingPromise m room r now = (r ≡ packedAnswer (octetCharging m (length room))) × (now ≡ octetCharged m room)
+
+-- tk_order
+abbrev pub TkOrderPromise : List ℕ → List ℕ → ℕ → List ℕ → Type 0
+TkOrderPromise m table r now = (r ≡ packedAnswer (octetOrder m (length table))) × (now ≡ octetOrderTable m table)
 
 -- tk_replace, tk_append, tk_remove
 abbrev pub TkEditPromise : Edit → List ℕ → ℕ → ℕ → List ℕ → Type 0

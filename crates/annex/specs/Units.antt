@@ -23,6 +23,10 @@ nameOf h = h % 64
 abbrev pub countedBy : ℕ → HalfOctets
 countedBy x = record { 0 = x % 64 }
 
+-- and a whole octet of count (request b, 91)
+abbrev pub wholeCount : ℕ → HalfOctets
+wholeCount x = record { 0 = x }
+
 -- the one conversion: two half-octets to an octet, an odd one taking an octet of its own
 abbrev pub octetsOf : HalfOctets → Octets
 octetsOf n = record { 0 = (n .0 + 1) / 2 }

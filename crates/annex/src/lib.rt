@@ -1,7 +1,8 @@
 // The types of document 01 and of document 02's requests, with the constants and constructors of the common, transfer and signal kinds.
 // What they mean is said in specs/, which a reader has to believe; docs/TRUST.md says what else.
 ghost use Rattle.annex.specs.Promises.{Gives};
-ghost use Rattle.annex.specs.Units.{countedBy, octetsOf, halvesIn};
+ghost use Rattle.annex.specs.Answers.{formed};
+ghost use Rattle.annex.specs.Units.{countedBy, wholeCount, octetsOf, halvesIn};
 ghost use Rattle.annex.specs.Records.{valueHead, dataHead, carriedHead, dialledHead, numberHead, noCommon, noTransfer};
 
 // What a call answers: accepted, with a count, or refused, with a number and a place.
@@ -47,12 +48,27 @@ impl Answer {
     pub const NO_CLASS_LIST: u8 = 17;
 
     pub const CHECK_DIGIT: u8 = 18;
+
+    pub const WRONG_ORDER: u8 = 19;
 }
 
 // What is wrong with contents: nothing, or the refusal's number and the offset of the octet in the contents.
 pub enum Fault {
     Sound,
     Bad(u8, usize),
+}
+
+impl Fault {
+    // Sound, or bad form.
+    pub fn formed(good: bool) -> Fault
+        ensures { λ r. ⌜ Gives (formed good) r ⌝ }
+    {
+        if good {
+            Fault::Sound
+        } else {
+            Fault::Bad(Answer::BAD_FORM, 0)
+        }
+    }
 }
 
 // A count of half-octets (PLI 10) and one of octets (PLI 11). They meet only through the conversion.
@@ -66,6 +82,13 @@ impl HalfOctets {
         ensures { λ r. ⌜ Gives (countedBy octet) r ⌝ }
     {
         HalfOctets((octet % 64) as usize)
+    }
+
+    // What a whole octet of count counts (91 of a connection order).
+    pub fn counted_whole(octet: u8) -> HalfOctets
+        ensures { λ r. ⌜ Gives (wholeCount octet) r ⌝ }
+    {
+        HalfOctets(octet as usize)
     }
 
     // What octets hold: two half-octets each.
@@ -96,8 +119,8 @@ pub enum Extent {
     Counted(CountingUnit),
 }
 
-// How half-octets stand for digits: zero is code 10 where digits are dialled (PLI 10), and code 0 in a number (D7); decimal digits are those
-// of a number with neither * nor #.
+// How half-octets stand for digits: zero is code 10 where digits are dialled (PLI 10), and code 0 in a number (D7); decimal digits are
+// those of a number with neither * nor #.
 pub enum Alphabet {
     Dialled,
     Numbered,
@@ -112,13 +135,14 @@ pub enum Marks {
     Typed,
 }
 
-// What is checked of contents that a record holds as they are: nothing more, so many octets, two octets, these bits of the second 0, or
-// charging information.
+// What is checked of contents that a record holds as they are: nothing more, so many octets, two octets, these bits of the second 0,
+// charging information, or a connection order.
 pub enum Check {
     Nothing,
     Long(u8),
     Two(u8),
     Charging,
+    Order,
 }
 
 // The forms of contents: held as they are, with a check; digits of PLI 10; a number as in D7, as in DC, as in DA.
@@ -594,6 +618,75 @@ impl Charges {
 pub enum ChargingAnswer {
     Is(Charges),
     Refused(u8, usize),
+}
+
+// How a parameter of a connection order is laid out behind its header: one octet; a length octet, which is 1, and one octet; one octet with
+// bit 7 set; a whole octet of count and digits; and behind a length octet a number, what controls an ARE, what controls its logic, or
+// guidance, which is carried; three figures.
+pub enum OrderLayout {
+    TrunkKind,
+    ReleaseKind,
+    RedirectReason,
+    SentDigits,
+    ForwardNumber,
+    AreControl,
+    AreLogic,
+    Guidance,
+    WaitingTime,
+}
+
+// A connection order.
+pub struct Order;
+
+impl Order {
+    // the headers of its parameters
+    pub const TRUNK: u8 = 0x41;
+
+    pub const RELEASE: u8 = 0x42;
+
+    pub const REDIRECTION: u8 = 0x43;
+
+    pub const SENT_DIGITS: u8 = 0x91;
+
+    pub const FORWARD_NUMBER: u8 = 0x92;
+
+    pub const CALLING_ARE: u8 = 0xC9;
+
+    pub const CALLED_ARE: u8 = 0xCA;
+
+    pub const CALLING_GUIDANCE: u8 = 0xCB;
+
+    pub const CALLED_ARE_LOGIC: u8 = 0xCC;
+
+    pub const WAITED_ARE: u8 = 0xCD;
+
+    pub const CALLED_GUIDANCE: u8 = 0xCE;
+
+    pub const WAITED_GUIDANCE: u8 = 0xCF;
+
+    pub const WAITING_TIME: u8 = 0xD2;
+
+    // how many these are
+    pub const HEADERS: usize = 13;
+
+    // the form, before the parameters
+    pub const HEAD: usize = 1;
+
+    // the code or the kind and the repeat count, before the characters or the key; and where the repeat count stands, and the most that it
+    // says
+    pub const REPEATED_HEAD: usize = 2;
+
+    pub const REPEATS_AT: usize = 1;
+
+    pub const MOST_REPEATS: u8 = 3;
+
+    // bit 7, which says that no octet of the redirection's reason follows
+    pub const LAST_OCTET: u8 = 0x80;
+
+    // beside the figures: between two parameters of an ARE, and behind them
+    pub const SEPARATOR: u8 = b';';
+
+    pub const ETX: u8 = 0x03;
 }
 
 // The class of a code value.

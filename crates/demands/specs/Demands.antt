@@ -9,10 +9,12 @@ use mathlib.Core.Bool.{Bool, true, false}
 use mathlib.Core.List.{List, [], _∷_, _++_}
 use mathlib.Core.Logic.{_↔_}
 use lib.ListN.{length, getD, take, drop}
-use Rattle.annex.specs.Answers.{numberOf, classNumberOf}
+use Rattle.annex.specs.Answers.{absent, numberOf, classNumberOf}
 use Rattle.annex.specs.Units.{nameOf}
-use Rattle.annex.specs.Heads.{among, end-mark, charging-information}
+use Rattle.annex.specs.Heads.{among, end-mark, charging-information, connection-order}
 use Rattle.annex.specs.Rates.{chargesOf, chargedContents, Chargeable}
+use Rattle.annex.specs.Orders.{OpenedOrder, layOrder, orderRight}
+use Rattle.annex.specs.Contents.{faultOf}
 use Rattle.annex.specs.Items.{Item, Part, contentsOf}
 use Rattle.annex.specs.Layout.{layout}
 use Rattle.annex.specs.Allowed.{every, timesIn, isOctet, itemsIn, namesOf, Allowed, Writable, headersOf}
@@ -21,7 +23,9 @@ use Rattle.annex.specs.Finding.{commonFound, transferFound, findAnswer}
 use Rattle.annex.specs.Editing.{Edit, edited, editingOf}
 use Rattle.annex.specs.Classes.{classOf}
 use Rattle.annex.specs.Charging.{octetCharging}
-use Rattle.annex.specs.Packed.{imageReading, imageWriting, octetSpans}
+use Rattle.annex.specs.Packed.{imageReading, imageWriting, octetSpans, octetOrder}
+use Rattle.annex.specs.Walking.{noRow}
+use Rattle.annex.specs.Opened.{formRow}
 use Rattle.annex.specs.Opening.{hasRoom, valuesWith}
 use Rattle.annex.specs.Promises.{
   ReadPromise,
@@ -31,6 +35,9 @@ use Rattle.annex.specs.Promises.{
   FindTransferAnswerPromise,
   SpansPromise,
   OctetSpansPromise,
+  OrderCheckPromise,
+  OrderPromise,
+  OctetOrderPromise,
   WritePromise,
   EditPromise,
   OctetChargingPromise,
@@ -43,6 +50,7 @@ use Rattle.annex.specs.Promises.{
   TkFindTransferPromise,
   TkClassPromise,
   TkChargingPromise,
+  TkOrderPromise,
   TkEditPromise,
   Gives,
   Stores,
@@ -59,14 +67,17 @@ use Rattle.annex.specs.declared.Charges.{Charges}
 use Rattle.annex.specs.declared.ChargingAnswer.{ChargingAnswer}
 use Rattle.annex.specs.declared.ChargingAnswer.the-variants as chargings
 use Rattle.annex.specs.declared.ClassAnswer.{ClassAnswer}
+use Rattle.annex.specs.declared.Fault.the-variants.{Sound}
 use Rattle.annex.specs.declared.Reading.{Reading}
 use Rattle.annex.specs.declared.Record.{Record}
 use Rattle.annex.specs.declared.Row.{Row}
+use Rattle.laws.specs.Members.{sumOf}
 use Rattle.theorems.specs.Views.{FitsStruct}
 use Rattle.theorems.specs.Reasons.{NoReason}
 use Rattle.theorems.specs.Edits.{OfOctets}
 use Rattle.theorems.specs.InPlace.{InPlace}
 use Rattle.theorems.specs.Listings.{partContents, partRows}
+use Rattle.theorems.specs.Ordered.{orderRows, octetsTold, stretchesOf, Following}
 use Rattle.tight.specs.Told.{HasNumber, ClassHasNumber, ChargingHasNumber}
 
 abbrev pub Octetwise : List ℕ → Type 0
@@ -121,12 +132,15 @@ pub record Demand1 : Type 0 where
   pub find-common : (m : List ℕ) (h : ℕ) → Answering (FindCommonAnswerPromise m h)
   pub find-transfer : (m : List ℕ) (x : ℕ) → Answering (FindTransferAnswerPromise m x)
   pub check : (m : List ℕ) (room : ℕ) → Answering (SpansCheckPromise m room)
+  pub check-order : (m : List ℕ) (room : ℕ) → Answering (OrderCheckPromise m room)
   pub record-refusal : (q : Record) → Answering (RecordRefusalPromise q)
   pub from-image : (image : List ℕ) → Answering (λ a. (q : Record) × FromImagePromise image (record { answer = a; held = q }))
   pub class : (h x : ℕ) (r s : ClassAnswer) → ClassPromise h x r → ClassPromise h x s → ClassHasNumber r × (r ≡ s)
   pub charging : (m : List ℕ) (r s : ChargingAnswer) → ChargingPromise m r → ChargingPromise m s → ChargingHasNumber r × (r ≡ s)
   pub spans : (m : List ℕ) (table : List Row) → Lending table (SpansPromise m table)
   pub octet-spans : (m table : List ℕ) → Lending table (OctetSpansPromise m table)
+  pub order : (m : List ℕ) (table : List Row) → Lending table (OrderPromise m table)
+  pub octet-order : (m table : List ℕ) → Lending table (OctetOrderPromise m table)
   pub write : (q : Record) (room : List ℕ) → Lending room (WritePromise q room)
   pub edit : (e : Edit) (d : List ℕ) (n : ℕ) → Lending d (EditPromise e d n)
   pub octet-charging : (m room : List ℕ) → Lending room (OctetChargingPromise m room)
@@ -139,6 +153,7 @@ pub record Demand1 : Type 0 where
   pub tk-find-transfer : (m : List ℕ) (x : ℕ) → PackedAnswering (numberOf (findAnswer m (transferFound x 0 m))) (TkFindTransferPromise m x)
   pub tk-class : (h x : ℕ) → PackedAnswering (classNumberOf (classOf h x)) (TkClassPromise h x)
   pub tk-charging : (m room : List ℕ) → PackedLending room (octetCharging m (length room)) (TkChargingPromise m room)
+  pub tk-order : (m table : List ℕ) → PackedLending table (octetOrder m (length table)) (TkOrderPromise m table)
   pub tk-edit : (e : Edit) (d : List ℕ) (n : ℕ) → PackedLending d (editingOf e d n) (TkEditPromise e d n)
   -- the functions that serve these: what does not fit is not stored
   pub stores : (fits : Bool) (stored before : List ℕ) (r : Bool) (now : List ℕ) → Stores fits stored before r now → r ≡ false → now ≡ before
@@ -204,6 +219,29 @@ pub record Demand2 : Type 0 where
       → (r : ChargingAnswer) → ChargingPromise (layout s) r → r ≡ chargings.Is c
   pub charging-there : (s : List Part) → Allowed s → (r : ChargingAnswer) → ChargingPromise (layout s) r
       → IsGiven r ↔ (0 < timesIn (nameOf charging-information) (namesOf (itemsIn s)))
+  -- And its connection order is told beside it (document 02, request b). Nothing is wrong with contents of E0 exactly if some order that
+  -- the tables allow lays out to them; there is one such order; and each E0 of the record has it.
+  pub order-contents : (t : List ℕ) → (faultOf connection-order t ≡ Sound) ↔ ((o : OpenedOrder) × (orderRight o ≡ true) × (layOrder o ≡ t))
+  pub one-order : (o q : OpenedOrder) → orderRight o ≡ true → orderRight q ≡ true → layOrder o ≡ layOrder q → o ≡ q
+  pub ordered : (s : List Part) → Allowed s → (front : List Item) (one : Item) (back : List Item) → itemsIn s ≡ front ++ (one ∷ back)
+      → one .header ≡ connection-order → (o : OpenedOrder) × (orderRight o ≡ true) × (layOrder o ≡ one .values)
+  -- The listing tells the order of the first E0, whose contents start where finding says: a row to its form and one to each of its
+  -- parameters, in a table that has room for so many. 16 is answered exactly if there is no E0.
+  pub order-listed : (s : List Part) → Allowed s → (front : List Item) (one : Item) (back : List Item) → itemsIn s ≡ front ++ (one ∷ back)
+      → one .header ≡ connection-order → timesIn (nameOf connection-order) (namesOf front) ≡ 0
+      → (o : OpenedOrder) → orderRight o ≡ true → layOrder o ≡ one .values
+      → (start : ℕ) → FindTransferAnswerPromise (layout s) (nameOf connection-order) (Accepted start)
+      → (table : List Row) → 1 + length (o .parameters) ≤ length table → (r : Answer) (now : List Row) → OrderPromise (layout s) table r now
+      → (r ≡ Accepted (1 + length (o .parameters))) × (now ≡ orderRows start o ++ drop (1 + length (o .parameters)) table)
+  pub order-there : (s : List Part) → Allowed s → (room : ℕ) (r : Answer) → OrderCheckPromise (layout s) room r
+      → (r ≡ Refused absent 0) ↔ (timesIn (nameOf connection-order) (namesOf (itemsIn s)) ≡ 0)
+  -- And its rows add up: the stretches of the message that they name, each behind the one before it, are the contents from end to end; and
+  -- the first is the form's, with no octets behind it.
+  pub order-rows : (m : List ℕ) → Octetwise m → (table : List Row) (n : ℕ) (now : List Row) → OrderPromise m table (Accepted n) now
+      → (part : List ℕ) → FindTransferPromise m (nameOf connection-order) part
+      → (start : ℕ) → FindTransferAnswerPromise m (nameOf connection-order) (Accepted start)
+      → (stretchesOf m (take n now) ≡ part) × Following start (take n now) × (sumOf octetsTold (take n now) ≡ length part)
+      × (getD (take n now) 0 noRow ≡ formRow start (getD part 0 0))
 
 -- ---- Demand 3
 

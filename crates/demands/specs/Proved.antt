@@ -2,16 +2,17 @@
 use Prim.Native.Nat.{ℕ, _+_, _≤_, _<_}
 use native.Mathlib.Omega.{arith}
 use mathlib.Core.Path.{_≡_, refl, sym, ap, _∙_}
-use mathlib.Core.Bool.{true}
+use mathlib.Core.Bool.{Bool, true, false}
 use mathlib.Core.List.{List, [], _∷_, _++_}
 use mathlib.Core.Logic.{_↔_}
 use borrow.Author.Tests.{ltb-true, ltb-false, le-ltb, lt-ltb, ne-eqb}
 use lib.Dec.{ltb}
-use lib.ListN.{length, take, drop}
-use lib.Seq.{take-append-seam}
-use Rattle.annex.specs.Answers.{absent, roomAfter, numberOf, classNumberOf}
+use lib.ListN.{length, getD, take, drop}
+use lib.Seq.{take-append-seam, take-at}
+use Rattle.annex.specs.Answers.{absent, no-room, refuse, roomAfter, numberOf, startOf, classNumberOf}
 use Rattle.annex.specs.Units.{nameOf}
 use Rattle.annex.specs.Rates.{chargesOf}
+use Rattle.annex.specs.Orders.{OpenedOrder, layOrder, orderRight}
 use Rattle.annex.specs.Items.{Item, Part}
 use Rattle.annex.specs.Layout.{layout}
 use Rattle.annex.specs.Allowed.{timesIn, itemsIn, namesOf, Allowed, Writable, headersOf}
@@ -19,7 +20,7 @@ use Rattle.annex.specs.Reading.{verdictOf, recordOf}
 use Rattle.annex.specs.Records.{pack, isWhole, view, readBy, readingOf}
 use Rattle.annex.specs.Writing.{structWriting, writingOf, writtenOf}
 use Rattle.annex.specs.Spans.{rowsOf, spansOf, tableOf, spansBy}
-use Rattle.annex.specs.Finding.{commonFound, transferFound, findAnswer, findPart}
+use Rattle.annex.specs.Finding.{commonFound, transferFound, foundAnswer, findAnswer, findPart}
 use Rattle.annex.specs.Editing.{Edit, edited, bufferOf}
 use Rattle.annex.specs.Packed.{
   packedAnswer,
@@ -30,9 +31,12 @@ use Rattle.annex.specs.Packed.{
   octetSpans,
   octetsBy,
   octetTable,
+  octetOrder,
+  octetOrderTable,
   packedLength,
   packedClass,
 }
+use Rattle.annex.specs.Opened.{formRow, orderListing, orderFound, orderRowsOf, orderAnswer, orderTable}
 use Rattle.annex.specs.Charging.{chargingFound, chargingBy, chargingOf, octetCharging, octetCharged}
 use Rattle.annex.specs.Promises.{
   ReadPromise,
@@ -41,7 +45,10 @@ use Rattle.annex.specs.Promises.{
   WritePromise,
   EditPromise,
   FindCommonAnswerPromise,
+  FindTransferPromise,
   ChargingPromise,
+  OrderCheckPromise,
+  OrderPromise,
 }
 use Rattle.annex.specs.declared.Answer.{Answer}
 use Rattle.annex.specs.declared.Answer.the-variants.{Accepted, Refused}
@@ -53,16 +60,29 @@ use Rattle.annex.specs.declared.Found.the-variants.{At, Nowhere}
 use Rattle.annex.specs.declared.Reading.{Reading}
 use Rattle.annex.specs.declared.Record.{Record}
 use Rattle.annex.specs.declared.Row.{Row}
-use Rattle.annex.specs.Heads.{among, end-mark, charging-information, formOf}
+use Rattle.annex.specs.Heads.{among, end-mark, charging-information, connection-order, formOf}
+use Rattle.annex.specs.Walking.{noRow}
 use Rattle.annex.specs.Classes.{classOf}
 use Rattle.annex.specs.declared.ClassAnswer.{ClassAnswer}
 use Rattle.annex.specs.declared.Imaged.{Imaged}
 use Rattle.laws.specs.Leaves.{as-they-are}
+use Rattle.laws.specs.Members.{sumOf}
 use Rattle.laws.specs.Steps.{passed, then-passed}
 use Rattle.theorems.specs.Charged.{item-charged, said-again}
-use Rattle.theorems.specs.Lists.{each-right, times-append, times-here}
-use Rattle.theorems.specs.Records.{allowed-within, allowed-items, names-append}
-use Rattle.theorems.specs.Transfers.{AllowedItem}
+use Rattle.theorems.specs.Ordered.{
+  says,
+  order-asked,
+  item-ordered,
+  orderRows,
+  order-listed,
+  order-counted,
+  octetsTold,
+  stretchesOf,
+  Following,
+  rows-add-up,
+}
+use Rattle.theorems.specs.Lists.{times-append, times-here}
+use Rattle.theorems.specs.Records.{allowed-within, item-allowed, names-append}
 use Rattle.theorems.specs.Messages.{read-then-laid}
 use Rattle.theorems.specs.Layouts.{laid-then-read}
 use Rattle.theorems.specs.Rounds.{same-record}
@@ -82,7 +102,7 @@ use Rattle.theorems.specs.Reasons.{editedIn, edit-taken, edit-accepts}
 use Rattle.theorems.specs.Edits.{OfOctets, edited-allowed}
 use Rattle.theorems.specs.Buffers.{buffer-edited, buffer-refused}
 use Rattle.theorems.specs.InPlace.{in-place}
-use Rattle.theorems.specs.Places.{isFound, name-there, common-is}
+use Rattle.theorems.specs.Places.{isFound, found-at, name-there, common-is}
 use Rattle.theorems.specs.Listings.{partRows, rows-of-record, rows-counted}
 use Rattle.theorems.specs.Finds.{transfer-contents, common-contents}
 use Rattle.tight.specs.Told.{
@@ -99,6 +119,7 @@ use Rattle.tight.specs.Told.{
   class-told,
   charging-told,
   octet-charging-told,
+  order-told,
 }
 use Rattle.tight.specs.Numbers.{read-answer}
 use Rattle.demands.specs.Demands.{
@@ -172,7 +193,7 @@ unfolding readingOf
 read-verdict m r p = ap (λ (x : Reading). x .answer) p ∙ read-answer (verdictOf m) (recordOf m)
 
 pub demand-1 : Demand1
-unfolding tableOf octetTable writtenOf bufferOf octetCharged imageRead imageWritten
+unfolding tableOf octetTable orderTable octetOrderTable writtenOf bufferOf octetCharged imageRead imageWritten
 demand-1 =
     record {
       verdict = λ m. answering (verdict-told m);
@@ -184,6 +205,7 @@ demand-1 =
       find-common = λ m h. answering (find-told m (commonFound h m));
       find-transfer = λ m x. answering (find-told m (transferFound x 0 m));
       check = λ m room. answering (spans-told m room);
+      check-order = λ m room. answering (order-told m room);
       record-refusal = λ q. answering (struct-told q);
       from-image = λ image.
           record {
@@ -194,6 +216,8 @@ demand-1 =
       charging = λ m r s p q. (rw p (charging-told m), p ∙ sym q);
       spans = λ m table. lending (spans-told m (length table)) (after-refusal (spansOf m (length table)) (rowsOf m) table);
       octet-spans = λ m table. lending (spans-told m _) (octets-kept (octetSpans m (length table)) _ table);
+      order = λ m table. lending (order-told m (length table)) (after-refusal (orderAnswer m (length table)) (orderRowsOf m) table);
+      octet-order = λ m table. lending (order-told m _) (octets-kept (octetOrder m (length table)) _ table);
       write = λ q room. lending (writing-told q (length room)) (after-refusal (writingOf q (length room)) _ room);
       edit = λ e d n. lending (editing-told e d n) (λ k q f. buffer-refused e d n k q f);
       octet-charging = λ m room. lending (octet-charging-told m (length room)) (after-refusal (octetCharging m (length room)) _ room);
@@ -208,6 +232,7 @@ demand-1 =
       tk-class = λ h x. packed-answering (class-number (classOf h x));
       tk-charging = λ m room.
           packed-lending (octet-charging-told m (length room)) (after-refusal (octetCharging m (length room)) _ room);
+      tk-order = λ m table. packed-lending (order-told m _) (octets-kept (octetOrder m (length table)) _ table);
       tk-edit = λ e d n. packed-lending (editing-told e d n) (λ k q f. buffer-refused e d n k q f);
       stores = λ fits stored before r now p f. rw f at (p .1);
       opens = λ i used before now p f. p ∙ rw f;
@@ -299,14 +324,16 @@ common-so s a h n r p =
     let w = found-so (layout s) (length (layout s)) (l .0) (commonFound h (layout s)) r p in
     (λ x. sym t ∙ w .0 x, λ x. w .1 (t ∙ x))
 
+-- a name is found exactly if some parameter has it
+name-so : (s : List Part) → Allowed s → (x : ℕ) → isFound (transferFound x 0 (layout s)) ≡ ltb 0 (timesIn x (namesOf (itemsIn s)))
+name-so s a x = let l = laid-then-read s a in rw (l .1) at (name-there x 0 (layout s) (l .2) (length (layout s)) (l .0))
+
 transfer-so : (s : List Part) → Allowed s → (x : ℕ) (r : Answer) → FindTransferAnswerPromise (layout s) x r
     → IsAccepted r ↔ (0 < timesIn x (namesOf (itemsIn s)))
 transfer-so s a x r p =
-    let l = laid-then-read s a in
     let times = timesIn x (namesOf (itemsIn s)) in
-    let t : isFound (transferFound x 0 (layout s)) ≡ ltb 0 times =
-    rw (l .1) at (name-there x 0 (layout s) (l .2) (length (layout s)) (l .0)) in
-    let w = found-so (layout s) (length (layout s)) (l .0) (transferFound x 0 (layout s)) r p in
+    let t = name-so s a x in
+    let w = found-so (layout s) (length (layout s)) (laid-then-read s a .0) (transferFound x 0 (layout s)) r p in
     (λ q. ltb-true 0 times (sym t ∙ w .0 q), λ q. w .1 (t ∙ lt-ltb 0 times q))
 
 -- charging information is given exactly if F7 is found
@@ -339,6 +366,68 @@ charged-first s a front one back w h b r p =
     let part = transfer-contents s a x 0 front one back w (ap nameOf h) b in
     let values = as-they-are Charging one (rw h) .contents in
     p ∙ rw (found, part, values)
+
+-- where contents start that were found
+starts-so : (m : List ℕ) (f : Found) (k : ℕ) → Accepted k ≡ findAnswer m f → startOf f ≡ k
+starts-so m f k p = found-at f k (then-passed (verdictOf m) (λ _. foundAnswer f) k (sym p) .2) .1
+
+order-listed-so : (s : List Part) → Allowed s → (front : List Item) (one : Item) (back : List Item) → itemsIn s ≡ front ++ (one ∷ back)
+    → one .header ≡ connection-order → timesIn (nameOf connection-order) (namesOf front) ≡ 0
+    → (o : OpenedOrder) → orderRight o ≡ true → layOrder o ≡ one .values
+    → (start : ℕ) → FindTransferAnswerPromise (layout s) (nameOf connection-order) (Accepted start)
+    → (table : List Row) → 1 + length (o .parameters) ≤ length table → (r : Answer) (now : List Row) → OrderPromise (layout s) table r now
+    → (r ≡ Accepted (1 + length (o .parameters))) × (now ≡ orderRows start o ++ drop (1 + length (o .parameters)) table)
+unfolding orderRowsOf orderAnswer orderTable
+order-listed-so s a front one back w h b o right e start at table l r now p =
+    let m = layout s in
+    let f = orderFound m in
+    let n = 1 + length (o .parameters) in
+    let i = item-allowed s a front one back w in
+    let part : findPart m f ≡ layOrder o =
+    transfer-contents s a (nameOf connection-order) 0 front one back w (ap nameOf h) b ∙ item-ordered one i h .0 ∙ sym e in
+    let rows : orderRowsOf m ≡ orderRows start o = ap (λ t. orderListing (startOf f) t) part ∙ order-listed o right (startOf f)
+    ∙ ap (λ k. orderRows k o) (starts-so m f start at) in
+    let count : length (orderRowsOf m) ≡ n = rw rows (order-counted start o) in
+    let given : orderAnswer m (length table) ≡ Accepted n = rw (sym at, count, le-ltb (length table) n l) in
+    (p .0 ∙ given, p .1 ∙ rw (given, rows))
+
+-- with E0 found, no answer is 16
+room-alone : (b : Bool) (n : ℕ) → refuse b no-room 0 (Accepted n) ≡ Refused absent 0 → ⊥
+room-alone true n e = let z : _≡_ {A = ℕ} 15 16 = ap numberOf e in omega arith
+room-alone false n e = let z : _≡_ {A = ℕ} 0 16 = ap numberOf e in omega arith
+
+order-there-so : (s : List Part) → Allowed s → (room : ℕ) (r : Answer) → OrderCheckPromise (layout s) room r
+    → (r ≡ Refused absent 0) ↔ (timesIn (nameOf connection-order) (namesOf (itemsIn s)) ≡ 0)
+unfolding orderAnswer
+order-there-so s a room r p = go (orderFound m) refl (name-so s a (nameOf connection-order))
+  where
+    m : List ℕ
+    m = layout s
+
+    times : ℕ
+    times = timesIn (nameOf connection-order) (namesOf (itemsIn s))
+
+    go : (f : Found) → orderFound m ≡ f → isFound (orderFound m) ≡ ltb 0 times → (r ≡ Refused absent 0) ↔ (times ≡ 0)
+    go (At b c) e t =
+        let some = ltb-true 0 times (sym (rw e at t)) in
+        let n = length (orderRowsOf m) in
+        let q : r ≡ refuse (ltb room n) no-room 0 (Accepted n) = p ∙ rw (laid-then-read s a .0, e) in
+        (λ w. absurd (room-alone (ltb room n) n (sym q ∙ w)), λ w. absurd (omega arith))
+    go Nowhere e t =
+        let none = ltb-false 0 times (sym (rw e at t)) in
+        (λ w. omega arith, λ w. p ∙ rw (laid-then-read s a .0, e))
+
+order-rows-so : (m : List ℕ) → Octetwise m → (table : List Row) (n : ℕ) (now : List Row) → OrderPromise m table (Accepted n) now
+    → (part : List ℕ) → FindTransferPromise m (nameOf connection-order) part
+    → (start : ℕ) → FindTransferAnswerPromise m (nameOf connection-order) (Accepted start)
+    → (stretchesOf m (take n now) ≡ part) × Following start (take n now) × (sumOf octetsTold (take n now) ≡ length part)
+    × (getD (take n now) 0 noRow ≡ formRow start (getD part 0 0))
+unfolding orderTable
+order-rows-so m o table n now p part q start at =
+    let d = rows-add-up m o (length table) n (sym (p .0)) in
+    let held : now ≡ orderRowsOf m ++ drop n table = p .1 ∙ rw (sym (p .0)) in
+    let rows : take n now ≡ orderRowsOf m = rw held (take-at (orderRowsOf m) (drop n table) n (sym (d .count))) in
+    rw (rows, q, ← starts-so m (orderFound m) start at) (d .stretches, d .follow, d .sum, d .first)
 
 allowed-so : (s : List Part) → Writable s → (room : List ℕ) → length (layout s) ≤ length room
     → (w : Answer) (now : List ℕ) → WritePromise (pack s) room w now
@@ -374,12 +463,20 @@ demand-2 =
       common-empty = λ m h k p a part q. q ∙ empty-so m (commonFound h m) k p a;
       transfer-empty = λ m x k p a part q. q ∙ empty-so m (transferFound x 0 m) k p a;
       charged = λ s a front one back w h b r p.
-          let i = each-right AllowedItem front (one ∷ back) (rw w at (allowed-items s a .each)) .0 in
+          let i = item-allowed s a front one back w in
           let d = item-charged one i h in
           (charged-first s a front one back w h b r p, d .0, d .1);
       charged-so = λ s a front one back w h b x l c k e r p.
           charged-first s a front one back w h b r p ∙ ap (λ t. chargings.Is (chargesOf t)) e ∙ ap chargings.Is (said-again x l c k .1);
       charging-there = charging-so;
+      order-contents = λ t. rw (order-asked t) (says t .sound);
+      one-order = λ o q r t e. sym (says (layOrder q) .only o r e) ∙ says (layOrder q) .only q t refl;
+      ordered = λ s a front one back w h.
+          let i = item-allowed s a front one back w in
+          says (one .values) .sound .0 (item-ordered one i h .1);
+      order-listed = order-listed-so;
+      order-there = order-there-so;
+      order-rows = order-rows-so;
     }
 
 edited-so : (s : List Part) → Allowed s → (e : Edit) → OfOctets e → (d : List ℕ) → Octetwise d → (n : ℕ) → take n d ≡ layout s

@@ -93,7 +93,7 @@ fn counted_octets(header: u8) -> Asked
         Transfer::GENERIC_NUMBER => listed(0x00, Form::Generic),
         Transfer::SECOND_FUNCTION => listed(0x00, Form::Checked(Check::Two(0xFC))),
         Transfer::CALLING_NUMBER => listed(0x00, Form::Calling),
-        Transfer::CONNECTION_ORDER => listed(0x00, carried),
+        Transfer::CONNECTION_ORDER => listed(0x00, Form::Checked(Check::Order)),
         Transfer::REJECTION_CONTROL => listed(0x00, carried),
         Transfer::SIGNALLING_POINT => listed(0x00, carried),
         Transfer::REASON => listed(0x00, carried),

@@ -8,7 +8,8 @@ use borrow.Author.Tests.{eqb-true, eqb-false}
 use lib.Dec.{T, eqb}
 use Rattle.laws.specs.Octet.{None, amongAny, not-any}
 
-abbrev below : ℕ → List ℕ
+-- the numbers below n, the last first
+abbrev pub below : ℕ → List ℕ
 below zero = []
 below (suc n) = n ∷ below n
 

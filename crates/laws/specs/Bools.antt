@@ -1,9 +1,10 @@
 -- Laws of tests.
-use mathlib.Core.Path.{_≡_, refl}
+use mathlib.Core.Path.{_≡_, refl, sym}
 use mathlib.Core.Bool.{Bool, true, false, not, _&&_, _||_}
 use Prim.Native.Nat.{ℕ}
 use native.Mathlib.Omega.{arith}
-use lib.Dec.{T}
+use borrow.Author.Tests.{eqb-true, eqb-false, eq-eqb, ne-eqb}
+use lib.Dec.{T, eqb}
 
 pub T-true : (b : Bool) → T b → b ≡ true
 T-true true t = refl
@@ -43,3 +44,11 @@ same→eq true true t = refl
 same→eq true false t = absurd t
 same→eq false true t = absurd t
 same→eq false false t = refl
+
+-- whether two numbers are equal, whichever way it is asked
+pub same-turned : (x y : ℕ) → eqb x y ≡ eqb y x
+same-turned x y = go (eqb y x) refl
+  where
+    go : (b : Bool) → eqb y x ≡ b → eqb x y ≡ b
+    go true e = eq-eqb x y (sym (eqb-true y x e))
+    go false e = ne-eqb x y (λ q. eqb-false y x e (sym q))

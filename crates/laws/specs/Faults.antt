@@ -4,7 +4,7 @@ use mathlib.Core.Bool.{Bool, true, false, cond}
 use mathlib.Core.List.{List}
 use Prim.Native.Nat.{ℕ}
 use native.Mathlib.Omega.{arith}
-use Rattle.annex.specs.Answers.{bad-digit, formed, formedThen, isSound}
+use Rattle.annex.specs.Answers.{bad-digit, formed, formedThen, faultThen, isSound}
 use Rattle.annex.specs.Digits.{isDigit}
 use Rattle.annex.specs.Allowed.{every, valuesFault}
 use Rattle.annex.specs.declared.Fault.{Fault}
@@ -20,6 +20,10 @@ then-sound false f e = absurd (let z : _≡_ {A = ℕ} 0 1 = cc in omega arith)
 
 pub formed-sound : (b : Bool) → formed b ≡ Sound → b ≡ true
 formed-sound b e = then-sound b Sound e .0
+
+pub then-both : (f g : Fault) → faultThen f g ≡ Sound → (f ≡ Sound) × (g ≡ Sound)
+then-both Sound g e = (refl, e)
+then-both (Bad k i) g e = absurd (let z : _≡_ {A = ℕ} 0 1 = cc in omega arith)
 
 -- digits and numbers: the fields and then the values
 pub values-sound : (b : Bool) (ds : List ℕ) → b ≡ true → every isDigit ds ≡ true → formedThen b (valuesFault ds) ≡ Sound

@@ -17,6 +17,9 @@ use Rattle.annex.specs.Spans.{transferRows, innerRows, commonRows, rowsOf, comm
 use Rattle.annex.specs.declared.Answer.{Answer}
 use Rattle.annex.specs.declared.Answer.the-variants.{Accepted, Refused}
 use Rattle.annex.specs.Contents.{faultOf}
+use Rattle.annex.specs.Orders.{orderSize}
+use Rattle.annex.specs.Opened.{parameterRow, orderListing}
+use Rattle.annex.specs.Walking.{Size, parOf, pars}
 use Rattle.laws.specs.Members.{among-every, sumOf, count}
 use Rattle.laws.specs.Often.{often-sum}
 use Rattle.laws.specs.Steps.{transfer-taken, common-taken}
@@ -134,3 +137,23 @@ length-rows (q ∷ qs) = rw (length-append (innerRows q) (commonRows qs)) (omega
 pub rows-few : (m : List ℕ) → length (rowsOf m) ≤ most-rows
 unfolding rowsBy commonsBy commonAllows allowance
 rows-few m = omega (arith, length-rows (commonsOf m), spent commonAllows commonStep rowsIn common-spends m unseen 0 0 refl)
+
+-- ---- a connection order
+
+-- a parameter has its header at least, so that there are no more of them than octets
+pars-few : (size : Size) (k p : ℕ) (xs : List ℕ) → length (pars size k p xs) ≤ length xs
+unfolding pars
+pars-few size k p [] = omega arith
+pars-few size (suc k) p (x ∷ xs) = omega (arith, pars-few size k (p + 1) xs)
+pars-few size zero p (x ∷ xs) = go (leb (size x xs) (length xs)) (pars-few size (size x xs) (p + 1) xs)
+  where
+    go : (b : Bool) → length (pars size (size x xs) (p + 1) xs) ≤ length xs
+        → length (cond b (parOf p x (size x xs) xs ∷ pars size (size x xs) (p + 1) xs) []) ≤ suc (length xs)
+    go true h = omega arith
+    go false h = omega arith
+
+-- nor are there more rows
+pub order-few : (p : ℕ) (s : List ℕ) → length (orderListing p s) ≤ length s
+unfolding orderListing
+order-few p [] = omega arith
+order-few p (form ∷ xs) = omega (arith, length-map (pars orderSize 0 1 xs) (parameterRow p), pars-few orderSize 0 1 xs)

@@ -128,7 +128,8 @@ packed-back z (a ∷ b ∷ ds) h =
     let f : (codeOf z a + 16 * codeOf z b) / 16 ≡ codeOf z b = omega arith in
     rw (e, f, c .back, d .back) (ap (λ l. a ∷ b ∷ l) (packed-back z ds (and-right (isDigitIn z b) (every (isDigitIn z) ds) h′)))
 
-halves-sound : (z : Alphabet) (i : ℕ) (ds : List ℕ) → every (isDigitIn z) ds ≡ true → halvesFault z (length ds) i (halves (packed z ds)) ≡ Sound
+halves-sound : (z : Alphabet) (i : ℕ) (ds : List ℕ) → every (isDigitIn z) ds ≡ true
+    → halvesFault z (length ds) i (halves (packed z ds)) ≡ Sound
 unfolding halvesFault packed joined halves
 halves-sound z i [] h = refl
 halves-sound z i (a ∷ []) h =
@@ -145,7 +146,8 @@ halves-sound z i (a ∷ b ∷ ds) h =
     rw (e, f, c .code, d .code) (halves-sound z (i + 1 + 1) ds (and-right (isDigitIn z b) (every (isDigitIn z) ds) h′))
 
 -- and are sound
-pub packed-sound : (z : Alphabet) (at : ℕ) (ds : List ℕ) → every (isDigitIn z) ds ≡ true → digitsFault z (halvesFor ds) at (packed z ds) ≡ Sound
+pub packed-sound : (z : Alphabet) (at : ℕ) (ds : List ℕ) → every (isDigitIn z) ds ≡ true
+    → digitsFault z (halvesFor ds) at (packed z ds) ≡ Sound
 unfolding digitsFault
 packed-sound z at ds h = halves-sound z (2 * at) ds h
 
@@ -160,7 +162,8 @@ packed-octets z (a ∷ b ∷ ds) h =
     let h′ = and-right (isDigitIn z a) (isDigitIn z b && every (isDigitIn z) ds) h in
     let c = coded z a (and-left (isDigitIn z a) (isDigitIn z b && every (isDigitIn z) ds) h) in
     let d = coded z b (and-left (isDigitIn z b) (every (isDigitIn z) ds) h′) in
-    rw (lt-ltb (codeOf z a + 16 * codeOf z b) 256 (omega arith)) (packed-octets z ds (and-right (isDigitIn z b) (every (isDigitIn z) ds) h′))
+    rw (lt-ltb (codeOf z a + 16 * codeOf z b) 256 (omega arith))
+    (packed-octets z ds (and-right (isDigitIn z b) (every (isDigitIn z) ds) h′))
 
 -- and so are the digits
 pub digits-octets : (ds : List ℕ) → every isDigit ds ≡ true → every isOctet ds ≡ true

@@ -19,6 +19,7 @@ pub mod Headers
 pub mod Counted
 pub mod Numbers
 pub mod Drawings
+pub mod Orders
 pub mod Leaves
 pub mod Offsets
 pub mod Laid

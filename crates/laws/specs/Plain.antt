@@ -70,7 +70,7 @@ module _ (size : Size) where
   unfolding pars
   pars-cut p i t h l = rw (drop-cons t i 0, ← add-one i, lt-leb _ _ l)
 
-  pars-head : (p x n : ℕ) (xs : List ℕ) → n ≡ size x xs → n ≤ length xs
+  pub pars-head : (p x n : ℕ) (xs : List ℕ) → n ≡ size x xs → n ≤ length xs
       → pars size 0 p (x ∷ xs) ≡ parOf p x n xs ∷ pars size 0 (p + 1 + n) (drop n xs)
   unfolding pars
   pars-head p x n xs e l =

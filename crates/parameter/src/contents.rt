@@ -10,23 +10,13 @@ use digits::judging::digits_fault;
 use digits::numbers::number_fault;
 use heads::head_of;
 use octets::octet_at;
+use orders::judging::order_fault;
 use rates::judging::charging_fault;
 ghost use mathlib.Core.Path.{_≡_};
 ghost use Rattle.annex.specs.Promises.{Gives};
-ghost use Rattle.annex.specs.Answers.{soundThen, headerAt, formed as formedOf};
+ghost use Rattle.annex.specs.Answers.{soundThen, headerAt};
 ghost use Rattle.annex.specs.declared.Answer.the-variants.{Accepted};
 ghost use Rattle.annex.specs.Contents.{callingFault, genericFault, dialledFault, twoFault, checkFault, faultBy, faultUnder, faultOf};
-
-// Sound, or bad form.
-fn formed(good: bool) -> Fault
-    ensures { λ r. ⌜ r ≡ formedOf good ⌝ }
-{
-    if good {
-        Fault::Sound
-    } else {
-        Fault::Bad(Answer::BAD_FORM, 0)
-    }
-}
 
 // PLI 10: the count octet, then its digits.
 fn dialled_fault(s: &[u8]) -> Fault
@@ -50,7 +40,7 @@ fn calling_fault(s: &[u8]) -> Fault
     if s[0] != 0 {
         return Fault::Bad(Answer::BAD_FORM, 0);
     }
-    formed(second < 16)
+    Fault::formed(second < 16)
 }
 
 // DA: 06 and then a number, or anything else but nothing.
@@ -75,7 +65,7 @@ fn two_fault(mask: u8, s: &[u8]) -> Fault
         return Fault::Bad(Answer::BAD_FORM, 0);
     }
     let second = s[1];
-    formed(second & mask == 0)
+    Fault::formed(second & mask == 0)
 }
 
 // What a check finds wrong with contents that are held as they are.
@@ -84,9 +74,10 @@ fn check_fault(check: Check, s: &[u8]) -> Fault
 {
     match check {
         Check::Nothing => Fault::Sound,
-        Check::Long(n) => formed(s.len() == n as usize),
+        Check::Long(n) => Fault::formed(s.len() == n as usize),
         Check::Two(mask) => two_fault(mask, s),
         Check::Charging => charging_fault(s),
+        Check::Order => order_fault(s),
     }
 }
 

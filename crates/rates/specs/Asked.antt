@@ -1,6 +1,5 @@
 -- What a kind asks, as the code looks it up, and the octets behind the kind as the code goes over them: the first one, and then characters.
 use Prim.Native.Nat.{ℕ, zero, suc, _+_, _-_, _*_, _%_, _≤_, _<_}
-use native.Mathlib.Numerals.{add-one}
 use native.Mathlib.Omega.{arith}
 use mathlib.Core.Path.{_≡_, refl, sym, ap, _∙_}
 use mathlib.Core.Bool.{Bool, true, false, cond, _&&_}
@@ -24,6 +23,7 @@ use Rattle.annex.specs.Rates.{
   total,
   checkRight,
 }
+use Rattle.annex.specs.Orders.{outsideFault}
 use Rattle.annex.specs.Contents.{chargingFault}
 use Rattle.annex.specs.declared.Drawn.{Drawn}
 use Rattle.annex.specs.declared.Drawn.the-variants.{Character}
@@ -31,6 +31,8 @@ use Rattle.annex.specs.declared.Fault.{Fault}
 use Rattle.annex.specs.declared.Fault.the-variants.{Sound, Bad}
 use Rattle.annex.specs.declared.Field.the-variants.{CheckDigit}
 use Rattle.laws.specs.Below.{same-below}
+use Rattle.laws.specs.Parts.{octet-next}
+use Rattle.digits.specs.Characters.{knownFault}
 use Rattle.rates.specs.declared.drawing.Asked.{Asked}
 
 -- a kind of the list
@@ -72,24 +74,22 @@ charactersFault at xs = drawnFault at (replicate (length xs) Character) xs
 abbrev pub charactersSum : List ℕ → ℕ
 charactersSum xs = total (numbersDrawn (replicate (length xs) Character) xs)
 
-pub octet-next : (s : List ℕ) (i : ℕ) → i < length s → drop i s ≡ getD s i 0 ∷ drop (i + 1) s
-octet-next s i h = rw (add-one i) (drop-cons s i 0 h)
+-- as any characters are gone over
+pub characters-known : (at : ℕ) (xs : List ℕ) → charactersFault at xs ≡ knownFault false at xs
+unfolding drawnFault outsideFault
+characters-known at [] = refl
+characters-known at (x ∷ xs) =
+    ap (λ (f : Fault). cond (isRight Character x) f (Bad bad-digit at)) (characters-known (at + 1) xs)
 
 -- one of them, and those behind it
-pub characters-more : (s : List ℕ) (i : ℕ) → i < length s
-    → charactersFault i (drop i s)
-    ≡ cond (isRight Character (getD s i 0)) (charactersFault (i + 1) (drop (i + 1) s)) (Bad bad-digit i)
-unfolding drawnFault
-characters-more s i h = ap (charactersFault i) (octet-next s i h)
-
 pub sum-more : (s : List ℕ) (i : ℕ) → i < length s → charactersSum (drop i s) ≡ getD s i 0 % 16 + charactersSum (drop (i + 1) s)
 unfolding numbersDrawn
 sum-more s i h = ap charactersSum (octet-next s i h)
 
 -- past the last there is none
-pub characters-none : (s : List ℕ) (i : ℕ) → length s ≤ i → (charactersFault i (drop i s) ≡ Sound) × (charactersSum (drop i s) ≡ 0)
-unfolding drawnFault numbersDrawn
-characters-none s i h = (rw (drop-of-length-le s {i = i} h), rw (drop-of-length-le s {i = i} h))
+pub sum-none : (s : List ℕ) (i : ℕ) → length s ≤ i → charactersSum (drop i s) ≡ 0
+unfolding numbersDrawn
+sum-none s i h = rw (drop-of-length-le s {i = i} h)
 
 total-append : (xs ys : List ℕ) → total (xs ++ ys) ≡ total xs + total ys
 total-append [] ys = omega arith

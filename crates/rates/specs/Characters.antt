@@ -7,7 +7,7 @@ use mathlib.Core.List.{List, []}
 use lib.ListN.{length, getD, drop, replicate, drop-of-length-le}
 use Rattle.annex.specs.Rates.{numbersDrawn, decimal}
 use Rattle.annex.specs.declared.Drawn.the-variants.{Character}
-use Rattle.rates.specs.Asked.{octet-next}
+use Rattle.laws.specs.Parts.{octet-next}
 
 -- n with w characters behind it
 abbrev pub charactersAfter : ℕ → ℕ → List ℕ → ℕ

@@ -1,12 +1,12 @@
 // How the octets of charging information are drawn: what a kind asks of them, what one may be, and which numbers it holds.
 use annex::Charges;
 use annex::Drawn;
+use digits::characters::is_figure;
 ghost use mathlib.Core.Path.{_≡_};
 ghost use Rattle.annex.specs.Promises.{Gives};
 ghost use Rattle.annex.specs.Digits.{zeroFrom};
 ghost use Rattle.annex.specs.Rates.{isMbiCode, isRight, numbersIn, total, decimal};
 ghost use Rattle.annex.specs.declared.Alphabet.the-variants.{Dialled};
-ghost use Rattle.annex.specs.declared.Drawn.the-variants.{Character};
 ghost use Rattle.rates.specs.Asked.{asking, askedOf};
 
 // What a kind asks of the octets behind it: how many there are, how the first of them is drawn (all others are characters), and whether a
@@ -68,16 +68,6 @@ fn mbi_digit(code: u8) -> u8
     if code == 10 { 0 } else { code }
 }
 
-// Whether an IA5 character is one of 0 to 9.
-fn is_character(octet: u8) -> bool
-    ensures { λ r. ⌜ r ≡ isRight Character octet ⌝ }
-{
-    if octet < b'0' {
-        return false;
-    }
-    octet <= b'9'
-}
-
 // Whether an octet may be drawn so.
 pub fn is_right(drawn: Drawn, octet: u8) -> bool
     ensures { λ r. ⌜ Gives (isRight drawn octet) r ⌝ }
@@ -90,7 +80,7 @@ pub fn is_right(drawn: Drawn, octet: u8) -> bool
             }
             is_mbi_code(octet % 16)
         }
-        Drawn::Character => is_character(octet),
+        Drawn::Character => is_figure(octet),
     }
 }
 

@@ -6,6 +6,7 @@ use annex::Answer;
 use annex::Charges;
 use annex::Drawn;
 use annex::Fault;
+use digits::characters::characters_fault;
 use octets::octet_at;
 ghost use mathlib.Core.Path.{_≡_};
 ghost use Prim.Native.Nat.{_+_, _-_, _≤_};
@@ -13,21 +14,7 @@ ghost use lib.ListN.{length, drop};
 ghost use Rattle.annex.specs.Promises.{Gives};
 ghost use Rattle.annex.specs.Contents.{chargingFault};
 ghost use Rattle.annex.specs.Rates.{drawnFault, numbersDrawn, total};
-ghost use Rattle.rates.specs.Asked.{behind, charactersFault, charactersSum};
-
-// The first octet from an offset on that is no character.
-fn characters_fault(s: &[u8], from: usize) -> Fault
-    ensures { λ r. ⌜ r ≡ charactersFault from (drop from (now (s .entry))) ⌝ }
-{
-    let mut i = from;
-    while i < s.len() {
-        if !is_right(Drawn::Character, s[i]) {
-            return Fault::Bad(Answer::BAD_DIGIT, i);
-        }
-        i += 1;
-    }
-    Fault::Sound
-}
+ghost use Rattle.rates.specs.Asked.{behind, charactersSum};
 
 // The first octet behind the kind that is not as it is drawn: the first one as `first`, the others as characters.
 fn drawn_fault(first: Drawn, s: &[u8]) -> Fault
@@ -39,7 +26,7 @@ fn drawn_fault(first: Drawn, s: &[u8]) -> Fault
     if !is_right(first, s[Charges::HEAD]) {
         return Fault::Bad(Answer::BAD_DIGIT, Charges::HEAD);
     }
-    characters_fault(s, Charges::HEAD + 1)
+    characters_fault(false, s, Charges::HEAD + 1)
 }
 
 // What the characters from an offset on add up to.

@@ -11,7 +11,7 @@ use borrow.Author.Tests.{eqb-true, eqb-false, eq-eqb, ne-eqb, leb-true, le-leb, 
 use lib.Dec.{eqb, leb}
 use lib.ListN.{length, getD, take, drop, replicate, length-replicate, length-drop, take-append-drop}
 use lib.Seq.{take-at, drop-at}
-use Rattle.annex.specs.Answers.{bad-digit, check-digit, faultThen}
+use Rattle.annex.specs.Answers.{bad-digit, check-digit}
 use Rattle.annex.specs.Digits.{zeroFrom, zeroTo}
 use Rattle.annex.specs.Rates.{
   kinds,
@@ -52,12 +52,11 @@ use Rattle.annex.specs.declared.Charges.{Charges}
 use Rattle.annex.specs.declared.Check.the-variants.{Charging}
 use Rattle.annex.specs.declared.Drawn.{Drawn}
 use Rattle.annex.specs.declared.Drawn.the-variants.{Whole, Halves, Character}
-use Rattle.annex.specs.declared.Fault.{Fault}
-use Rattle.annex.specs.declared.Fault.the-variants.{Sound, Bad}
+use Rattle.annex.specs.declared.Fault.the-variants.{Sound}
 use Rattle.annex.specs.declared.Field.{Field}
 use Rattle.laws.specs.Bools.{and-left, and-right, and-both, or-left, or-right}
 use Rattle.laws.specs.Drawings.{each-field, same-self, met, same-charges}
-use Rattle.laws.specs.Faults.{passed, then-sound}
+use Rattle.laws.specs.Faults.{passed, then-sound, then-both}
 use Rattle.laws.specs.Leaves.{as-they-are}
 use Rattle.laws.specs.Members.{among-every}
 use Rattle.theorems.specs.Lists.{every-drop}
@@ -322,10 +321,6 @@ record Kept (s : List ℕ) : Type 0 where
   listed : isKind (kindIn s) ≡ true
   right : Right (drawnFor (kindIn s)) (fieldOctets s)
   check : checkRight (kindIn s) (fieldOctets s) ≡ true
-
-then-both : (f g : Fault) → faultThen f g ≡ Sound → (f ≡ Sound) × (g ≡ Sound)
-then-both Sound g e = (refl, e)
-then-both (Bad k i) g e = absurd (let z : _≡_ {A = ℕ} 0 1 = cc in omega arith)
 
 kept : (s : List ℕ) → every isOctet s ≡ true → chargingFault s ≡ Sound → Kept s
 unfolding chargingFault

@@ -5,7 +5,7 @@ use native.Mathlib.Omega.{arith}
 use mathlib.Core.Path.{_≡_, refl, sym, ap, _∙_}
 use mathlib.Core.Bool.{Bool, true, false}
 use mathlib.Core.List.{List, [], _∷_, _++_, append-nil, append-assoc}
-use borrow.Author.Tests.{eqb-true, eqb-false, ne-eqb}
+use borrow.Author.Tests.{eqb-true}
 use lib.Dec.{eqb}
 use lib.ListN.{length}
 use Rattle.annex.specs.Units.{nameOf}
@@ -13,13 +13,9 @@ use Rattle.annex.specs.Heads.{among, transfer-data}
 use Rattle.annex.specs.Items.{Item, Part, part, dataPart}
 use Rattle.annex.specs.Layout.{layoutItems, layoutPart, layout}
 use Rattle.annex.specs.Allowed.{Each, HeldPart, itemsIn, headersOf, partNamesOf, Allowed}
-use Rattle.laws.specs.Bools.{or-left, or-right}
+use Rattle.laws.specs.Bools.{or-left, or-right, same-turned}
 use Rattle.theorems.specs.Lists.{each-left, each-right, times-here, times-rest}
 use Rattle.theorems.specs.Records.{Once, Plain, plain-items, unnamed-plain, plain-none, allowed-once}
-
--- a header is C5 or not, whichever way it is asked
-turned : (h : ℕ) → eqb h transfer-data ≡ false → eqb transfer-data h ≡ false
-turned h e = ne-eqb transfer-data h (λ q. eqb-false h transfer-data e (sym q))
 
 pub record Parted (r : List Part) : Type 0 where
   pub ahead : List Part
@@ -62,7 +58,7 @@ parted (p ∷ r) h o m = go (eqb (p .header) transfer-data) refl (parted r (h .1
         }
     go false e f =
         let rest : Once r = λ u. omega (arith, o u, times-rest u (nameOf (p .header)) (partNamesOf r)) in
-        part-ahead p r (h .0) e (f rest (rw (turned (p .header) e) at m))
+        part-ahead p r (h .0) e (f rest (rw (same-turned transfer-data (p .header) ∙ e) at m))
 
 pub one-data : (r : List Part) → Allowed r → among transfer-data (headersOf r) ≡ true → Parted r
 one-data r a m = parted r (a .held) (allowed-once r a) m
@@ -76,7 +72,7 @@ no-header h [] m = tt
 no-header h (p ∷ r) m =
     let b = eqb h (p .header) in
     let c = among h (headersOf r) in
-    (ne-eqb (p .header) h (λ f. eqb-false h (p .header) (or-left b c m) (sym f)), no-header h r (or-right b c m))
+    (same-turned (p .header) h ∙ or-left b c m, no-header h r (or-right b c m))
 
 -- ---- other transfer parameters in the place of its own
 

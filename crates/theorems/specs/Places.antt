@@ -6,9 +6,10 @@ use native.Mathlib.Nat.{add-zero, zero-add}
 use mathlib.Core.Path.{_≡_, refl, sym, ap, _∙_}
 use mathlib.Core.Bool.{Bool, true, false, cond, _||_}
 use mathlib.Core.List.{List, [], _∷_, _++_, append-nil}
-use borrow.Author.Tests.{eqb-true, eqb-false, eq-eqb, ne-eqb, ltb-true, ltb-false, le-ltb}
+use borrow.Author.Tests.{eqb-true, eq-eqb, ltb-true, ltb-false, le-ltb}
 use lib.Dec.{eqb, leb, ltb}
 use lib.ListN.{length, drop, length-append}
+use Rattle.annex.specs.Answers.{givenOf, startOf}
 use Rattle.annex.specs.Units.{nameOf, leadOf, extentOf, commonExtentOf}
 use Rattle.annex.specs.Heads.{among, end-mark, transfer-data, oftenOf, kth}
 use Rattle.annex.specs.Items.{Item, Part, contentsOf, dataPart}
@@ -16,10 +17,11 @@ use Rattle.annex.specs.Layout.{ledBy, layoutItem, layoutItems, layoutPart, layo
 use Rattle.annex.specs.Allowed.{every, Each, timesIn, isOctet, itemsIn, headersOf, namesOf, partNamesOf, Allowed}
 use Rattle.annex.specs.Walk.{Par}
 use Rattle.annex.specs.Reading.{verdictOf, transfersOf, recordOf}
-use Rattle.annex.specs.Finding.{stretchOf, commonIn, commonFound, transferIn, transferAmong, transferFound}
+use Rattle.annex.specs.Finding.{stretchOf, commonIn, commonFound, transferIn, transferAmong, transferFound, foundAnswer}
 use Rattle.annex.specs.declared.Answer.the-variants.{Accepted}
 use Rattle.annex.specs.declared.Found.{Found}
 use Rattle.annex.specs.declared.Found.the-variants.{At, Nowhere}
+use Rattle.laws.specs.Bools.{same-turned}
 use Rattle.laws.specs.Often.{some-often}
 use Rattle.theorems.specs.Lists.{each-right, times-rest}
 use Rattle.theorems.specs.Counts.{namesIn}
@@ -233,12 +235,17 @@ module _ (r : List Part) (a : Allowed r) (p : Each Plain r) where
 common-nowhere : (h : ℕ) (r : List Part) → Allowed r → Others h r → eqb end-mark h ≡ false → commonFound h (layout r) ≡ Nowhere
 unfolding commonFound partPars commonIn
 common-nowhere h r a o e =
-    let turned : eqb h end-mark ≡ false = ne-eqb h end-mark (λ f. eqb-false end-mark h e (sym f)) in
+    let turned : eqb h end-mark ≡ false = same-turned h end-mark ∙ e in
     rw (turned, laid-then-listed r a) (rw append-nil at (common-behind h r [] 0 o) ∙ rw e)
 
 abbrev pub isFound : Found → Bool
 isFound (At s e) = true
 isFound Nowhere = false
+
+-- what the second question accepts was found, where it says
+pub found-at : (f : Found) (k : ℕ) → foundAnswer f ≡ Accepted k → (isFound f ≡ true) × (startOf f ≡ k)
+found-at (At s e) k p = (refl, ap givenOf p)
+found-at Nowhere k p = absurd (let z : _≡_ {A = ℕ} 0 1 = cc in omega arith)
 
 -- a header that stands in a record stands in one of its parts
 record Holds (h : ℕ) (r : List Part) : Type 0 where

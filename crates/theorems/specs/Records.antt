@@ -307,6 +307,11 @@ allowed-items r a =
       few-octets = a .few-octets;
     }
 
+-- one of them
+pub item-allowed : (r : List Part) → Allowed r → (front : List Item) (one : Item) (back : List Item) → itemsIn r ≡ front ++ (one ∷ back)
+    → AllowedItem one
+item-allowed r a front one back w = each-right AllowedItem front (one ∷ back) (rw w at (allowed-items r a .each)) .0
+
 pub layout-append : (is js : List Item) → layoutItems (is ++ js) ≡ layoutItems is ++ layoutItems js
 unfolding layoutItems
 layout-append [] js = refl

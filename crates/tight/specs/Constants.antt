@@ -22,11 +22,41 @@ use Rattle.annex.specs.Answers.{
   placedAt,
   unused-name,
   other-pli,
+  formed,
 }
-use Rattle.annex.specs.Units.{countedBy, octetsOf, halvesIn, afterOf, leadOf, commonExtentOf, extentOf}
+use Rattle.annex.specs.Units.{countedBy, wholeCount, octetsOf, halvesIn, afterOf, leadOf, commonExtentOf, extentOf}
 use Rattle.annex.specs.Heads.{among, listedHeaders, isCall, nameUsed, pliRight, oftenOf, zeroesOf, formOf}
-use Rattle.annex.specs.Digits.{halves, joined, digitOf, codeOf, isCode, isDigit, halvesFault, digitsFault, digitsOf, packed, halvesFor}
+use Rattle.annex.specs.Digits.{
+  halves,
+  joined,
+  digitOf,
+  codeOf,
+  isCode,
+  isDigit,
+  halvesFault,
+  digitsFault,
+  digitsOf,
+  packed,
+  halvesFor,
+  countOf,
+  numberFaultIn,
+}
 use Rattle.annex.specs.Rates.{isKind, fieldsOf, numbersDrawn, drawnFault, checkRight, decimal, fieldIn, chargesOf}
+use Rattle.annex.specs.Orders.{
+  orderForms,
+  formsOf,
+  layoutOf,
+  mayStand,
+  orderAfter,
+  layoutFault,
+  ownFault,
+  parameterFault,
+  parametersFault,
+  orderFault,
+  isFigure,
+  isAreCharacter,
+  outsideFault,
+}
 use Rattle.annex.specs.Contents.{dialledFault, chargingFault, faultUnder, faultOf}
 use Rattle.annex.specs.Items.{Item, valuePart, holdingBy, holdingOf, openBy, itemOf, contentsOf, ownOf}
 use Rattle.annex.specs.Layout.{layoutItem, layoutPart, callOctets}
@@ -71,7 +101,7 @@ use Rattle.annex.specs.Bench.{K, recordOfK, recordOfM}
 use Rattle.annex.specs.Walking.{pars, soughtIn, searchIn, commonPlain, stretchAt, cursorTo, stretchHere, rowHere, nextOf}
 use Rattle.annex.specs.Memory.{Request, put, laidAt, spliced, copying, splicing, packing, unpacking, laying, layingHead, valuesFit}
 use Rattle.annex.specs.Opening.{headFor, valuesWith, openedHead, openedValues, partHead}
-use Rattle.annex.specs.declared.Alphabet.the-variants.{Dialled, Numbered}
+use Rattle.annex.specs.declared.Alphabet.the-variants.{Dialled, Numbered, Decimal}
 use Rattle.annex.specs.declared.Answer.{Answer}
 use Rattle.annex.specs.declared.Answer.the-variants.{Accepted, Refused}
 use Rattle.annex.specs.declared.Charges.{Charges}
@@ -91,6 +121,7 @@ use Rattle.annex.specs.declared.Holding.{Holding}
 use Rattle.annex.specs.declared.Holding.the-variants.{AsContents, AsDigits, AsNumber, AsGeneric}
 use Rattle.annex.specs.declared.Key.the-variants.{Header, Name}
 use Rattle.annex.specs.declared.Octets.{Octets}
+use Rattle.annex.specs.declared.OrderLayout.the-variants.{SentDigits}
 use Rattle.annex.specs.declared.Row.{Row}
 use Rattle.annex.specs.declared.Transfer.{Transfer}
 use Rattle.laws.specs.Bools.{and-left, and-right}
@@ -242,6 +273,10 @@ rows =
     counts (codeOf Dialled 0) (codeOf Numbered 0) ∷  -- code_of
     tests (isCode Dialled 10) (isCode Numbered 10) ∷  -- is_code
     faults (digitsFault Numbered (countedBy 1) 0 (0x0A ∷ [])) (digitsFault Dialled (countedBy 1) 0 (0x0A ∷ [])) ∷  -- digits_fault
+    gives HalfOctets (λ n. n .0) (countOf (0x00 ∷ 0x00 ∷ 0x21 ∷ [])) (countOf (0x80 ∷ 0x00 ∷ 0x01 ∷ [])) ∷  -- count_of
+    faults (numberFaultIn Numbered 0 (0x00 ∷ 0x00 ∷ 0xCB ∷ [])) (numberFaultIn Decimal 0 (0x00 ∷ 0x00 ∷ 0xCB ∷ [])) ∷  -- number_fault
+    tests (isFigure 0x39) (isFigure 0x3A) ∷  -- is_figure
+    faults (outsideFault isAreCharacter 0 (0x3B ∷ [])) (outsideFault isFigure 0 (0x3B ∷ [])) ∷  -- characters_fault
     tests (every isDigit (11 ∷ [])) (every isDigit (12 ∷ [])) ∷  -- are_digits
     gives Octets (λ n. n .0) (octetsOf (halvesFor (1 ∷ 2 ∷ []))) (octetsOf (halvesFor (1 ∷ 2 ∷ 3 ∷ []))) ∷  -- packed_len
     counts (min 3 (halvesIn (0x21 ∷ []) .0)) (min 1 (halvesIn (0x21 ∷ []) .0)) ∷  -- digits_in
@@ -251,6 +286,14 @@ rows =
     ∷  -- unpack_digits
     faults (chargingFault (0x00 ∷ 0x05 ∷ 0x12 ∷ 0x31 ∷ [])) (chargingFault (0x00 ∷ 0x05 ∷ 0x12 ∷ 0x32 ∷ [])) ∷  -- charging_fault
     gives Charges (λ c. c .mbi) (chargesOf (0x00 ∷ 0x05 ∷ 0x12 ∷ 0x31 ∷ [])) (chargesOf (0x00 ∷ 0x05 ∷ 0x21 ∷ 0x31 ∷ [])) ∷  -- charges
+    gives HalfOctets (λ n. n .0) (wholeCount 0x42) (wholeCount 0x02) ∷  -- HalfOctets::counted_whole
+    tests (among 0x2E orderForms) (among 0x2F orderForms) ∷  -- is_form
+    tests (mayStand 0x3D 0xCF) (mayStand 0x3E 0xCF) ∷  -- asked_of, has_form
+    counts (orderAfter SentDigits 2) (orderAfter SentDigits 3) ∷  -- octets_after
+    counts (orderAfter (layoutOf 0x91) 4) (orderAfter (layoutOf 0xCB) 4) ∷  -- octets_behind
+    faults (orderFault (0x28 ∷ 0x42 ∷ 0x01 ∷ 0x00 ∷ [])) (orderFault (0x29 ∷ 0x42 ∷ 0x01 ∷ 0x00 ∷ [])) ∷  -- order_fault, form
+    faults (orderFault (0x37 ∷ 0xCB ∷ 0x00 ∷ [])) (orderFault (0x37 ∷ 0xCB ∷ 0x01 ∷ [])) ∷  -- order_fault, length
+    faults (formed true) (formed false) ∷  -- Fault::formed
     answers (soundThen (headerAt 0) Sound (Accepted 1)) (soundThen (headerAt 0) (Bad 13 2) (Accepted 1)) ∷  -- at_header
     counts (getD (0x21 ∷ 0x43 ∷ []) 0 0) (getD (0x21 ∷ 0x43 ∷ []) 1 0) ∷  -- octet_at
     lists (drop 0 (0x21 ∷ [])) (drop 1 (0x21 ∷ [])) ∷  -- octets_from
@@ -303,10 +346,11 @@ rows =
 
 rows-differ : allDiffer rows ≡ true
 unfolding afterOf extentOf commonExtentOf leadOf nameUsed pliRight oftenOf zeroesOf formOf halves joined digitOf codeOf isCode halvesFault
-    digitsFault digitsOf packed isKind fieldsOf numbersDrawn drawnFault checkRight decimal fieldIn chargesOf chargingFault dialledFault
-    faultOf holdingOf itemOf contentsOf ownOf layoutItem lengthRight faultIn valueRight valueFits walk transferBy octetAllowed commonForm
-    endOf commonBy messageVerdictBy verdictBy commonsBy commonIn commonFound pad valuesOf pack lengthsOf transfersSum isWhole viewItems
-    viewParts view overLimits itemWriting partWriting layoutPart pars soughtIn stretchAt stretchHere rowHere nextOf put spliced
+    digitsFault digitsOf packed numberFaultIn outsideFault isKind fieldsOf numbersDrawn drawnFault checkRight decimal fieldIn chargesOf chargingFault
+    formsOf layoutOf orderAfter layoutFault ownFault parameterFault parametersFault orderFault dialledFault faultOf holdingOf itemOf
+    contentsOf ownOf layoutItem lengthRight faultIn valueRight valueFits walk transferBy octetAllowed commonForm endOf commonBy
+    messageVerdictBy verdictBy commonsBy commonIn commonFound pad valuesOf pack lengthsOf transfersSum isWhole viewItems viewParts view
+    overLimits itemWriting partWriting layoutPart pars soughtIn stretchAt stretchHere rowHere nextOf put spliced
 rows-differ = refl
 
 -- every row's programs are shut out

@@ -7,4 +7,5 @@ pub mod WrongRows
 pub mod WrongClasses
 pub mod WrongPacked
 pub mod WrongCharging
+pub mod WrongOrders
 pub mod Constants

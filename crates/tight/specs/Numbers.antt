@@ -27,7 +27,17 @@ use Rattle.annex.specs.Charging.{
   octetCharging,
   octetCharged,
 }
-use Rattle.annex.specs.Packed.{imageReading, imageRead, imageWriting, imageWritten, octetSpans, octetTable}
+use Rattle.annex.specs.Opened.{orderAnswer, orderTable}
+use Rattle.annex.specs.Packed.{
+  imageReading,
+  imageRead,
+  imageWriting,
+  imageWritten,
+  octetSpans,
+  octetTable,
+  octetOrder,
+  octetOrderTable,
+}
 use Rattle.annex.specs.Promises.{
   VerdictPromise,
   ReadPromise,
@@ -36,6 +46,9 @@ use Rattle.annex.specs.Promises.{
   SpansCheckPromise,
   SpansPromise,
   OctetSpansPromise,
+  OrderCheckPromise,
+  OrderPromise,
+  OctetOrderPromise,
   WritePromise,
   RecordRefusalPromise,
   EditPromise,
@@ -76,6 +89,7 @@ use Rattle.tight.specs.Told.{
   class-told,
   charging-told,
   octet-charging-told,
+  order-told,
 }
 
 -- ---- an answer by its number, place and value
@@ -115,6 +129,9 @@ transfer-numbers m x r = right (findAnswer m (transferFound x 0 m)) r (find-told
 pub check-numbers : (m : List ℕ) (room : ℕ) (r : Answer) → SpansCheckPromise m room r ↔ Right (spansOf m room) r
 check-numbers m room r = right (spansOf m room) r (spans-told m room)
 
+pub order-check-numbers : (m : List ℕ) (room : ℕ) (r : Answer) → OrderCheckPromise m room r ↔ Right (orderAnswer m room) r
+order-check-numbers m room r = right (orderAnswer m room) r (order-told m room)
+
 pub refusal-numbers : (held : Record) (r : Answer) → RecordRefusalPromise held r ↔ Right (structWriting held) r
 refusal-numbers held r = right (structWriting held) r (struct-told held)
 
@@ -125,6 +142,14 @@ listing-numbers m table r now = right-with (spansOf m (length table)) r (tableOf
 pub octet-listing-numbers : (m table : List ℕ) (r : Answer) (now : List ℕ)
     → OctetSpansPromise m table r now ↔ (Right (octetSpans m (length table)) r × (now ≡ octetTable m table))
 octet-listing-numbers m table r now = right-with (octetSpans m (length table)) r (octetTable m table) now (spans-told m _)
+
+pub order-numbers : (m : List ℕ) (table : List Row) (r : Answer) (now : List Row)
+    → OrderPromise m table r now ↔ (Right (orderAnswer m (length table)) r × (now ≡ orderTable m table))
+order-numbers m table r now = right-with (orderAnswer m (length table)) r (orderTable m table) now (order-told m (length table))
+
+pub octet-order-numbers : (m table : List ℕ) (r : Answer) (now : List ℕ)
+    → OctetOrderPromise m table r now ↔ (Right (octetOrder m (length table)) r × (now ≡ octetOrderTable m table))
+octet-order-numbers m table r now = right-with (octetOrder m (length table)) r (octetOrderTable m table) now (order-told m _)
 
 pub writing-numbers : (held : Record) (room : List ℕ) (r : Answer) (now : List ℕ)
     → WritePromise held room r now ↔ (Right (writingOf held (length room)) r × (now ≡ writtenOf held room))

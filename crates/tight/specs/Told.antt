@@ -1,12 +1,36 @@
 -- Every refusal has a number: by no definition is anything refused with 0, which stands for accepted.
-use Prim.Native.Nat.{ℕ, zero, suc, _+_, _-_, _<_}
+use Prim.Native.Nat.{ℕ, zero, suc, _+_, _-_, _%_, _<_}
 use native.Mathlib.Omega.{arith}
 use mathlib.Core.Bool.{Bool, true, false, cond, not, _&&_, _||_}
 use mathlib.Core.List.{List, [], _∷_}
 use lib.Dec.{eqb, leb, ltb}
 use lib.ListN.{length, getD, take, drop}
-use Rattle.annex.specs.Answers.{over-limits, unlisted, repeated, cut-short, not-allowed, missing, left-over, unused-name, other-pli, repeated-name, cut-contents, bad-form, transfer-over, no-room, absent, refuse, soundThen, headerAt, readingAt, andThen, shifted, formedThen, faultThen}
-use Rattle.annex.specs.Units.{nameOf, afterOf, leadOf, extentOf, commonExtentOf, contentsIn}
+use Rattle.annex.specs.Answers.{
+  over-limits,
+  unlisted,
+  repeated,
+  cut-short,
+  not-allowed,
+  missing,
+  left-over,
+  unused-name,
+  other-pli,
+  repeated-name,
+  cut-contents,
+  bad-form,
+  transfer-over,
+  no-room,
+  absent,
+  refuse,
+  soundThen,
+  headerAt,
+  readingAt,
+  andThen,
+  shifted,
+  formedThen,
+  faultThen,
+}
+use Rattle.annex.specs.Units.{nameOf, wholeCount, afterOf, leadOf, extentOf, commonExtentOf, contentsIn}
 use Rattle.annex.specs.Heads.{
   among,
   clear,
@@ -26,7 +50,37 @@ use Rattle.annex.specs.Heads.{
 }
 use Rattle.annex.specs.Digits.{halves, isCode, isDigit, halvesFault, digitsFault, countOf, oddOf, numberFaultIn, numberFault}
 use Rattle.annex.specs.Rates.{isKind, isRight, drawnFor, kindIn, fieldOctets, drawnFault, checkRight}
-use Rattle.annex.specs.Contents.{presentationOf, callingFault, genericFault, dialledFault, twoFault, chargingFault, checkFault, faultBy, faultOf}
+use Rattle.annex.specs.Orders.{
+  orderForms,
+  layoutOf,
+  mayStand,
+  orderAfter,
+  orderSize,
+  isFigure,
+  isAreCharacter,
+  outsideFault,
+  repeatRight,
+  forwardFault,
+  controlFault,
+  logicFault,
+  layoutFault,
+  ordered,
+  ownFault,
+  parameterFault,
+  parametersFault,
+  orderFault,
+}
+use Rattle.annex.specs.Contents.{
+  presentationOf,
+  callingFault,
+  genericFault,
+  dialledFault,
+  twoFault,
+  chargingFault,
+  checkFault,
+  faultBy,
+  faultOf,
+}
 use Rattle.annex.specs.Items.{Item, Part, heldAs}
 use Rattle.annex.specs.Layout.{layoutItem, layoutItems, layoutPart, layout}
 use Rattle.annex.specs.Allowed.{
@@ -82,19 +136,20 @@ use Rattle.annex.specs.Image.{Front, imageOf, partsFront, noImage, isWithin, im
 use Rattle.annex.specs.Image.Front.{Taken, Short}
 use Rattle.annex.specs.Finding.{foundAnswer, findAnswer, findPart}
 use Rattle.annex.specs.Packed.{imageReading, imageWriting}
+use Rattle.annex.specs.Opened.{orderFound, orderRowsOf, orderAnswer}
 use Rattle.annex.specs.Spans.{rowsOf, spansOf, spansBy}
 use Rattle.annex.specs.Editing.{Edit, newHeader, newAfter, newHead, newContents, editRefusal, edited, recordEditing, editingOf}
 use Rattle.annex.specs.Editing.Edit.{Replacing, Appending, Removing}
 use Rattle.annex.specs.Classes.{ClassList, classLists, classBy, classIn, classOf}
 use Rattle.annex.specs.Charging.{chargingFound, charging-octets, chargingBy, chargingOf, octetChargingBy, octetCharging}
 use Rattle.annex.specs.declared.Alphabet.{Alphabet}
-use Rattle.annex.specs.declared.Alphabet.the-variants.{Dialled, Numbered}
+use Rattle.annex.specs.declared.Alphabet.the-variants.{Dialled, Numbered, Decimal}
 use Rattle.annex.specs.declared.Answer.{Answer}
 use Rattle.annex.specs.declared.Answer.the-variants.{Accepted, Refused}
 use Rattle.annex.specs.declared.ChargingAnswer.{ChargingAnswer}
 use Rattle.annex.specs.declared.ChargingAnswer.the-variants as chargings
 use Rattle.annex.specs.declared.Check.{Check}
-use Rattle.annex.specs.declared.Check.the-variants.{Nothing, Long, Two, Charging}
+use Rattle.annex.specs.declared.Check.the-variants.{Nothing, Long, Two, Charging, Order}
 use Rattle.annex.specs.declared.Class.{Class}
 use Rattle.annex.specs.declared.ClassAnswer.{ClassAnswer}
 use Rattle.annex.specs.declared.ClassAnswer.the-variants as classes
@@ -107,6 +162,18 @@ use Rattle.annex.specs.declared.Found.{Found}
 use Rattle.annex.specs.declared.Found.the-variants.{At, Nowhere}
 use Rattle.annex.specs.declared.Holding.{Holding}
 use Rattle.annex.specs.declared.Holding.the-variants.{AsContents, AsDigits, AsNumber, AsGeneric}
+use Rattle.annex.specs.declared.OrderLayout.{OrderLayout}
+use Rattle.annex.specs.declared.OrderLayout.the-variants.{
+  TrunkKind,
+  ReleaseKind,
+  RedirectReason,
+  SentDigits,
+  ForwardNumber,
+  AreControl,
+  AreLogic,
+  Guidance,
+  WaitingTime,
+}
 use Rattle.annex.specs.declared.Record.{Record}
 
 -- ---- answers
@@ -180,6 +247,52 @@ drawn-told at [] xs = record {}
 drawn-told at (d ∷ ds) [] = record {}
 drawn-told at (d ∷ ds) (x ∷ xs) = one-of (isRight d x) (drawnFault (at + 1) ds xs) _ (drawn-told (at + 1) ds xs) (omega arith)
 
+-- a connection order: its characters, its layouts, a parameter, and all of them
+outside-told : (known : ℕ → Bool) (at : ℕ) (xs : List ℕ) → FaultHasNumber (outsideFault known at xs)
+unfolding outsideFault
+outside-told known at [] = record {}
+outside-told known at (x ∷ xs) = one-of (known x) (outsideFault known (at + 1) xs) _ (outside-told known (at + 1) xs) (omega arith)
+
+layout-told : (k : OrderLayout) (at : ℕ) (own : List ℕ) → FaultHasNumber (layoutFault k at own)
+unfolding layoutFault digitsFault forwardFault controlFault logicFault
+layout-told TrunkKind at own = record {}
+layout-told ReleaseKind at own = formed (eqb (getD own 0 0) 1) Sound (record {})
+layout-told RedirectReason at own = formed (leb 0x80 (getD own 0 0)) Sound (record {})
+layout-told SentDigits at own = halves-told Dialled (wholeCount (getD own 0 0) .0) _ (halves (drop 1 own))
+layout-told ForwardNumber at own =
+    formed (eqb (getD (drop 1 own) 1 0 % 16) 0) _ (number-told Decimal (at + 1) (drop 1 own))
+layout-told AreControl at own =
+    formed (leb 3 (length (drop 1 own)) && repeatRight (drop 1 own)) _ (outside-told isAreCharacter (at + 1 + 2) (drop 2 (drop 1 own)))
+layout-told AreLogic at own = formed (leb 2 (length (drop 1 own)) && repeatRight (drop 1 own)) Sound (record {})
+layout-told Guidance at own = record {}
+layout-told WaitingTime at own = outside-told isFigure at own
+
+own-told : (k : OrderLayout) (at : ℕ) (xs : List ℕ) → FaultHasNumber (ownFault k at xs)
+unfolding ownFault
+own-told k at xs =
+    let n = orderAfter k (getD xs 0 0) in
+    formed (leb n (length xs)) _ (layout-told k at (take n xs))
+
+ordered-told : (b : Bool) → FaultHasNumber (ordered b)
+ordered-told true = record {}
+ordered-told false = omega arith
+
+parameters-told : (form : ℕ) (before : List ℕ) (k at : ℕ) (xs : List ℕ) → FaultHasNumber (parametersFault form before k at xs)
+unfolding parametersFault parameterFault
+parameters-told form before k at [] = record {}
+parameters-told form before (suc k) at (x ∷ xs) = parameters-told form before k (at + 1) xs
+parameters-told form before zero at (x ∷ xs) =
+    faulted (parameterFault form before (at + 1) x xs) _
+    (faulted (ordered (mayStand form x && not (among x before))) _ (ordered-told (mayStand form x && not (among x before)))
+    (own-told (layoutOf x) (at + 1) xs))
+    (parameters-told form (x ∷ before) (orderSize x xs) (at + 1) xs)
+
+order-fault-told : (s : List ℕ) → FaultHasNumber (orderFault s)
+unfolding orderFault
+order-fault-told [] = omega arith
+order-fault-told (form ∷ xs) =
+    faulted (ordered (among form orderForms)) _ (ordered-told (among form orderForms)) (parameters-told form [] 0 1 xs)
+
 check-told : (c : Check) (s : List ℕ) → FaultHasNumber (checkFault c s)
 unfolding twoFault chargingFault
 check-told Nothing s = record {}
@@ -189,6 +302,7 @@ check-told Charging s =
     formed (isKind (kindIn s) && eqb (length s) (2 + length (drawnFor (kindIn s)))) _
     (faulted (drawnFault 2 (drawnFor (kindIn s)) (fieldOctets s)) _ (drawn-told 2 (drawnFor (kindIn s)) (fieldOctets s))
     (one-of (checkRight (kindIn s) (fieldOctets s)) Sound _ (record {}) (omega arith)))
+check-told Order s = order-fault-told s
 
 form-told : (f : Form) (s : List ℕ) → FaultHasNumber (faultBy f s)
 unfolding dialledFault digitsFault callingFault genericFault
@@ -441,3 +555,11 @@ octet-charging-told m room = go (chargingOf m) (charging-told m)
     go : (a : ChargingAnswer) → ChargingHasNumber a → HasNumber (octetChargingBy a room)
     go (chargings.Is c) t = refused (ltb room charging-octets) no-room 0 (Accepted charging-octets) (omega arith) (record {})
     go (chargings.Refused k p) t = t
+
+-- ---- the connection order, for a table of rows or of octets
+
+pub order-told : (m : List ℕ) (room : ℕ) → HasNumber (orderAnswer m room)
+unfolding orderAnswer
+order-told m room =
+    followed (findAnswer m (orderFound m)) _ (find-told m (orderFound m))
+    (λ _. refused (ltb room (length (orderRowsOf m))) no-room 0 (Accepted (length (orderRowsOf m))) (omega arith) (record {}))

@@ -19,6 +19,9 @@ use Rattle.annex.specs.Promises.{
   SpansCheckPromise,
   SpansPromise,
   OctetSpansPromise,
+  OrderCheckPromise,
+  OrderPromise,
+  OctetOrderPromise,
   WritePromise,
   RecordRefusalPromise,
   EditPromise,
@@ -35,6 +38,7 @@ use Rattle.annex.specs.Promises.{
   TkFindTransferPromise,
   TkClassPromise,
   TkChargingPromise,
+  TkOrderPromise,
   TkEditPromise,
   Gives,
   Stores,
@@ -86,6 +90,9 @@ transfer-where m x part a p q = rw (p, q) (part-where (verdictOf m) m (transferF
 pub one-check : (m : List ℕ) (room : ℕ) (a b : Answer) → SpansCheckPromise m room a → SpansCheckPromise m room b → a ≡ b
 one-check m room a b p q = same p q
 
+pub one-order-check : (m : List ℕ) (room : ℕ) (a b : Answer) → OrderCheckPromise m room a → OrderCheckPromise m room b → a ≡ b
+one-order-check m room a b p q = same p q
+
 pub one-refusal : (held : Record) (a b : Answer) → RecordRefusalPromise held a → RecordRefusalPromise held b → a ≡ b
 one-refusal held a b p q = same p q
 
@@ -97,6 +104,14 @@ one-listing m table a b s t p q = both p q
 pub one-octet-listing : (m table : List ℕ) (a b : Answer) (s t : List ℕ) → OctetSpansPromise m table a s → OctetSpansPromise m table b t
     → (a ≡ b) × (s ≡ t)
 one-octet-listing m table a b s t p q = both p q
+
+pub one-order : (m : List ℕ) (table : List Row) (a b : Answer) (s t : List Row) → OrderPromise m table a s → OrderPromise m table b t
+    → (a ≡ b) × (s ≡ t)
+one-order m table a b s t p q = both p q
+
+pub one-octet-order : (m table : List ℕ) (a b : Answer) (s t : List ℕ) → OctetOrderPromise m table a s → OctetOrderPromise m table b t
+    → (a ≡ b) × (s ≡ t)
+one-octet-order m table a b s t p q = both p q
 
 pub one-writing : (held : Record) (room : List ℕ) (a b : Answer) (s t : List ℕ) → WritePromise held room a s → WritePromise held room b t
     → (a ≡ b) × (s ≡ t)
@@ -153,6 +168,10 @@ one-tk-class h x a b p q = same p q
 pub one-tk-charging : (m room : List ℕ) (a b : ℕ) (s t : List ℕ) → TkChargingPromise m room a s → TkChargingPromise m room b t
     → (a ≡ b) × (s ≡ t)
 one-tk-charging m room a b s t p q = both p q
+
+pub one-tk-order : (m table : List ℕ) (a b : ℕ) (s t : List ℕ) → TkOrderPromise m table a s → TkOrderPromise m table b t
+    → (a ≡ b) × (s ≡ t)
+one-tk-order m table a b s t p q = both p q
 
 pub one-tk-edit : (e : Edit) (buffer : List ℕ) (n a b : ℕ) (s t : List ℕ) → TkEditPromise e buffer n a s → TkEditPromise e buffer n b t
     → (a ≡ b) × (s ≡ t)

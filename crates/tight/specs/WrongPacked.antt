@@ -1,5 +1,5 @@
 -- Wrong programs that the promises about a record's image and the functions for Rust and C shut out, at least two for each function, each
--- with the input at which it breaks its promise; tk_charging's stand in WrongCharging.
+-- with the input at which it breaks its promise; tk_charging's stand in WrongCharging, tk_order's in WrongOrders.
 use Prim.Native.Nat.{ℕ, _+_, _*_, _%_, _<_}
 use native.Mathlib.Omega.{arith}
 use mathlib.Core.Path.{_≡_, refl, ap, _∙_}

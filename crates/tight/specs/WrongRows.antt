@@ -33,7 +33,8 @@ use Rattle.annex.specs.declared.Row.{Row}
 use Rattle.theorems.specs.Listings.{row-count}
 use Rattle.tight.specs.Wrong.{short}
 
-abbrev rowFor : ℕ → ℕ → ℕ → Row
+-- a row
+abbrev pub rowFor : ℕ → ℕ → ℕ → Row
 rowFor offset header len = record { offset = offset; header = header; len = len }
 
 -- the shortest accepted message, case 2 of the bench table, has three rows: user class, signal kind, end mark

@@ -12,6 +12,9 @@ returns-3 c = rw (c .before .before .check2 .given .1) (c .two-fault .ensures)
 returns-4 : tie.Need-returns-4
 returns-4 c = rw (c .before .enum-told2 .given .1) (c .charging-fault .ensures)
 
+returns-5 : tie.Need-returns-5
+returns-5 c = rw (c .before .enum-told3 .given .1) (c .order-fault .ensures)
+
 pub check-fault-spec : {M : Type 1} → statement M
 check-fault-spec =
     tie.close
@@ -25,6 +28,9 @@ check-fault-spec =
     (λ c. search needs)
     (λ c κs. search needs)
     (λ c. search needs)
+    (λ c κs. search needs)
+    (λ c. search needs)
     returns-2
     returns-3
-    returns-4)
+    returns-4
+    returns-5)

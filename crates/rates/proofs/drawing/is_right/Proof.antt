@@ -16,7 +16,7 @@ returns-3 c =
     rw (m .before .enum-told2 .given .1, sym (m .is-mbi-code .ensures) ∙ not-false _ (c .before .if1 .left)) (c .is-mbi-code2 .ensures)
 
 returns-4 : tie.Need-returns-4
-returns-4 c = rw (c .before .enum-told3 .given .1) (c .is-character .ensures)
+returns-4 c = rw (c .before .enum-told3 .given .1) (c .is-figure .ensures)
 
 pub is-right-spec : {M : Type 1} → statement M
 is-right-spec =

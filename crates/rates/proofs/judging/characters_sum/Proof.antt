@@ -5,7 +5,7 @@ use denote.Ref.{now}
 use mathlib.Core.Path.{_≡_}
 use borrow.Author.Needs.{needs}
 use lib.ListN.{length, drop, length-drop}
-use Rattle.rates.specs.Asked.{charactersSum, sum-more, sum-most, characters-none}
+use Rattle.rates.specs.Asked.{charactersSum, sum-more, sum-most, sum-none}
 use Rattle.rates.proofs.judging.characters_sum.Statement.{statement}
 use Rattle.rates.proofs.judging.characters_sum.Tie as tie
 
@@ -38,7 +38,7 @@ loop-again c = here c .0
 returns : tie.Need-returns Inv-loop μ-loop
 returns c =
     let l = c .before in
-    omega (arith, l .loop .inv, characters-none (now (l .before .before .args .s)) (l .loop .i) (c .loop-test .left) .1)
+    omega (arith, l .loop .inv, sum-none (now (l .before .before .args .s)) (l .loop .i) (c .loop-test .left))
 
 pub characters-sum-spec : {M : Type 1} → statement M
 characters-sum-spec =

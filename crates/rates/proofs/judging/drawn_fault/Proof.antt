@@ -9,7 +9,7 @@ use lib.ListN.{length, drop}
 use Rattle.annex.specs.Answers.{bad-digit}
 use Rattle.annex.specs.Rates.{drawnFault}
 use Rattle.annex.specs.declared.Fault.the-variants.{Bad}
-use Rattle.rates.specs.Asked.{behind, charactersFault, behind-none, behind-fault}
+use Rattle.rates.specs.Asked.{behind, charactersFault, characters-known, behind-none, behind-fault}
 use Rattle.rates.proofs.judging.drawn_fault.Statement.{statement}
 use Rattle.rates.proofs.judging.drawn_fault.Tie as tie
 
@@ -34,7 +34,8 @@ returns-2 c = sym (first-so (c .before) ∙ rw (not-true (c .before .is-right .r
 returns-3 : tie.Need-returns-3
 returns-3 c =
     let f = c .before in
-    c .characters-fault .ensures ∙ sym (first-so (f .before) ∙ rw (not-false (f .before .is-right .result) (f .if2 .left)))
+    c .characters-fault .ensures ∙ sym (characters-known 3 _)
+    ∙ sym (first-so (f .before) ∙ rw (not-false (f .before .is-right .result) (f .if2 .left)))
 
 pub drawn-fault-spec : {M : Type 1} → statement M
 drawn-fault-spec =

@@ -1,6 +1,6 @@
 -- `formed` meets its contract: each arm is a case of the definition.
-use Rattle.parameter.proofs.contents.formed.Statement.{statement}
-use Rattle.parameter.proofs.contents.formed.Tie as tie
+use Rattle.annex.proofs.Fault.formed.Statement.{statement}
+use Rattle.annex.proofs.Fault.formed.Tie as tie
 
 returns : tie.Need-returns
 returns c = rw (c .if1 .taken)

@@ -8,38 +8,38 @@ use borrow.Author.Tests.{not-true, not-false}
 use lib.ListN.{length, drop}
 use Rattle.annex.specs.Answers.{bad-digit}
 use Rattle.annex.specs.declared.Fault.the-variants.{Bad}
-use Rattle.rates.specs.Asked.{charactersFault, characters-more, characters-none}
-use Rattle.rates.proofs.judging.characters_fault.Statement.{statement}
-use Rattle.rates.proofs.judging.characters_fault.Tie as tie
+use Rattle.digits.specs.Characters.{knownFault, known-more, known-none}
+use Rattle.digits.proofs.characters.characters_fault.Statement.{statement}
+use Rattle.digits.proofs.characters.characters_fault.Tie as tie
 
 abbrev Inv-loop : tie.InvT-loop
-Inv-loop s from i₀ i = charactersFault from (drop from s) ≡ charactersFault i (drop i s)
+Inv-loop are s from i₀ i = knownFault are from (drop from s) ≡ knownFault are i (drop i s)
 
 abbrev μ-loop : tie.MeasureT-loop
-μ-loop s from i₀ i = length s - i
+μ-loop are s from i₀ i = length s - i
 
 loop-holds : tie.Need-loop-holds Inv-loop μ-loop
 loop-holds c = refl
 
-shared-slice-read-is-right : tie.Need-shared-slice-read-is-right Inv-loop μ-loop
-shared-slice-read-is-right c = search needs
+shared-slice-read-is-known : tie.Need-shared-slice-read-is-known Inv-loop μ-loop
+shared-slice-read-is-known c = search needs
 
-is-right-requires : tie.Need-is-right-requires Inv-loop μ-loop
-is-right-requires c κs = search needs
+is-known-requires : tie.Need-is-known-requires Inv-loop μ-loop
+is-known-requires c κs = search needs
 
 -- the octet here, and those behind it
-here : (c : tie.After-is-right Inv-loop μ-loop) →
+here : (c : tie.After-is-known Inv-loop μ-loop) →
     let a = c .before .before .before .before .before .args in
     let i = c .before .before .before .loop .i in
-    charactersFault (a .from) (drop (a .from) (now (a .s)))
-    ≡ cond (c .is-right .result) (charactersFault (i + 1) (drop (i + 1) (now (a .s)))) (Bad bad-digit i)
+    knownFault (a .are) (a .from) (drop (a .from) (now (a .s)))
+    ≡ cond (c .is-known .result) (knownFault (a .are) (i + 1) (drop (i + 1) (now (a .s)))) (Bad bad-digit i)
 here c =
     let l = c .before .before .before in
     let a = l .before .before .args in
-    l .loop .inv ∙ rw (c .is-right .ensures) (characters-more (now (a .s)) (l .loop .i) (c .before .before .loop-test .taken))
+    l .loop .inv ∙ rw (c .is-known .ensures) (known-more (a .are) (now (a .s)) (l .loop .i) (c .before .before .loop-test .taken))
 
 returns : tie.Need-returns Inv-loop μ-loop
-returns c = sym (here (c .before) ∙ rw (not-true (c .before .is-right .result) (c .if1 .taken)))
+returns c = sym (here (c .before) ∙ rw (not-true (c .before .is-known .result) (c .if1 .taken)))
 
 add-i : tie.Need-add-i Inv-loop μ-loop
 add-i c = search needs
@@ -48,12 +48,13 @@ loop-less : tie.Need-loop-less Inv-loop μ-loop
 loop-less c = search needs
 
 loop-again : tie.Need-loop-again Inv-loop μ-loop
-loop-again c = here (c .before) ∙ rw (not-false (c .before .is-right .result) (c .if1 .left))
+loop-again c = here (c .before) ∙ rw (not-false (c .before .is-known .result) (c .if1 .left))
 
 returns-2 : tie.Need-returns-2 Inv-loop μ-loop
 returns-2 c =
     let l = c .before in
-    sym (l .loop .inv ∙ characters-none (now (l .before .before .args .s)) (l .loop .i) (c .loop-test .left) .0)
+    let a = l .before .before .args in
+    sym (l .loop .inv ∙ known-none (a .are) (now (a .s)) (l .loop .i) (c .loop-test .left))
 
 pub characters-fault-spec : {M : Type 1} → statement M
 characters-fault-spec =
@@ -62,8 +63,8 @@ characters-fault-spec =
     Inv-loop
     μ-loop
     loop-holds
-    shared-slice-read-is-right
-    is-right-requires
+    shared-slice-read-is-known
+    is-known-requires
     returns
     add-i
     loop-less
