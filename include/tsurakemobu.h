@@ -27,32 +27,52 @@ extern "C" {
 #define TK_IMAGE_MAX (1 + 6 * 6 + 52 * 11 + 2 * 255)
 /* The octets of the opened charging information. */
 #define TK_CHARGING_LEN 23
+/* The most rows of an opened connection order: its form, and as many parameters as can stand under one form. */
+#define TK_ORDER_ROWS_MAX 5
 
 /* Why a call was refused. */
 enum tk_number {
-    TK_ACCEPTED = 0,       /* not refused */
-    TK_OVER_LIMITS = 1,    /* a message without octets or with more than 272, or a record beyond what a record may hold */
-    TK_UNLISTED = 2,       /* a common header that is not in the list */
-    TK_REPEATED = 3,       /* a common parameter for the second time */
-    TK_CUT_SHORT = 4,      /* no end mark, or a common parameter runs past the message's end */
-    TK_NOT_ALLOWED = 5,    /* a user class or signal kind that is not among those allowed */
-    TK_MISSING = 6,        /* the end mark comes without user class or signal kind before it */
-    TK_LEFT_OVER = 7,      /* something follows the end mark */
-    TK_UNUSED_NAME = 8,    /* a transfer name that is not in use */
-    TK_OTHER_PLI = 9,      /* a transfer name under a PLI that it does not have */
-    TK_REPEATED_NAME = 10, /* a transfer name for the second time */
-    TK_CUT_CONTENTS = 11,  /* contents that run past their end, or are not as long as their PLI says */
-    TK_BAD_FORM = 12,      /* a bit that must be 0 is not, contents of the wrong form, or a value too large for its bits */
-    TK_BAD_DIGIT = 13,     /* a digit code without a meaning, a character that is no digit, or half an octet left over that is not 0 */
-    TK_TRANSFER_OVER = 14, /* transfer data longer than 255 octets */
-    TK_NO_ROOM = 15,       /* what is lent is too short */
-    TK_ABSENT = 16,        /* the parameter, or the transfer data, is not there */
-    TK_NO_CLASS_LIST = 17, /* the header's code values have no classes */
-    TK_CHECK_DIGIT = 18    /* the check digit of the charging information is wrong */
+    TK_ACCEPTED = 0,         /* not refused */
+    TK_OVER_LIMITS = 1,      /* a message without octets or with more than 272, or a record beyond what a record may hold */
+    TK_UNLISTED = 2,         /* a common header that is not in the list */
+    TK_REPEATED = 3,         /* a common parameter for the second time */
+    TK_CUT_SHORT = 4,        /* no end mark, or a common parameter runs past the message's end */
+    TK_NOT_ALLOWED = 5,      /* a user class or signal kind that is not among those allowed */
+    TK_MISSING = 6,          /* the end mark comes without user class or signal kind before it */
+    TK_LEFT_OVER = 7,        /* something follows the end mark */
+    TK_UNUSED_NAME = 8,      /* a transfer name that is not in use */
+    TK_OTHER_PLI = 9,        /* a transfer name under a PLI that it does not have */
+    TK_REPEATED_NAME = 10,   /* a transfer name for the second time */
+    TK_CUT_CONTENTS = 11,    /* contents that run past their end, or are not as long as their PLI says */
+    TK_BAD_FORM = 12,        /* a bit that must be 0 is not, contents of the wrong form, or a value too large for its bits */
+    TK_BAD_DIGIT = 13,       /* a digit code without a meaning, a character that may not be there, or a half left over that is not 0 */
+    TK_TRANSFER_OVER = 14,   /* transfer data longer than 255 octets */
+    TK_NO_ROOM = 15,         /* what is lent is too short */
+    TK_ABSENT = 16,          /* the parameter, or the transfer data, is not there */
+    TK_NO_CLASS_LIST = 17,   /* the header's code values have no classes */
+    TK_CHECK_DIGIT = 18,     /* the check digit of the charging information is wrong */
+    TK_CONNECTION_ORDER = 19 /* a form or header of the connection order is not listed, not under that form, or repeated */
 };
 
 /* The class of a code value. */
 enum tk_class_value { TK_NAMED = 0, TK_HELD_BACK = 1, TK_SPARE = 2 };
+
+/* The headers of a connection order's parameters. They are of their own: CC, CE and CF are no transfer parameters here. */
+enum tk_order_header {
+    TK_ORDER_TRUNK = 0x41,            /* trunk of the office: one octet */
+    TK_ORDER_RELEASE = 0x42,          /* what is released: a length octet, which is 1, and one octet */
+    TK_ORDER_REDIRECT_REASON = 0x43,  /* why the call is redirected: one octet with bit 7 set */
+    TK_ORDER_DIGITS = 0x91,           /* digits for the outgoing line: a count of half-octets in a whole octet, digits as in PLI 10 */
+    TK_ORDER_DESTINATION = 0x92,      /* number that the call is transferred to: a length octet, then as D7 with digits 0 to 9 alone */
+    TK_ORDER_CALLING_ARE = 0xC9,      /* ARE, calling side: a length octet, a code, a repeat count of at most 3, characters */
+    TK_ORDER_CALLED_ARE = 0xCA,       /* ARE, called side: the same */
+    TK_ORDER_CALLING_GUIDANCE = 0xCB, /* guidance, calling side: a length octet and carried octets */
+    TK_ORDER_CALLED_ARE_LOGIC = 0xCC, /* ARE logic, called side: a length octet, a conversion kind, a repeat count up to 3, a key */
+    TK_ORDER_TIMEOUT_ARE = 0xCD,      /* ARE after waiting in vain: as on the calling side */
+    TK_ORDER_CALLED_GUIDANCE = 0xCE,  /* guidance, called side: a length octet and carried octets */
+    TK_ORDER_TIMEOUT_GUIDANCE = 0xCF, /* guidance after waiting in vain: the same */
+    TK_ORDER_WAITING_TIME = 0xD2      /* waiting time in half seconds: three IA5 digits */
+};
 
 /*
  * Every function answers with one number: tk_number * 2^32 + place * 2^16 + value. Where the call is refused, the place says where
@@ -91,8 +111,9 @@ static inline size_t tk_value_of(uint64_t answer) { return (size_t)(answer & 0xF
 
 /*
  * A message is read from left to right. "Reading's" refusals are 1 at 0; for each common parameter 2, 3, 4, 5 at its header, and for
- * each transfer parameter of C5 8 to 13 and 18 at its own; 4 at the message's length if there is no end mark; 6 at the end mark; 7 at
- * the octet behind it. The first that applies is the answer, here and below.
+ * each transfer parameter of C5 8 to 13, 18 and 19 at its own; 4 at the message's length if there is no end mark; 6 at the end mark;
+ * 7 at the octet behind it. The first that applies is the answer, here and below. In a connection order, E0, that is the first fault
+ * from left to right: of the form, then of each parameter 19, 12 or 13.
  */
 
 /* The record of a message. Value: the length of its image, at the front of `image`; the octets behind it stay.
@@ -101,8 +122,8 @@ uint64_t tk_read(const uint8_t *message, size_t message_len, uint8_t *image, siz
 
 /* The message of a record. Value: the message's length; it stands at the front of `room`, and the octets behind it stay.
  * Refused: 1 at 0, also for an image that ends too early or too late; where the headers would stand, 2, 3, 5, 12 (call number or
- * sequence octet too large) and 8 to 13 and 18; 14 at C5 after its last parameter; 6 where the end mark would stand; 15 at 0 if `room`
- * is too short. */
+ * sequence octet too large) and 8 to 13, 18 and 19; 14 at C5 after its last parameter; 6 where the end mark would stand; 15 at 0 if
+ * `room` is too short. */
 uint64_t tk_write(const uint8_t *image, size_t image_len, uint8_t *room, size_t room_len);
 
 /* A row for each parameter, in the order of the message, the end mark last. Value: the count of rows, at the front of `table`;
@@ -141,6 +162,13 @@ uint64_t tk_class(uint8_t header, uint8_t octet);
  * Refused: reading's; 16 at 0 if there is no F7; 15 at 0 if `out` is too short. */
 uint64_t tk_charging(const uint8_t *message, size_t message_len, uint8_t *out, size_t out_len);
 
+/* The connection order, E0, opened. Value: the count of rows, at the front of `table`; the octets behind them stay. Rows are as in
+ * tk_rows. The first is of the form: where the contents of E0 start, the form (C0, C1), and 0. Then each parameter has one, in their
+ * order: the offset of its header, the header (a tk_order_header), and how many octets behind the header are its own, a length or
+ * count octet among them. The rows' counts, and 1 for each row, add up to the contents of E0.
+ * Refused: reading's; 16 at 0 if there is no E0; 15 at 0 if `table` is too short. */
+uint64_t tk_order(const uint8_t *message, size_t message_len, uint8_t *table, size_t table_len);
+
 /*
  * Edits of the message in the first `n` octets of `buffer`. Value: the message's new length. Octets between the new end and a later
  * old one become 0; those behind both stay. `new_octets` is a whole transfer parameter, header first. An `n` beyond the buffer is
@@ -149,7 +177,7 @@ uint64_t tk_charging(const uint8_t *message, size_t message_len, uint8_t *out, s
 
 /* Puts the new parameter in the place of the one with its name.
  * Refused: 15 (n); reading's; then at 0: 16 (no transfer data), 11 (no new octets), 8, 9, 16 (name absent), 11 (new octets too few
- * or left over), 12, 13, 18, 14, 15 (`buffer` too short). */
+ * or left over), 12, 13, 18, 19, 14, 15 (`buffer` too short). */
 uint64_t tk_replace(uint8_t *buffer, size_t buffer_len, size_t n, const uint8_t *new_octets, size_t new_len);
 
 /* Puts the new parameter behind the last one of the transfer data.

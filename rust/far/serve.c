@@ -7,7 +7,7 @@
  */
 #include "tsurakemobu.h"
 
-enum { READ, WRITE, ROWS, FIND_COMMON, FIND_TRANSFER, CLASS, REPLACE, APPEND, REMOVE, CHARGING };
+enum { READ, WRITE, ROWS, FIND_COMMON, FIND_TRANSFER, CLASS, REPLACE, APPEND, REMOVE, CHARGING, ORDER };
 
 /* What comes first in a request. */
 struct head {
@@ -123,6 +123,7 @@ static uint64_t call(const struct head *h, const uint8_t *fixed, uint8_t *lent) 
     case APPEND: return tk_append(lent, h->lent_len, h->first, fixed, h->fixed_len);
     case REMOVE: return tk_remove(lent, h->lent_len, h->first, (uint8_t)h->second);
     case CHARGING: return tk_charging(fixed, h->fixed_len, lent, h->lent_len);
+    case ORDER: return tk_order(fixed, h->fixed_len, lent, h->lent_len);
     default: leave(1);
     }
 }

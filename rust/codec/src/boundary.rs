@@ -25,6 +25,7 @@ extern "C" {
     fn tk_append(buffer: *mut u8, len: usize, n: usize, new: *const u8, new_len: usize) -> u64;
     fn tk_remove(buffer: *mut u8, len: usize, n: usize, name: u8) -> u64;
     fn tk_charging(message: *const u8, len: usize, out: *mut u8, out_len: usize) -> u64;
+    fn tk_order(message: *const u8, len: usize, table: *mut u8, table_len: usize) -> u64;
 }
 
 /// The record's image of `message`, into the front of `image`; value: its length.
@@ -106,6 +107,14 @@ pub fn charging(message: &[u8], out: &mut [u8]) -> u64 {
     let (octets, len) = (out.as_mut_ptr(), out.len());
     // SAFETY: each pointer and length is a slice's, and `out` overlaps nothing.
     unsafe { tk_charging(message.as_ptr(), message.len(), octets, len) }
+}
+
+/// The rows of the connection order of `message`, 5 octets each, into the front
+/// of `table`; value: their count.
+pub fn order(message: &[u8], table: &mut [u8]) -> u64 {
+    let (octets, len) = (table.as_mut_ptr(), table.len());
+    // SAFETY: each pointer and length is a slice's, and `table` overlaps nothing.
+    unsafe { tk_order(message.as_ptr(), message.len(), octets, len) }
 }
 
 /// Memory for octets. It is not cleared first: an octet of it is set or not.

@@ -30,10 +30,12 @@ mod answer;
 pub mod boundary;
 mod charging;
 mod image;
+mod order;
 pub mod record;
 mod refusal;
 
 pub use charging::Charging;
+pub use order::{Order, OrderHeader, OrderParameter};
 pub use record::{Common, Record, Stretch, Transfer};
 pub use refusal::Refusal;
 
@@ -56,6 +58,9 @@ pub const IMAGE_MAX: usize = 1 + 6 * 6 + 52 * 11 + 2 * 255;
 /// Octets of the charging information as the static library gives it: the kind,
 /// and eleven numbers of two octets.
 pub const CHARGING_LEN: usize = 1 + 11 * 2;
+/// The most rows of an opened connection order: its form, and as many parameters
+/// as can stand under one form.
+pub const ORDER_ROWS_MAX: usize = 5;
 /// Octets of a row in the table that the static library fills.
 const ROW_LEN: usize = 5;
 /// The most octets of that table.
@@ -87,7 +92,7 @@ pub enum Class {
 ///
 /// # Errors
 ///
-/// Numbers 1 to 13 and 18, tried from left to right.
+/// Numbers 1 to 13, 18 and 19, tried from left to right.
 pub fn read(message: &[u8]) -> Result<Record, Refusal> {
     let mut memory = Room::new();
     let image = boundary::read_into(message, &mut memory)?;
@@ -99,8 +104,9 @@ pub fn read(message: &[u8]) -> Result<Record, Refusal> {
 ///
 /// # Errors
 ///
-/// Number 1, then 2, 3, 5, 8 to 14 and 18 in the reader's order, at the places
-/// where octets would stand, 6 at the end, and 15 if the room is too short.
+/// Number 1, then 2, 3, 5, 8 to 14, 18 and 19 in the reader's order, at the
+/// places where octets would stand, 6 at the end, and 15 if the room is too
+/// short.
 pub fn write(record: &Record, room: &mut [u8]) -> Result<usize, Refusal> {
     let mut memory = Room::new();
     let image = image_within(record, &mut memory)?;
@@ -204,6 +210,31 @@ pub fn charging(message: &[u8]) -> Result<Charging, Refusal> {
     Ok(Charging::of(&octets))
 }
 
+/// The connection order of `message`, opened.
+///
+/// ```
+/// use codec::OrderHeader;
+///
+/// let message = [
+///     0x01, 0x01, 0x06, 0x11, 0xC5, 0x07, 0xE0, 0x05, 0x21, 0x91, 0x03, 0x21, 0x0A, 0x00,
+/// ];
+/// let order = codec::order(&message)?;
+/// assert_eq!((order.form, order.offset), (0x21, 8));
+/// let digits = order.parameter(OrderHeader::Digits).unwrap();
+/// assert_eq!((digits.offset, digits.octets), (9, &[0x03, 0x21, 0x0A][..]));
+/// # Ok::<(), codec::Refusal>(())
+/// ```
+///
+/// # Errors
+///
+/// Those of [`read`], then 16 at 0 if there is none.
+pub fn order(message: &[u8]) -> Result<Order<'_>, Refusal> {
+    let mut table = [0; ORDER_ROWS_MAX * ROW_LEN];
+    let count = unpack(boundary::order(message, &mut table))?.value;
+    let rows = table.chunks_exact(ROW_LEN).take(count).map(row_of);
+    Ok(Order::of(message, rows))
+}
+
 /// Puts the transfer parameter `new` (its octets, header first) in the place of
 /// the one with its name, in the message in the first `n` octets of `buffer`;
 /// gives the message's new length.
@@ -214,8 +245,8 @@ pub fn charging(message: &[u8]) -> Result<Charging, Refusal> {
 ///
 /// 15 at 0 if `n` is beyond the buffer, those of [`read`], then all at 0: 16
 /// without transfer data, 11 without octets, 8, 9, 16 if the name is absent, 11
-/// if octets are too few or too many, 12, 13, 18, 14, and 15 if the buffer is
-/// too short.
+/// if octets are too few or too many, 12, 13, 18, 19, 14, and 15 if the buffer
+/// is too short.
 pub fn replace(buffer: &mut [u8], n: usize, new: &[u8]) -> Result<usize, Refusal> {
     Ok(unpack(boundary::replace(buffer, n, new))?.value)
 }

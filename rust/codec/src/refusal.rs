@@ -6,7 +6,7 @@ use std::fmt;
 /// Why a call was refused, and where in the message.
 #[derive(Clone, Copy, Debug, PartialEq, Eq, Hash)]
 pub struct Refusal {
-    /// One of the numbers 1 to 18, the constants below.
+    /// One of the numbers 1 to 19, the constants below.
     pub number: u8,
     /// The offset in the message at which the fault stands; 0 where the
     /// number has no place.
@@ -40,8 +40,8 @@ impl Refusal {
     /// 12: a set bit that must be 0, contents of the wrong form, or a value too
     /// large for its bits.
     pub const BAD_FORM: u8 = 12;
-    /// 13: a digit without a meaning, a character that is no digit, or a filler
-    /// that is not 0.
+    /// 13: a digit without a meaning, a character that may not be there, or a
+    /// filler that is not 0.
     pub const BAD_DIGIT: u8 = 13;
     /// 14: transfer data longer than 255 octets.
     pub const TRANSFER_OVER: u8 = 14;
@@ -53,6 +53,9 @@ impl Refusal {
     pub const NO_CLASS_LIST: u8 = 17;
     /// 18: a check digit of the charging information that is wrong.
     pub const CHECK_DIGIT: u8 = 18;
+    /// 19: a form or header of the connection order that is not listed, not
+    /// under that form, or repeated.
+    pub const CONNECTION_ORDER: u8 = 19;
 
     /// The refusal `number` at `place`.
     pub const fn new(number: u8, place: usize) -> Self {
@@ -80,6 +83,7 @@ impl Refusal {
             Self::ABSENT => "absent",
             Self::NO_CLASS_LIST => "no classes for this header",
             Self::CHECK_DIGIT => "wrong check digit",
+            Self::CONNECTION_ORDER => "form or header that cannot stand in a connection order",
             _ => "unknown number",
         }
     }

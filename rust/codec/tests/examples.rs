@@ -45,3 +45,8 @@ fn area() {
 fn charging() {
     prints("charging", include_str!("../examples/charging.stdout"));
 }
+
+#[test]
+fn order() {
+    prints("order", include_str!("../examples/order.stdout"));
+}

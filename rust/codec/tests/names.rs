@@ -1,7 +1,8 @@
 //! The refusal numbers have the same names here and in the header for C, and so
-//! have the lengths the same values; both lend as much room for an image as is
-//! proved to suffice.
+//! have the headers of a connection order, and the lengths the same values; both
+//! lend as much room for an image as is proved to suffice.
 
+use codec::OrderHeader;
 use std::collections::BTreeMap;
 
 const HEADER: &str = include_str!("../../../include/tsurakemobu.h");
@@ -22,7 +23,7 @@ fn of_all_numbers() {
     let here = names(include_str!("../src/refusal.rs"), "pub const ", ": u8 = ");
     let mut header = names(HEADER, "TK_", " = ");
     assert_eq!(header.remove(&0), Some("ACCEPTED"));
-    assert_eq!(here.len(), 18);
+    assert_eq!(here.len(), 19);
     assert_eq!(here, header);
 }
 
@@ -54,9 +55,25 @@ fn of_the_other_lengths() {
         ("TK_MESSAGE_MAX", codec::MESSAGE_MAX),
         ("TK_ROWS_MAX", codec::ROWS_MAX),
         ("TK_CHARGING_LEN", codec::CHARGING_LEN),
+        ("TK_ORDER_ROWS_MAX", codec::ORDER_ROWS_MAX),
     ];
     for (name, here) in lengths {
         let told = line(HEADER, &format!("#define {name} "), '\n');
         assert_eq!(value(told), here, "{name}");
     }
+}
+
+/// The header `TK_ORDER_CALLED_ARE = 0xCA` of C in Rust's form: `CalledAre`, CA.
+fn header_of_order(line: &str) -> Option<(String, u8)> {
+    let (name, rest) = line.trim().strip_prefix("TK_ORDER_")?.split_once(" = 0x")?;
+    let word = |word: &str| word[..1].to_string() + &word[1..].to_lowercase();
+    let octet = u8::from_str_radix(rest.get(..2)?, 16).ok()?;
+    Some((name.split('_').map(word).collect(), octet))
+}
+
+#[test]
+fn of_the_headers_of_a_connection_order() {
+    let told: Vec<_> = HEADER.lines().filter_map(header_of_order).collect();
+    let here = OrderHeader::ALL.map(|header| (format!("{header:?}"), header.octet()));
+    assert_eq!(told, here);
 }

@@ -1,4 +1,4 @@
-//! The codec's ten functions on machines that cannot link its static library.
+//! The codec's eleven functions on machines that cannot link its static library.
 //!
 //! The static library is for x86-64. Elsewhere this crate defines the functions
 //! of `include/tsurakemobu.h` and hands each call to the program `serve`, which
@@ -17,8 +17,9 @@ mod server;
 use server::{call, Function};
 use std::slice;
 
-// SAFETY of all ten functions: as the header asks, each pointer and its length
-// are memory that may be read, and written where it is `*mut`, during the call.
+// SAFETY of all eleven functions: as the header asks, each pointer and its
+// length are memory that may be read, and written where it is `*mut`, during
+// the call.
 
 /// Functions that read one stretch of octets and are lent another.
 macro_rules! lent_octets {
@@ -51,6 +52,8 @@ lent_octets! {
     tk_rows: Rows;
     /// The charging information of a message, opened.
     tk_charging: Charging;
+    /// The rows of a message's connection order.
+    tk_order: Order;
 }
 
 /// Functions that find a parameter of a message by its header or its name.

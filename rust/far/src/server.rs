@@ -17,6 +17,7 @@ pub(crate) enum Function {
     Append = 7,
     Remove = 8,
     Charging = 9,
+    Order = 10,
 }
 
 /// Octets of an answer before the lent ones: what the function returned, and
