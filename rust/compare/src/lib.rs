@@ -34,6 +34,7 @@ pub fn proved(input: &Input) -> Outcome {
         Input::Append { n, new, .. } => boundary::append(lent, (*n).into(), new),
         Input::Remove { n, name, .. } => boundary::remove(lent, (*n).into(), *name),
         Input::Charging { message, .. } => boundary::charging(message, lent),
+        Input::Order { message, .. } => boundary::order(message, lent),
     };
     let around = memory.starts_with(&GUARD) && memory.ends_with(&GUARD);
     assert!(around, "written beside the lent memory: {input:02X?}");

@@ -40,6 +40,7 @@ fn lengths_beyond_any_message() {
     assert_eq!(boundary::find_common(&long, 0x01), refused(1, 0));
     assert_eq!(boundary::find_transfer(&long, 0x10), refused(1, 0));
     assert_eq!(boundary::charging(&long, &mut lent), refused(1, 0));
+    assert_eq!(boundary::order(&long, &mut lent), refused(1, 0));
     for n in [70_001, 1 << 32, usize::MAX] {
         assert_eq!(boundary::replace(&mut lent, n, &long), refused(15, 0));
         assert_eq!(boundary::append(&mut lent, n, &long), refused(15, 0));
@@ -82,6 +83,9 @@ fn room_beyond_any_message() {
     assert_eq!(boundary::write(&image[..len], &mut buffer), 7);
     assert_eq!(buffer[..7], message);
     assert_eq!(boundary::rows(&message, &mut image), 4);
+    let order = [0x01, 0x01, 0x06, 0x11, 0xC5, 0x03, 0xE0, 0x01, 0x28, 0x00];
+    assert_eq!(boundary::order(&order, &mut buffer), 1);
+    assert_eq!(buffer[..7], [0x08, 0x00, 0x28, 0x00, 0x00, 0x00, 0x00]);
     for memory in [image, buffer] {
         assert!(memory[20..].iter().all(|&octet| octet == 0x5A));
     }

@@ -1,7 +1,7 @@
 //! The proved codec in Rust's types answers as the plain one does.
 
 use codec::{boundary, Charging, Class, Common, Record, Refusal, Row, Transfer};
-use codec::{IMAGE_MAX, MESSAGE_MAX};
+use codec::{Order, OrderHeader, OrderParameter, IMAGE_MAX, MESSAGE_MAX};
 use trial::{input_at, Input};
 
 const SEED: u64 = 23;
@@ -44,6 +44,23 @@ fn charging(charging: plain::Charging) -> Charging {
     }
 }
 
+/// The order that these rows of a message list.
+fn order<'m>(message: &'m [u8], rows: &[plain::Row]) -> Order<'m> {
+    let parameter = |row: &plain::Row| {
+        let start = usize::from(row.offset) + 1;
+        OrderParameter {
+            header: OrderHeader::of(row.header).expect("a listed header"),
+            offset: row.offset.into(),
+            octets: &message[start..start + usize::from(row.len)],
+        }
+    };
+    Order {
+        form: rows[0].header,
+        offset: rows[0].offset.into(),
+        parameters: rows[1..].iter().map(parameter).collect(),
+    }
+}
+
 #[test]
 fn over_many_inputs() {
     for index in 0..COUNT {
@@ -77,6 +94,7 @@ fn agree(input: &Input) -> bool {
             edit_agrees(buffer, *n, *name, codec::remove, plain::remove)
         }
         Input::Charging { message, .. } => charging_agrees(message),
+        Input::Order { message, .. } => order_agrees(message),
     }
 }
 
@@ -93,6 +111,11 @@ fn class_agrees(header: u8, octet: u8) -> bool {
 fn charging_agrees(message: &[u8]) -> bool {
     let opened = plain::charging(message).map(charging);
     codec::charging(message) == opened.map_err(refusal)
+}
+
+fn order_agrees(message: &[u8]) -> bool {
+    let opened = plain::order(message).map(|rows| order(message, &rows));
+    codec::order(message) == opened.map_err(refusal)
 }
 
 /// The same record or refusal; and the record, written, is the message.

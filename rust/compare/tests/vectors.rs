@@ -25,7 +25,14 @@ fn messages() {
             message: message.clone(),
             table: lent.clone(),
         });
-        same(Input::Charging { message, out: lent });
+        same(Input::Charging {
+            message: message.clone(),
+            out: lent.clone(),
+        });
+        same(Input::Order {
+            message,
+            table: lent,
+        });
     }
 }
 

@@ -176,7 +176,7 @@ pub(crate) fn open(contents: &[u8]) -> Result<Charging, u8> {
 
 /// The charging information of `message`.
 ///
-/// Refused are reading's 1 to 13 and 18, then 16 at 0 if there is none.
+/// Refused are reading's 1 to 13, 18 and 19, then 16 at 0 if there is none.
 pub fn charging(message: &[u8]) -> Result<Charging, Refusal> {
     let contents = find_transfer(message, name_of(CHARGING))?;
     // Reading has opened them and found nothing wrong.

@@ -29,7 +29,7 @@ impl Visitor for Site {
 
 /// Reads the message in the first `n` octets; gives where its transfer data
 /// stands, and the parameter `name` in it if there is one. Refused are 15, 1 to
-/// 13 and 18, then 16.
+/// 13, 18 and 19, then 16.
 fn survey(
     buffer: &[u8],
     n: usize,
@@ -56,7 +56,7 @@ fn check_new_header(new: &[u8]) -> Result<Layout, Refusal> {
         .map_err(Refusal::placeless)
 }
 
-/// 11 if the new octets are too few or left over, then 12, 13 and 18.
+/// 11 if the new octets are too few or left over, then 12, 13, 18 and 19.
 fn check_new_contents(layout: Layout, new: &[u8]) -> Result<(), Refusal> {
     let check = match transfer::contents_of(new) {
         Some(contents) if contents.end == new.len() => {
@@ -101,10 +101,10 @@ fn splice(
 /// If the message shrinks, the octets from its new end to the old become 0.
 /// The rest of the buffer stays, and all of it where it is refused.
 ///
-/// Refused are 15 if `n` is beyond the buffer; reading's 1 to 13 and 18 with
-/// their places; then all at 0: 16 without transfer data; 11 if `new` is empty;
-/// 8; 9; 16 if the name is absent; 11 if octets of `new` are too few or left
-/// over; 12; 13; 18; 14; 15.
+/// Refused are 15 if `n` is beyond the buffer; reading's 1 to 13, 18 and 19
+/// with their places; then all at 0: 16 without transfer data; 11 if `new` is
+/// empty; 8; 9; 16 if the name is absent; 11 if octets of `new` are too few or
+/// left over; 12; 13; 18; 19; 14; 15.
 pub fn replace(buffer: &mut [u8], n: usize, new: &[u8]) -> Result<usize, Refusal> {
     let name = new.first().map(|&header| name_of(header));
     let (data, old) = survey(buffer, n, name)?;
@@ -140,9 +140,9 @@ pub fn append(buffer: &mut [u8], n: usize, new: &[u8]) -> Result<usize, Refusal>
 /// The octets from the message's new end to the old become 0. The rest of the
 /// buffer stays, and all of it where it is refused.
 ///
-/// Refused are 15 if `n` is beyond the buffer; reading's 1 to 13 and 18 with
-/// their places; then 16 at 0 without transfer data, or if the name is absent,
-/// unused or over 63.
+/// Refused are 15 if `n` is beyond the buffer; reading's 1 to 13, 18 and 19
+/// with their places; then 16 at 0 without transfer data, or if the name is
+/// absent, unused or over 63.
 pub fn remove(buffer: &mut [u8], n: usize, name: u8) -> Result<usize, Refusal> {
     let (data, old) = survey(buffer, n, Some(name))?;
     let old = old.ok_or(Refusal::placeless(Refusal::ABSENT))?;

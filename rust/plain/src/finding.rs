@@ -40,8 +40,8 @@ impl Visitor for TransferSought {
 /// Where in `message` the contents of the common parameter `header` stand;
 /// those of C5 are the whole transfer data.
 ///
-/// Refused are reading's 1 to 13 and 18, then 16 at 0 if the header is 00, absent
-/// or unknown.
+/// Refused are reading's 1 to 13, 18 and 19, then 16 at 0 if the header is 00,
+/// absent or unknown.
 pub fn find_common(message: &[u8], header: u8) -> Result<Range<usize>, Refusal> {
     let mut sought = CommonSought {
         header,
@@ -53,7 +53,7 @@ pub fn find_common(message: &[u8], header: u8) -> Result<Range<usize>, Refusal> 
 
 /// Where in `message` the contents of the transfer parameter `name` stand.
 ///
-/// Refused are reading's 1 to 13 and 18, then 16 at 0 if the name is absent,
+/// Refused are reading's 1 to 13, 18 and 19, then 16 at 0 if the name is absent,
 /// unused or over 63, or if there is no transfer data.
 pub fn find_transfer(message: &[u8], name: u8) -> Result<Range<usize>, Refusal> {
     let mut sought = TransferSought { name, found: None };

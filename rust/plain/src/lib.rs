@@ -4,7 +4,7 @@
 //! them, the transfer data, holds transfer parameters of its own. This crate
 //! reads a message to a [`Record`], writes a record, finds a parameter's
 //! contents, lists the spans of all parameters, classes code values, opens the
-//! charging information and edits a message in place.
+//! charging information and the connection order, and edits a message in place.
 //!
 //! Every question is answered with what was asked for, or with a [`Refusal`]:
 //! a number that says why, and a place that says where. No call changes lent
@@ -33,6 +33,7 @@ pub mod finding;
 pub mod image;
 pub mod listing;
 mod number;
+pub mod order;
 pub mod reading;
 pub mod record;
 pub mod refusal;
@@ -45,6 +46,7 @@ pub use editing::{append, remove, replace};
 pub use finding::{find_common, find_transfer};
 pub use image::{from_image, image};
 pub use listing::{rows, spans, Row};
+pub use order::{order, order_spans};
 pub use reading::{read, verdict};
 pub use record::{Common, Record, Transfer};
 pub use refusal::Refusal;

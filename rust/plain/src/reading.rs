@@ -123,8 +123,8 @@ fn walk_transfer_data<V: Visitor>(data: Parameter<'_>, visitor: &mut V) -> Resul
     Ok(())
 }
 
-/// Tries 8 to 13 and 18 on the transfer parameter that begins `octets`; gives
-/// where its contents stand.
+/// Tries 8 to 13, 18 and 19 on the transfer parameter that begins `octets`;
+/// gives where its contents stand.
 fn check_transfer(octets: &[u8], names: &mut Names) -> Result<Range<usize>, u8> {
     let header = octets[0];
     let layout = transfer::check_header(header)?;
@@ -142,7 +142,7 @@ impl Visitor for Nothing {
     fn transfer(&mut self, _: Parameter<'_>) {}
 }
 
-/// Whether reading accepts the message, or its refusal: 1 to 13 or 18.
+/// Whether reading accepts the message, or its refusal: 1 to 13, 18 or 19.
 pub fn verdict(message: &[u8]) -> Result<(), Refusal> {
     walk(message, &mut Nothing)
 }
@@ -159,7 +159,7 @@ impl Visitor for Record {
     }
 }
 
-/// The record of a message, or reading's refusal: 1 to 13 or 18.
+/// The record of a message, or reading's refusal: 1 to 13, 18 or 19.
 ///
 /// Fields that a parameter does not have are 0 in it.
 pub fn read(message: &[u8]) -> Result<Record, Refusal> {

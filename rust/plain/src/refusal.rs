@@ -3,7 +3,7 @@
 /// Why a call was refused, and where in the message.
 #[derive(Clone, Copy, Debug, PartialEq, Eq, Hash)]
 pub struct Refusal {
-    /// One of the refusal numbers 1 to 18, the constants below.
+    /// One of the refusal numbers 1 to 19, the constants below.
     pub number: u8,
     /// The offset that the number's rule names; 0 where it names none.
     pub place: usize,
@@ -35,7 +35,7 @@ impl Refusal {
     pub const CONTENTS_CUT: u8 = 11;
     /// 12: a zero bit is set, the form is bad, or a field too large for its bits.
     pub const BAD_FORM: u8 = 12;
-    /// 13: a digit is spare, a character is no digit, or the filler is not 0.
+    /// 13: a digit is spare, a character may not be there, or the filler is not 0.
     pub const SPARE_DIGIT: u8 = 13;
     /// 14: the transfer data is over 255 octets.
     pub const DATA_OVER: u8 = 14;
@@ -47,6 +47,9 @@ impl Refusal {
     pub const NO_CLASS_LIST: u8 = 17;
     /// 18: the check digit of the charging information is wrong.
     pub const CHECK_DIGIT: u8 = 18;
+    /// 19: a form or a header of the connection order is not listed, not under
+    /// that form, or repeated.
+    pub const CONNECTION_ORDER: u8 = 19;
 
     /// The refusal `number` at `place`.
     pub const fn new(number: u8, place: usize) -> Self {

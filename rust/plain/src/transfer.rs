@@ -3,6 +3,7 @@
 use crate::charging;
 use crate::digits::{octets_for, DIALLED};
 use crate::number;
+use crate::order;
 use crate::refusal::Refusal;
 use std::ops::Range;
 
@@ -14,6 +15,8 @@ pub const NAME_COUNT: usize = 52;
 pub const DIGIT_LIMIT: usize = 63;
 /// Header of the charging information.
 pub const CHARGING: u8 = 0xF7;
+/// Header of the connection order.
+pub const ORDER: u8 = 0xE0;
 /// The first octet of a DA whose rest is a number.
 pub const GENERIC_IS_NUMBER: u8 = 0x06;
 
@@ -49,6 +52,8 @@ pub enum Layout {
     },
     /// PLI 11: the charging information, F7.
     Charging,
+    /// PLI 11: the connection order, E0.
+    Order,
     /// PLI 11: contents carried unread.
     Carried,
 }
@@ -91,7 +96,7 @@ const IN_USE: [(u8, Layout); NAME_COUNT] = [
     (0xDA, Layout::GenericNumber),
     (0xDB, Layout::Two { zero: 0xFC }),
     (0xDC, Layout::CallingNumber),
-    (0xE0, Layout::Carried),
+    (ORDER, Layout::Order),
     (0xE9, Layout::Carried),
     (0xEA, Layout::Carried),
     (0xEB, Layout::Carried),
@@ -204,7 +209,7 @@ pub(crate) fn check_header(header: u8) -> Result<Layout, u8> {
     }
 }
 
-/// Tries 12, 13 and 18 on contents whose length is as the PLI rule gives it.
+/// Tries 12, 13, 18 and 19 on contents whose length is as the PLI rule gives it.
 pub(crate) fn check_contents(layout: Layout, contents: &[u8]) -> Result<(), u8> {
     match layout {
         Layout::Unused | Layout::Open | Layout::Carried => Ok(()),
@@ -228,6 +233,7 @@ pub(crate) fn check_contents(layout: Layout, contents: &[u8]) -> Result<(), u8> 
         Layout::Four => formed(contents.len() == 4),
         Layout::Two { zero } => formed(matches!(contents, [_, second] if second & zero == 0)),
         Layout::Charging => charging::open(contents).map(|_| ()),
+        Layout::Order => order::check(contents),
     }
 }
 

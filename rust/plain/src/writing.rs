@@ -37,8 +37,8 @@ impl Draft {
 /// Octets past the written ones stay, and all where it is refused.
 ///
 /// Refused are, in the reader's order and at the places where the octets would
-/// stand, 1, 2, 3, 5, 8 to 13 and 18; after the last transfer parameter 14; at
-/// the end 6, then 15.
+/// stand, 1, 2, 3, 5, 8 to 13, 18 and 19; after the last transfer parameter 14;
+/// at the end 6, then 15.
 pub fn write(record: &Record, room: &mut [u8]) -> Result<usize, Refusal> {
     if !record.within_limits() {
         return Err(Refusal::new(Refusal::LIMITS, 0));
@@ -128,7 +128,7 @@ fn lay_transfer_data(
     Ok(())
 }
 
-/// Tries 8 to 13 and 18 on one transfer parameter and lays it.
+/// Tries 8 to 13, 18 and 19 on one transfer parameter and lays it.
 fn lay_transfer(
     parameter: &Transfer,
     values: &[u8],

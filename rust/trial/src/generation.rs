@@ -1,9 +1,11 @@
 //! One input after another.
 
 use crate::input::{Input, Kind, KINDS};
-use crate::messages::{charged_message, message, sound_draft, sound_message, Size};
+use crate::messages::{charged_message, message, ordered_message};
+use crate::messages::{sound_draft, sound_message, Size};
 use crate::outcome::{CHARGING_LEN, ROW_LEN};
-use crate::parameters::{charging_somehow, shuffled_names, sound, spoilt_somehow, CHARGING_NAME};
+use crate::parameters::{charging_somehow, order_somehow, CHARGING_NAME, ORDER_NAME};
+use crate::parameters::{shuffled_names, sound, spoilt_somehow};
 use crate::records;
 use crate::rng::Rng;
 
@@ -14,8 +16,9 @@ pub fn input_at(seed: u64, index: u64) -> Input {
 
 /// An input of any kind.
 pub fn generate(rng: &mut Rng) -> Input {
-    // Read, write, rows, the two finds, class, replace, append, remove, charging.
-    let kind = KINDS[rng.weighted(&[22, 26, 8, 6, 8, 4, 11, 9, 6, 10])];
+    // Read, write, rows, the two finds, class, replace, append, remove, charging,
+    // order.
+    let kind = KINDS[rng.weighted(&[22, 26, 8, 6, 8, 4, 11, 9, 6, 10, 12])];
     match kind {
         Kind::Read => read(rng),
         Kind::Write => write(rng),
@@ -33,6 +36,7 @@ pub fn generate(rng: &mut Rng) -> Input {
         }
         Kind::Remove => remove(rng),
         Kind::Charging => charging(rng),
+        Kind::Order => order(rng),
     }
 }
 
@@ -186,9 +190,10 @@ fn growth(kind: Kind, message: &[u8], new: &[u8]) -> usize {
 fn new_parameter(rng: &mut Rng, kind: Kind, message: &[u8]) -> Vec<u8> {
     let names = names_in(message);
     let wanted = |name: &u8| names.contains(name) == (kind == Kind::Replace);
-    match rng.weighted(&[14, 5, 3, 1, 1, 3]) {
+    match rng.weighted(&[14, 5, 3, 1, 1, 3, 9]) {
         5 if wanted(&CHARGING_NAME) => charging_somehow(rng),
-        0 | 5 => {
+        6 if wanted(&ORDER_NAME) => order_somehow(rng),
+        0 | 5 | 6 => {
             let all = shuffled_names(rng);
             let name = all.iter().copied().find(wanted).unwrap_or(all[0]);
             let room = rng.pick(&[6, 12, 12, 257]);
@@ -238,4 +243,14 @@ fn charging(rng: &mut Rng) -> Input {
     };
     let out = lent(rng, CHARGING_LEN);
     Input::Charging { message, out }
+}
+
+fn order(rng: &mut Rng) -> Input {
+    let message = match rng.below(4) {
+        0 => message(rng),
+        _ => ordered_message(rng),
+    };
+    let needed = plain::order(&message).map_or(0, |rows| ROW_LEN * rows.len());
+    let table = lent(rng, needed);
+    Input::Order { message, table }
 }

@@ -23,10 +23,12 @@ pub enum Kind {
     Remove = 8,
     /// Opening the charging information.
     Charging = 9,
+    /// Opening the connection order.
+    Order = 10,
 }
 
 /// All kinds, each at the index of its own number.
-pub const KINDS: [Kind; 10] = [
+pub const KINDS: [Kind; 11] = [
     Kind::Read,
     Kind::Write,
     Kind::Rows,
@@ -37,6 +39,7 @@ pub const KINDS: [Kind; 10] = [
     Kind::Append,
     Kind::Remove,
     Kind::Charging,
+    Kind::Order,
 ];
 
 /// One call with all its arguments; lent memory as it is before the call.
@@ -118,6 +121,13 @@ pub enum Input {
         /// The lent octets.
         out: Vec<u8>,
     },
+    /// List the rows of the connection order of `message` into `table`.
+    Order {
+        /// The message.
+        message: Vec<u8>,
+        /// The lent table.
+        table: Vec<u8>,
+    },
 }
 
 impl Input {
@@ -134,6 +144,7 @@ impl Input {
             Input::Append { .. } => Kind::Append,
             Input::Remove { .. } => Kind::Remove,
             Input::Charging { .. } => Kind::Charging,
+            Input::Order { .. } => Kind::Order,
         }
     }
 
@@ -142,7 +153,7 @@ impl Input {
         match self {
             Input::Read { image, .. } => image,
             Input::Write { room, .. } => room,
-            Input::Rows { table, .. } => table,
+            Input::Rows { table, .. } | Input::Order { table, .. } => table,
             Input::Replace { buffer, .. }
             | Input::Append { buffer, .. }
             | Input::Remove { buffer, .. } => buffer,

@@ -23,6 +23,7 @@ pub mod coverage;
 pub mod generation;
 pub mod input;
 pub mod messages;
+pub mod order;
 pub mod outcome;
 pub mod parameters;
 pub mod record;

@@ -1,6 +1,6 @@
 //! Messages: sound ones, short to full, and damaged ones.
 
-use crate::parameters::{self, shortest, shuffled_names, sound, CHARGING_NAME};
+use crate::parameters::{self, shortest, shuffled_names, sound};
 use crate::rng::Rng;
 use plain::common::{is_signal_kind, MESSAGE_LIMIT};
 use plain::transfer::{layout_of, name_of, Layout, DATA_LIMIT};
@@ -202,12 +202,23 @@ pub fn sound_message(rng: &mut Rng) -> Vec<u8> {
 /// A message that is sound but, as the case may be, for its charging
 /// information; it has some if it has transfer data.
 pub fn charged_message(rng: &mut Rng) -> Vec<u8> {
+    message_with(rng, parameters::charging_somehow)
+}
+
+/// The same with a connection order.
+pub fn ordered_message(rng: &mut Rng) -> Vec<u8> {
+    message_with(rng, parameters::order_somehow)
+}
+
+/// A message with one parameter made so, if it has transfer data; all else is
+/// sound.
+fn message_with(rng: &mut Rng, made: fn(&mut Rng) -> Vec<u8>) -> Vec<u8> {
     let size = size(rng);
     let mut draft = sound_draft(rng, size);
     if let Some((parameters, _)) = draft.data() {
-        parameters.retain(|parameter| name_of(parameter[0]) != CHARGING_NAME);
-        let charging = parameters::charging_somehow(rng);
-        put(rng, parameters, charging);
+        let own = made(rng);
+        parameters.retain(|parameter| name_of(parameter[0]) != name_of(own[0]));
+        put(rng, parameters, own);
     }
     draft.octets()
 }

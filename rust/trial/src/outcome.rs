@@ -64,7 +64,7 @@ pub fn answer(input: &Input) -> Outcome {
     match input {
         Input::Read { message, .. } => read(message, memory),
         Input::Write { image, .. } => write(image, memory),
-        Input::Rows { message, .. } => rows(message, memory),
+        Input::Rows { message, .. } => listed(memory, |table| plain::spans(message, table)),
         Input::FindCommon { message, header } => {
             Outcome::new(packed_range(plain::find_common(message, *header)), memory)
         }
@@ -82,6 +82,7 @@ pub fn answer(input: &Input) -> Outcome {
             edited(memory, |buffer| plain::remove(buffer, (*n).into(), *name))
         }
         Input::Charging { message, .. } => charging(message, memory),
+        Input::Order { message, .. } => listed(memory, |table| plain::order_spans(message, table)),
     }
 }
 
@@ -106,9 +107,9 @@ fn write(image: &[u8], mut memory: Vec<u8>) -> Outcome {
     Outcome::new(packed(answer), memory)
 }
 
-fn rows(message: &[u8], mut memory: Vec<u8>) -> Outcome {
+fn listed(mut memory: Vec<u8>, list: impl Fn(&mut [Row]) -> Result<usize, Refusal>) -> Outcome {
     let mut table: Vec<Row> = memory.chunks_exact(ROW_LEN).map(row_of).collect();
-    let answer = plain::spans(message, &mut table);
+    let answer = list(&mut table);
     for (octets, row) in memory.chunks_exact_mut(ROW_LEN).zip(&table) {
         octets.copy_from_slice(&octets_of(row));
     }

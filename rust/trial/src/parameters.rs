@@ -1,11 +1,14 @@
 //! Transfer parameters in octets: sound ones of every name, and spoilt ones.
 
 use crate::charging;
+use crate::order;
 use crate::rng::Rng;
-use plain::transfer::{layout_of, name_of, Layout, CHARGING};
+use plain::transfer::{layout_of, name_of, Layout, CHARGING, ORDER};
 
 /// The name of the charging information.
 pub const CHARGING_NAME: u8 = name_of(CHARGING);
+/// The name of the connection order.
+pub const ORDER_NAME: u8 = name_of(ORDER);
 
 /// What can be wrong with a transfer parameter by itself.
 #[derive(Clone, Copy, Debug, PartialEq, Eq)]
@@ -24,10 +27,12 @@ pub enum Fault {
     Twofold,
     /// The check digit of the charging information is wrong.
     CheckDigit,
+    /// A form or header cannot stand in the connection order.
+    Order,
 }
 
 /// All faults.
-pub const FAULTS: [Fault; 7] = [
+pub const FAULTS: [Fault; 8] = [
     Fault::UnusedName,
     Fault::WrongPli,
     Fault::WrongLength,
@@ -35,6 +40,7 @@ pub const FAULTS: [Fault; 7] = [
     Fault::SpareDigit,
     Fault::Twofold,
     Fault::CheckDigit,
+    Fault::Order,
 ];
 
 /// The names whose layout is as wanted.
@@ -55,6 +61,7 @@ pub fn shortest(name: u8) -> usize {
         Layout::Unused | Layout::Open => 1,
         Layout::Octet { .. } | Layout::Digits { .. } | Layout::Carried => 2,
         Layout::GenericNumber => 3,
+        Layout::Order => 2 + order::SHORTEST,
         Layout::UserNumber | Layout::CallingNumber | Layout::Two { .. } => 4,
         Layout::Charging => 2 + charging::SHORTEST,
         Layout::Four => 6,
@@ -62,7 +69,7 @@ pub fn shortest(name: u8) -> usize {
 }
 
 /// A count up to `most`, small as a rule.
-fn count(rng: &mut Rng, most: usize) -> usize {
+pub(crate) fn count(rng: &mut Rng, most: usize) -> usize {
     let most = if rng.one_in(6) { most } else { most.min(5) };
     rng.between(0, most)
 }
@@ -79,6 +86,11 @@ fn charged(contents: Vec<u8>) -> Vec<u8> {
     counted(CHARGING_NAME, &contents)
 }
 
+/// The connection order with these contents.
+fn ordered(contents: Vec<u8>) -> Vec<u8> {
+    counted(ORDER_NAME, &contents)
+}
+
 /// A sound parameter of `name` in at most `room` octets, if [`shortest`] goes
 /// into them; of an unused name, one that is sound but for its name.
 pub fn sound(rng: &mut Rng, name: u8, room: usize) -> Vec<u8> {
@@ -86,18 +98,7 @@ pub fn sound(rng: &mut Rng, name: u8, room: usize) -> Vec<u8> {
     match layout_of(name) {
         Layout::Unused | Layout::Open => carried_by_any_pli(rng, name, spare),
         Layout::Octet { zero } => vec![0x40 | name, rng.octet() & !zero],
-        Layout::Digits { zero } => {
-            let most = (2 * spare).min(63);
-            let len = if rng.one_in(12) {
-                most
-            } else {
-                count(rng, most)
-            };
-            let codes = codes(rng, &DIALLED_CODES, len);
-            let mut octets = dialled(name, &codes);
-            octets[1] |= rng.octet() & 0xC0 & !zero;
-            octets
-        }
+        Layout::Digits { zero } => dialled_digits(rng, name, zero, spare),
         Layout::UserNumber => counted(name, &number(rng, spare)),
         Layout::CallingNumber => counted(name, &calling_number(rng, spare)),
         Layout::GenericNumber => {
@@ -114,11 +115,25 @@ pub fn sound(rng: &mut Rng, name: u8, room: usize) -> Vec<u8> {
         Layout::Four => counted(name, &rng.octets(4)),
         Layout::Two { zero } => counted(name, &[rng.octet(), rng.octet() & !zero]),
         Layout::Charging => charged(charging::sound(rng, charging::SHORTEST + spare)),
+        Layout::Order => ordered(order::sound(rng, order::SHORTEST + spare)),
         Layout::Carried => {
             let len = count(rng, spare);
             counted(name, &rng.octets(len))
         }
     }
+}
+
+/// A sound parameter under PLI 10 with at most `spare` octets of digits.
+fn dialled_digits(rng: &mut Rng, name: u8, zero: u8, spare: usize) -> Vec<u8> {
+    let most = (2 * spare).min(63);
+    let len = match rng.one_in(12) {
+        true => most,
+        false => count(rng, most),
+    };
+    let codes = codes(rng, &DIALLED_CODES, len);
+    let mut octets = dialled(name, &codes);
+    octets[1] |= rng.octet() & 0xC0 & !zero;
+    octets
 }
 
 /// A parameter of `name` under any PLI, with any contents.
@@ -149,17 +164,17 @@ fn with_pli(rng: &mut Rng, header: u8, spare: usize) -> Vec<u8> {
     }
 }
 
-const DIALLED_CODES: [u8; 12] = [1, 2, 3, 4, 5, 6, 7, 8, 9, 10, 11, 12];
-const DIALLED_SPARE: [u8; 4] = [0, 13, 14, 15];
+pub(crate) const DIALLED_CODES: [u8; 12] = [1, 2, 3, 4, 5, 6, 7, 8, 9, 10, 11, 12];
+pub(crate) const DIALLED_SPARE: [u8; 4] = [0, 13, 14, 15];
 const NUMBER_CODES: [u8; 12] = [0, 1, 2, 3, 4, 5, 6, 7, 8, 9, 11, 12];
 const NUMBER_SPARE: [u8; 4] = [10, 13, 14, 15];
 
-fn codes(rng: &mut Rng, from: &[u8], len: usize) -> Vec<u8> {
+pub(crate) fn codes(rng: &mut Rng, from: &[u8], len: usize) -> Vec<u8> {
     (0..len).map(|_| rng.pick(from)).collect()
 }
 
 /// Codes in half-octets, the first low.
-fn packed(codes: &[u8]) -> Vec<u8> {
+pub(crate) fn packed(codes: &[u8]) -> Vec<u8> {
     codes
         .chunks(2)
         .map(|pair| pair[0] | pair.get(1).unwrap_or(&0) << 4)
@@ -214,11 +229,18 @@ pub fn spoilt(rng: &mut Rng, fault: Fault) -> Vec<u8> {
         Fault::WrongPli => wrong_pli(rng),
         Fault::WrongLength => wrong_length(rng),
         Fault::BadForm => bad_form(rng),
-        Fault::SpareDigit if rng.one_in(5) => charged(charging::bad_digit(rng)),
-        Fault::SpareDigit => spare_digit(rng),
-        Fault::Twofold if rng.one_in(5) => charged(charging::twofold(rng)),
-        Fault::Twofold => twofold(rng),
+        Fault::SpareDigit => match rng.below(6) {
+            0 => charged(charging::bad_digit(rng)),
+            1 => ordered(order::bad_digit(rng)),
+            _ => spare_digit(rng),
+        },
+        Fault::Twofold => match rng.below(6) {
+            0 => charged(charging::twofold(rng)),
+            1 => ordered(order::twofold(rng)),
+            _ => twofold(rng),
+        },
         Fault::CheckDigit => charged(charging::wrong_check_digit(rng)),
+        Fault::Order => ordered(order::not_ordered(rng)),
     }
 }
 
@@ -243,6 +265,27 @@ pub fn spoilt_charging(rng: &mut Rng) -> Vec<u8> {
         1 => charging::bad_digit(rng),
         2 => charging::twofold(rng),
         _ => charging::wrong_check_digit(rng),
+    })
+}
+
+/// The connection order, sound or spoilt.
+pub fn order_somehow(rng: &mut Rng) -> Vec<u8> {
+    match rng.below(2) {
+        0 => {
+            let room = rng.pick(&[3, 12, 40, 40, 40, 257]);
+            sound(rng, ORDER_NAME, room)
+        }
+        _ => spoilt_order(rng),
+    }
+}
+
+/// The connection order with any fault of its own.
+pub fn spoilt_order(rng: &mut Rng) -> Vec<u8> {
+    ordered(match rng.weighted(&[6, 4, 1, 5]) {
+        0 => order::bad_form(rng),
+        1 => order::bad_digit(rng),
+        2 => order::twofold(rng),
+        _ => order::not_ordered(rng),
     })
 }
 
@@ -275,7 +318,7 @@ fn wrong_length(rng: &mut Rng) -> Vec<u8> {
 
 fn bad_form(rng: &mut Rng) -> Vec<u8> {
     let name = if rng.one_in(3) {
-        rng.pick(&[0x1C, 0x1C, 0x1B, CHARGING_NAME, CHARGING_NAME])
+        rng.pick(&[0x1C, 0x1C, 0x1B, CHARGING_NAME, ORDER_NAME])
     } else {
         rng.pick(&names_with(has_form))
     };
@@ -305,6 +348,7 @@ fn bad_form(rng: &mut Rng) -> Vec<u8> {
             counted(name, &rng.octets(len))
         }
         Layout::Charging => charged(charging::bad_form(rng)),
+        Layout::Order => ordered(order::bad_form(rng)),
         _ => counted(name, &bad_number(rng)),
     }
 }
@@ -431,6 +475,7 @@ mod tests {
             assert_eq!(number(Fault::BadForm, &mut rng), Err(12));
             assert_eq!(number(Fault::SpareDigit, &mut rng), Err(13));
             assert_eq!(number(Fault::CheckDigit, &mut rng), Err(18));
+            assert_eq!(number(Fault::Order, &mut rng), Err(19));
         }
     }
 }

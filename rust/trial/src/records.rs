@@ -1,7 +1,7 @@
 //! Records and their images: sound, with fields out of range, over the limits.
 
 use crate::messages::{self, sound_draft, with_alone, Size};
-use crate::parameters::{shuffled_names, sound, spoilt_charging, spoilt_somehow};
+use crate::parameters::{shuffled_names, sound, spoilt_charging, spoilt_order, spoilt_somehow};
 use crate::record::{fields_in, fields_of, Common, Record, Transfer, WITH_FIELDS};
 use crate::record::{INCOMPLETE, NUMBER_TYPE, PLAN, PRESENTATION, SCREENING};
 use crate::rng::Rng;
@@ -81,7 +81,7 @@ fn heavy_transfers(rng: &mut Rng) -> Vec<Transfer> {
         }
     }
     let used = |name: u8| transfers.iter().any(|t| t.header & 0x3F == name);
-    let carried = [0x0C, 0x0D, 0x13, 0x20, 0x38];
+    let carried = [0x0C, 0x0D, 0x13, 0x29, 0x38];
     if let Some(name) = carried.into_iter().find(|&name| !used(name)) {
         transfers.push(Transfer {
             header: 0xC0 | name,
@@ -158,7 +158,7 @@ fn damage_common(rng: &mut Rng, record: &mut Record) {
 }
 
 fn damage_transfers(rng: &mut Rng, transfers: &mut Vec<Transfer>) {
-    let parameter = match rng.below(13) {
+    let parameter = match rng.below(15) {
         0 | 1 if !transfers.is_empty() => {
             let mut again = transfers[rng.below(transfers.len())].clone();
             if rng.one_in(3) {
@@ -173,6 +173,7 @@ fn damage_transfers(rng: &mut Rng, transfers: &mut Vec<Transfer>) {
         6 if rng.one_in(3) => crowd(rng, transfers),
         7 | 8 => alone_of_its_name(transfers, at_limit(rng)),
         9 => alone_of_its_name(transfers, as_octets(&spoilt_charging(rng))),
+        10 | 11 => alone_of_its_name(transfers, as_octets(&spoilt_order(rng))),
         _ if !transfers.is_empty() => {
             let at = rng.below(transfers.len());
             damage_transfer(rng, &mut transfers[at]);

@@ -1,7 +1,7 @@
 //! What the plain codec's answers must have to do with one another, over many
 //! inputs.
 
-use plain::transfer::{name_of, CHARGING};
+use plain::transfer::{name_of, CHARGING, ORDER};
 use plain::{Refusal, Row};
 use std::array;
 use std::ops::Range;
@@ -60,6 +60,7 @@ fn agrees(input: &Input, outcome: &Outcome) {
             });
         }
         Input::Charging { message, .. } => charging_agrees(message, input, outcome),
+        Input::Order { message, .. } => order_agrees(message, input, outcome),
     }
 }
 
@@ -225,4 +226,30 @@ fn laid_out(told: &[u8]) -> Vec<u8> {
         _ => (fee, format!("{rates}{units:04}{free:03}")),
     };
     [vec![told[0]], first, characters.into_bytes()].concat()
+}
+
+/// Opening the connection order is refused as finding it is, and with 15 just
+/// where the table has room for fewer rows; the rows follow one another through
+/// the contents, from the form to the end.
+fn order_agrees(message: &[u8], input: &Input, outcome: &Outcome) {
+    let contents = match plain::find_transfer(message, name_of(ORDER)) {
+        Err(refusal) => return assert_eq!(outcome.packed, refused(refusal), "{message:02X?}"),
+        Ok(contents) => contents,
+    };
+    let rows = plain::order(message).expect("an order that was found");
+    let needed = ROW_LEN * rows.len();
+    if needed > input.lent().len() {
+        let short = refused(Refusal::new(Refusal::ROOM_SHORT, 0));
+        return assert_eq!(outcome.packed, short, "{message:02X?}");
+    }
+    assert_eq!(outcome.packed, rows.len() as u64, "{message:02X?}");
+    assert_eq!(outcome.memory[needed..], input.lent()[needed..]);
+    let mut offset = contents.start;
+    for octets in outcome.memory[..needed].chunks(ROW_LEN) {
+        let number = |low: usize| usize::from(u16::from_le_bytes([octets[low], octets[low + 1]]));
+        assert_eq!((number(0), octets[2]), (offset, message[offset]));
+        offset += 1 + number(3);
+    }
+    assert_eq!(offset, contents.end, "{message:02X?}");
+    assert_eq!(rows[0].len, 0);
 }

@@ -1,13 +1,17 @@
 //! Over many inputs every answer occurs that a call can have, and no other;
 //! every name meets every refusal that its layout can give; every field is met
-//! at its limit and one above, and every rate kind of the charging information at
-//! its limits; and every condition of a list occurs.
+//! at its limit and one above, and so are every rate kind of the charging
+//! information and every form and header of the connection order; and every
+//! condition of a list occurs.
 
 mod charging;
 mod conditions;
+mod contents;
+mod order;
 
-use charging::Sights;
 use conditions::CONDITIONS;
+use contents::contents_in;
+use plain::transfer::{CHARGING, ORDER};
 use std::collections::{BTreeMap, BTreeSet};
 use trial::record::{fields_in, fields_of, Common, Record, Transfer, WITH_FIELDS};
 use trial::{answer, input_at, Coverage, Input, Kind, Outcome};
@@ -31,28 +35,30 @@ type Kinds = BTreeMap<u8, BTreeSet<u8>>;
 
 /// How many names reading refuses with each number. 12 names are unused, 47 of
 /// the others have a PLI of their own. Eleven names under PLI 01 and three under
-/// PLI 10 have zero bits, and seven under PLI 11 a form; nine hold digits, one of
-/// them a check digit.
-const READ: [(u8, usize); 7] = [
+/// PLI 10 have zero bits, and eight under PLI 11 a form; ten hold digits, one of
+/// them a check digit, and one is the connection order.
+const READ: [(u8, usize); 8] = [
     (8, 12),
     (9, 47),
     (10, 52),
     (11, 52),
-    (12, 21),
-    (13, 9),
+    (12, 22),
+    (13, 10),
     (18, 1),
+    (19, 1),
 ];
 
 /// The same of writing. There no contents under PLI 11 are of a wrong length,
 /// save those that are 12; 90, 91, 95 and 98 have marks, A3 has none.
-const WRITTEN: [(u8, usize); 7] = [
+const WRITTEN: [(u8, usize); 8] = [
     (8, 12),
     (9, 47),
     (10, 52),
     (11, 30),
-    (12, 22),
-    (13, 9),
+    (12, 23),
+    (13, 10),
     (18, 1),
+    (19, 1),
 ];
 
 #[test]
@@ -88,9 +94,9 @@ fn every_condition_occurs() {
 #[test]
 fn every_rate_kind_occurs_at_its_limits() {
     let (mut read, mut written, mut edited) = (Kinds::new(), Kinds::new(), Kinds::new());
-    let mut seen = Sights::new();
+    let mut seen = charging::Sights::new();
     for (input, outcome) in calls() {
-        let Some(contents) = charging::contents_in(&input, &outcome) else {
+        let Some(contents) = contents_in(CHARGING, &input, &outcome) else {
             continue;
         };
         let kinds = match input.kind() {
@@ -109,6 +115,26 @@ fn every_rate_kind_occurs_at_its_limits() {
     // All kinds but one have digits, and four a check digit.
     for kinds in [read, written, edited] {
         assert_eq!(counts(&kinds), [(0, 8), (12, 8), (13, 7), (18, 4)]);
+    }
+}
+
+#[test]
+fn every_form_and_header_occurs_at_its_limits() {
+    let [mut read, mut written, mut edited] = [(); 3].map(|()| order::Sights::new());
+    for (input, outcome) in calls() {
+        let Some(contents) = contents_in(ORDER, &input, &outcome) else {
+            continue;
+        };
+        let seen = match input.kind() {
+            Kind::Write => &mut written,
+            Kind::Replace | Kind::Append => &mut edited,
+            _ => &mut read,
+        };
+        seen.extend(order::sights(&contents));
+    }
+    for (call, seen) in [("read", read), ("written", written), ("edited", edited)] {
+        let missing: Vec<_> = order::all().difference(&seen).copied().collect();
+        assert_eq!(missing, [], "{call}");
     }
 }
 
@@ -174,7 +200,7 @@ fn counts(names: &Names) -> Vec<(u8, usize)> {
 
 /// Whether a transfer parameter was refused.
 fn is_of_transfer(outcome: &Outcome) -> bool {
-    matches!(outcome.number(), 8..=13 | 18)
+    matches!(outcome.number(), 8..=13 | 18 | 19)
 }
 
 /// Notes the name at which reading refused a transfer parameter.
@@ -184,7 +210,8 @@ fn note_read(input: &Input, outcome: &Outcome, names: &mut Names) {
         | Input::Rows { message, .. }
         | Input::FindCommon { message, .. }
         | Input::FindTransfer { message, .. }
-        | Input::Charging { message, .. } => message,
+        | Input::Charging { message, .. }
+        | Input::Order { message, .. } => message,
         _ => return,
     };
     if is_of_transfer(outcome) {

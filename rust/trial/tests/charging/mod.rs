@@ -1,11 +1,8 @@
 //! What occurs of the charging information: every rate kind, at its limits.
 
-use crate::transfer_at;
-use plain::transfer::{name_of, CHARGING};
+use crate::contents;
+use plain::transfer::CHARGING;
 use std::collections::BTreeSet;
-use trial::messages::with_alone;
-use trial::record::Record;
-use trial::{Input, Outcome};
 
 /// The rate kinds, and how many octets each has behind the kind.
 const KINDS: [(u8, usize); 8] = [
@@ -93,68 +90,8 @@ pub fn kind_of(contents: &[u8]) -> Option<u8> {
     kind.filter(|kind| KINDS.iter().any(|(known, _)| known == kind))
 }
 
-/// The contents that were accepted, or for which the call was refused.
-pub fn contents_in(input: &Input, outcome: &Outcome) -> Option<Vec<u8>> {
-    let accepted = match outcome.number() {
-        0 => true,
-        12 | 13 | 18 => false,
-        _ => return None,
-    };
-    match input {
-        Input::Read { message, .. }
-        | Input::Rows { message, .. }
-        | Input::FindCommon { message, .. }
-        | Input::FindTransfer { message, .. }
-        | Input::Charging { message, .. } => match accepted {
-            true => found_in(message),
-            false => counted(&message[outcome.place()..]),
-        },
-        Input::Write { image, .. } => {
-            let record = plain::from_image(image).ok()?;
-            match accepted {
-                true => found_in(&outcome.memory[..outcome.value()]),
-                false => held_at(record.into(), outcome.place()),
-            }
-        }
-        Input::Replace { new, .. } | Input::Append { new, .. } if outcome.place() == 0 => {
-            counted(new)
-        }
-        _ => None,
-    }
-}
-
-/// The contents in a sound message.
-fn found_in(message: &[u8]) -> Option<Vec<u8>> {
-    let found = plain::find_transfer(message, name_of(CHARGING)).ok()?;
-    Some(message[found].to_vec())
-}
-
-/// The contents of the parameter that begins these octets.
-fn counted(octets: &[u8]) -> Option<Vec<u8>> {
-    match octets {
-        [CHARGING, len, contents @ ..] => contents.get(..(*len).into()).map(<[u8]>::to_vec),
-        _ => None,
-    }
-}
-
-/// The contents in a record whose header would stand at `place`.
-fn held_at(mut record: Record, place: usize) -> Option<Vec<u8>> {
-    let parameter = transfer_at(&mut record, place)?;
-    (parameter.header == CHARGING).then(|| parameter.values.clone())
-}
-
-/// The number with which reading refuses the contents, 0 where it accepts them.
-fn number(contents: &[u8]) -> u8 {
-    let parameter = [&[CHARGING, contents.len() as u8], contents].concat();
-    let verdict = plain::verdict(&with_alone(&parameter));
-    verdict.map_or_else(|refusal| refusal.number, |()| 0)
-}
-
-/// The same with another octet in one place.
 fn number_with(contents: &[u8], at: usize, octet: u8) -> u8 {
-    let mut contents = contents.to_vec();
-    contents[at] = octet;
-    number(&contents)
+    contents::number_with(CHARGING, contents, at, octet)
 }
 
 fn sound(contents: &[u8]) -> Vec<Sight> {

@@ -1,5 +1,8 @@
 //! Conditions on a call and its outcome, each of which is to occur.
 
+use plain::order::ORDER_ROW_LIMIT;
+use plain::transfer::{name_of, ORDER};
+use trial::outcome::ROW_LEN;
 use trial::record::Transfer;
 use trial::{answer, Input, Kind, Outcome};
 
@@ -109,6 +112,25 @@ pub const CONDITIONS: &[Condition] = &[
     ("octets for charging short by one", |i, o| {
         short(i, o, Kind::Charging)
     }),
+    ("table for an order short by one", |i, o| {
+        short(i, o, Kind::Order)
+    }),
+    ("octets past the rows of an order", |i, o| {
+        orders(i, o, |_| o.value() * ROW_LEN < o.memory.len())
+    }),
+    ("order of a form alone", |i, o| {
+        orders(i, o, |_| o.value() == 1)
+    }),
+    ("order with the most rows", |i, o| {
+        orders(i, o, |_| o.value() == ORDER_ROW_LIMIT)
+    }),
+    ("order of more than 200 octets", |i, o| {
+        orders(i, o, |contents| contents.len() > 200)
+    }),
+    ("order with 255 digits", |i, o| {
+        let is_full = |row: &[u8]| row[2..] == [0x91, 129, 0];
+        orders(i, o, |_| o.memory.chunks_exact(ROW_LEN).any(is_full))
+    }),
 ];
 
 /// Whether a message that is wanted was read, with this number for an answer.
@@ -120,6 +142,15 @@ fn reads(input: &Input, outcome: &Outcome, number: u8, wanted: impl Fn(&[u8]) ->
 fn holds(input: &Input, outcome: &Outcome, name: u8, wanted: impl Fn(&[u8]) -> bool) -> bool {
     let found = |m: &[u8]| plain::find_transfer(m, name).is_ok_and(|range| wanted(&m[range]));
     reads(input, outcome, 0, found)
+}
+
+/// Whether an order was opened whose contents are wanted.
+fn orders(input: &Input, outcome: &Outcome, wanted: impl Fn(&[u8]) -> bool) -> bool {
+    let Input::Order { message, .. } = input else {
+        return false;
+    };
+    let found = || plain::find_transfer(message, name_of(ORDER)).ok();
+    outcome.number() == 0 && found().is_some_and(|range| wanted(&message[range]))
 }
 
 /// Whether reading refused the wanted parameter, of which the octets from the
@@ -204,7 +235,8 @@ fn short(input: &Input, outcome: &Outcome, kind: Kind) -> bool {
         | Input::Replace { buffer: lent, .. }
         | Input::Append { buffer: lent, .. }
         | Input::Remove { buffer: lent, .. }
-        | Input::Charging { out: lent, .. } => lent.push(0),
+        | Input::Charging { out: lent, .. }
+        | Input::Order { table: lent, .. } => lent.push(0),
         _ => return false,
     }
     input.kind() == kind && outcome.number() == 15 && answer(&longer).number() == 0

@@ -1,0 +1,122 @@
+//! The connection order in messages, records and edits.
+
+mod support;
+
+use plain::{append, find_transfer, order, order_spans, replace, write, Refusal, Row};
+use support::{octets, record, transfer, M};
+
+/// K with this connection order, and its end mark.
+fn message(order: &str) -> Vec<u8> {
+    let parameter = octets(order);
+    let head = [0x01, 0x01, 0x06, 0x11, 0xC5, parameter.len() as u8];
+    [&head, &parameter[..], &[0x00]].concat()
+}
+
+/// Digits, a trunk and characters, sound; and with faults of its own, by number.
+const SOUND: &str = "E0 0C 2B 91 03 21 0A 41 05 C9 03 11 02 03";
+const FAULTY: [(&str, u8); 8] = [
+    ("E0 06 2B 91 03 21 0A", 11),
+    ("E0 00", 12),
+    ("E0 06 2B 91 03 21 0A 41", 12),
+    ("E0 07 2B 91 03 21 0D 41 05", 13),
+    ("E0 01 2A", 19),
+    ("E0 03 2B D3 05", 19),
+    ("E0 03 2B 42 05", 19),
+    ("E0 05 2B 41 05 41 05", 19),
+];
+
+fn row(offset: u16, header: u8, len: u16) -> Row {
+    Row {
+        offset,
+        header,
+        len,
+    }
+}
+
+#[test]
+fn form_and_parameters_as_rows() {
+    let rows = [
+        row(8, 0x2B, 0),
+        row(9, 0x91, 3),
+        row(13, 0x41, 1),
+        row(15, 0xC9, 4),
+    ];
+    let sound = message(SOUND);
+    assert_eq!(order(&sound).as_deref(), Ok(&rows[..]));
+    let total: usize = rows.iter().map(|row| 1 + usize::from(row.len)).sum();
+    assert_eq!(find_transfer(&sound, 0x20), Ok(8..8 + total));
+    assert_eq!(order(&message("E0 01 28")), Ok(vec![row(8, 0x28, 0)]));
+}
+
+#[test]
+fn the_table_keeps_what_is_not_given() {
+    let old = row(7, 7, 7);
+    let mut table = [old; 6];
+    assert_eq!(order_spans(&message(SOUND), &mut table), Ok(4));
+    assert_eq!(table[3..], [row(15, 0xC9, 4), old, old]);
+
+    let mut short = [old; 3];
+    let refused = order_spans(&message(SOUND), &mut short);
+    assert_eq!(refused, Err(Refusal::new(15, 0)));
+    assert_eq!(short, [old; 3]);
+    let absent = order_spans(&M, &mut []);
+    assert_eq!(absent, Err(Refusal::new(16, 0)));
+}
+
+#[test]
+fn absent_or_refused_by_reading() {
+    let absent = Err(Refusal::new(16, 0));
+    assert_eq!(order(&M), absent);
+    assert_eq!(order(&octets("01 01 06 11 00")), absent);
+    assert_eq!(order(&[]), Err(Refusal::new(1, 0)));
+    let mut cut = message(SOUND);
+    cut.pop();
+    assert_eq!(order(&cut), Err(Refusal::new(4, cut.len())));
+}
+
+#[test]
+fn read_with_the_place_of_the_header() {
+    for (parameter, number) in FAULTY {
+        let refused = Refusal::new(number, 6);
+        assert_eq!(plain::verdict(&message(parameter)), Err(refused));
+        assert_eq!(order(&message(parameter)), Err(refused));
+    }
+}
+
+#[test]
+fn written_by_the_same_rule() {
+    let written = |contents: &[u8]| {
+        let common = [(0x01, 1), (0x06, 0x11), (0xC5, 0)];
+        let mut room = [0; 272];
+        let len = write(&record(&common, &[(transfer(0xE0), contents)]), &mut room)?;
+        Ok(room[..len].to_vec())
+    };
+    assert_eq!(written(&octets(SOUND)[2..]), Ok(message(SOUND)));
+    for (parameter, number) in FAULTY.into_iter().filter(|(_, number)| *number != 11) {
+        let refused = Err(Refusal::new(number, 6));
+        assert_eq!(written(&octets(parameter)[2..]), refused);
+    }
+}
+
+/// K with this parameter before a CC that fills the transfer data up.
+fn full(parameter: &str) -> Vec<u8> {
+    let parameter = octets(parameter);
+    let left = 255 - parameter.len() - 2;
+    let head = octets("01 01 06 11 C5 FF");
+    let carried = [&[0xCC, left as u8], &vec![0x00; left][..]].concat();
+    [&head, &parameter, &carried, &[0x00][..]].concat()
+}
+
+/// 14 comes behind all of them: the new parameter has no room in the transfer
+/// data.
+#[test]
+fn edits_refuse_it_at_0() {
+    let faults = FAULTY.into_iter().chain([(SOUND, 14)]);
+    for (new, number) in faults {
+        let refused = Err(Refusal::new(number, 0));
+        let (mut without, mut with) = (full(""), full("E0 01 28"));
+        let n = without.len();
+        assert_eq!(append(&mut without, n, &octets(new)), refused);
+        assert_eq!(replace(&mut with, n, &octets(new)), refused);
+    }
+}
