@@ -62,8 +62,8 @@ enum tk_order_header {
     TK_ORDER_TRUNK = 0x41,            /* trunk of the office: one octet */
     TK_ORDER_RELEASE = 0x42,          /* what is released: a length octet, which is 1, and one octet */
     TK_ORDER_REDIRECT_REASON = 0x43,  /* why the call is redirected: one octet with bit 7 set */
-    TK_ORDER_DIGITS = 0x91,           /* digits for the outgoing line: a count of half-octets in a whole octet, digits as in PLI 10 */
-    TK_ORDER_DESTINATION = 0x92,      /* number that the call is transferred to: a length octet, then as D7 with digits 0 to 9 alone */
+    TK_ORDER_SENT_DIGITS = 0x91,      /* digits for the outgoing line: a count of half-octets in a whole octet, digits as in PLI 10 */
+    TK_ORDER_FORWARD_NUMBER = 0x92,   /* number that the call is transferred to: a length octet, then as D7 with digits 0 to 9 alone */
     TK_ORDER_CALLING_ARE = 0xC9,      /* ARE, calling side: a length octet, a code, a repeat count of at most 3, characters */
     TK_ORDER_CALLED_ARE = 0xCA,       /* ARE, called side: the same */
     TK_ORDER_CALLING_GUIDANCE = 0xCB, /* guidance, calling side: a length octet and carried octets */

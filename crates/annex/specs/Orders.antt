@@ -81,7 +81,7 @@ abbrev pub orderHeaders : List ℕ
 orderHeaders = map rowHeader orderRows
 
 -- a header in no row may stand under no form
-abbrev rowIn : List OrderRow → ℕ → OrderRow
+abbrev pub rowIn : List OrderRow → ℕ → OrderRow
 rowIn [] h = row h Guidance []
 rowIn (r ∷ rs) h = cond (eqb h (r .header)) r (rowIn rs h)
 

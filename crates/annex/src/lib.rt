@@ -49,7 +49,7 @@ impl Answer {
 
     pub const CHECK_DIGIT: u8 = 18;
 
-    pub const WRONG_ORDER: u8 = 19;
+    pub const CONNECTION_ORDER: u8 = 19;
 }
 
 // What is wrong with contents: nothing, or the refusal's number and the offset of the octet in the contents.
@@ -644,7 +644,7 @@ impl Order {
 
     pub const RELEASE: u8 = 0x42;
 
-    pub const REDIRECTION: u8 = 0x43;
+    pub const REDIRECT_REASON: u8 = 0x43;
 
     pub const SENT_DIGITS: u8 = 0x91;
 
@@ -658,11 +658,11 @@ impl Order {
 
     pub const CALLED_ARE_LOGIC: u8 = 0xCC;
 
-    pub const WAITED_ARE: u8 = 0xCD;
+    pub const TIMEOUT_ARE: u8 = 0xCD;
 
     pub const CALLED_GUIDANCE: u8 = 0xCE;
 
-    pub const WAITED_GUIDANCE: u8 = 0xCF;
+    pub const TIMEOUT_GUIDANCE: u8 = 0xCF;
 
     pub const WAITING_TIME: u8 = 0xD2;
 

@@ -13,6 +13,7 @@ use Rattle.annex.specs.Answers.{
   transfer-over,
   no-room,
   absent,
+  startOf,
   numberOf,
   placeOf,
   givenOf,
@@ -24,13 +25,24 @@ use Rattle.annex.specs.Answers.{
   classGivenOf,
 }
 use Rattle.annex.specs.Units.{nameOf, afterOf, extentOf, contentsIn}
-use Rattle.annex.specs.Heads.{clear, among, transfer-data, charging-information, most-octets, most-transfer-octets, oftenOf, zeroesOf}
+use Rattle.annex.specs.Heads.{
+  clear,
+  among,
+  transfer-data,
+  charging-information,
+  connection-order,
+  most-octets,
+  most-transfer-octets,
+  oftenOf,
+  zeroesOf,
+}
 use Rattle.annex.specs.Contents.{faultOf}
 use Rattle.annex.specs.Items.{Item, Part}
 use Rattle.annex.specs.Layout.{layoutItems, layout}
 use Rattle.annex.specs.Allowed.{every, isOctet, headersOf, itemsIn, namesOf, timesIn}
 use Rattle.annex.specs.Reading.{verdictOf, recordOf}
-use Rattle.annex.specs.Packed.{oneNumber, packedAnswer, row-octets, octetSpans}
+use Rattle.annex.specs.Opened.{orderFound, orderRowsOf, orderAnswer}
+use Rattle.annex.specs.Packed.{oneNumber, packedAnswer, row-octets, octetSpans, octetOrder}
 use Rattle.annex.specs.Finding.{foundAnswer, foundPart, findAnswer, findPart, foundBy}
 use Rattle.annex.specs.Spans.{rowsOf, spansBy}
 use Rattle.annex.specs.Editing.{Edit, newHeader, newAfter, newHead, newContents, editRefusal, edited, recordEditing, editingOf}
@@ -57,7 +69,7 @@ use Rattle.annex.specs.declared.Class.{Class}
 use Rattle.annex.specs.declared.Class.the-variants.{Named, HeldBack, Spare}
 use Rattle.annex.specs.declared.ClassAnswer.{ClassAnswer}
 use Rattle.annex.specs.declared.ClassAnswer.the-variants as classes
-use Rattle.laws.specs.Few.{rows-few}
+use Rattle.laws.specs.Few.{rows-few, order-few}
 use Rattle.laws.specs.Offsets.{fault-within}
 use Rattle.laws.specs.Steps.{PlaceTo, accepted-place, refuse-place, then-place, head-place, sound-place, place-told, verdict-place}
 use Rattle.laws.specs.Finding.{Inside, plainBy, plain-inside, plain-found}
@@ -159,6 +171,18 @@ charging-upto m room =
     go : (a : Answer) → Upto farthest a → chargingPlaceOf (chargingBy a (findPart m (chargingFound m))) ≤ farthest
     go (Accepted n) u = omega arith
     go (Refused k p) u = u .0
+
+-- ---- the rows of a connection order
+
+pub order-upto : (m : List ℕ) (room : ℕ) → Upto farthest (octetOrder m room)
+unfolding orderAnswer orderRowsOf
+order-upto m room =
+    let rows = length (orderRowsOf m) in
+    let full = ltb (room / row-octets) rows in
+    let told = find-upto m (Name (nameOf connection-order) 0) in
+    let few : rows ≤ farthest = omega (arith, told .1, order-few (startOf (orderFound m)) (findPart m (orderFound m))) in
+    upto-then (findAnswer m (orderFound m)) (λ _. refuse full no-room 0 (Accepted rows)) farthest farthest (omega arith) (told .0)
+    (λ q _. upto-refuse full no-room 0 farthest (Accepted rows) (omega arith) (omega arith, few))
 
 -- ---- editing
 

@@ -12,6 +12,7 @@ use editor::replace;
 use image_reader::read_image;
 use image_writer::write_image;
 use reader::finding::find_both;
+use rows::octets::octet_order;
 use rows::octets::octet_spans;
 ghost use mathlib.Core.Path.{_≡_};
 ghost use Rattle.annex.specs.Answers.{classValueOf};
@@ -25,6 +26,7 @@ ghost use Rattle.annex.specs.Promises.{
   TkFindTransferPromise,
   TkClassPromise,
   TkChargingPromise,
+  TkOrderPromise,
   TkEditPromise,
 };
 
@@ -127,6 +129,14 @@ pub extern "C" fn tk_charging(message: &[u8], out: &mut [u8]) -> u64
     ensures { λ r. ⌜ TkChargingPromise (now (message .entry)) (now (out .entry)) r (now (out .exit)) ⌝ }
 {
     pack_answer(octet_charging(message, out))
+}
+
+// The rows of the connection order, as those of tk_rows: how many there are. A refusal leaves the table as it was.
+#[no_mangle]
+pub extern "C" fn tk_order(message: &[u8], table: &mut [u8]) -> u64
+    ensures { λ r. ⌜ TkOrderPromise (now (message .entry)) (now (table .entry)) r (now (table .exit)) ⌝ }
+{
+    pack_answer(octet_order(message, table))
 }
 
 // The parameter of the new octets in the place of the one with its name, in the message that the buffer's first n octets hold.

@@ -77,7 +77,7 @@ use Rattle.theorems.specs.Reasons.{NoReason}
 use Rattle.theorems.specs.Edits.{OfOctets}
 use Rattle.theorems.specs.InPlace.{InPlace}
 use Rattle.theorems.specs.Listings.{partContents, partRows}
-use Rattle.theorems.specs.Ordered.{orderRows, octetsTold, stretchesOf, Following}
+use Rattle.theorems.specs.Ordered.{toldRows, octetsTold, stretchesOf, Following}
 use Rattle.tight.specs.Told.{HasNumber, ClassHasNumber, ChargingHasNumber}
 
 abbrev pub Octetwise : List ℕ → Type 0
@@ -232,7 +232,7 @@ pub record Demand2 : Type 0 where
       → (o : OpenedOrder) → orderRight o ≡ true → layOrder o ≡ one .values
       → (start : ℕ) → FindTransferAnswerPromise (layout s) (nameOf connection-order) (Accepted start)
       → (table : List Row) → 1 + length (o .parameters) ≤ length table → (r : Answer) (now : List Row) → OrderPromise (layout s) table r now
-      → (r ≡ Accepted (1 + length (o .parameters))) × (now ≡ orderRows start o ++ drop (1 + length (o .parameters)) table)
+      → (r ≡ Accepted (1 + length (o .parameters))) × (now ≡ toldRows start o ++ drop (1 + length (o .parameters)) table)
   pub order-there : (s : List Part) → Allowed s → (room : ℕ) (r : Answer) → OrderCheckPromise (layout s) room r
       → (r ≡ Refused absent 0) ↔ (timesIn (nameOf connection-order) (namesOf (itemsIn s)) ≡ 0)
   -- And its rows add up: the stretches of the message that they name, each behind the one before it, are the contents from end to end; and

@@ -73,7 +73,7 @@ use Rattle.theorems.specs.Ordered.{
   says,
   order-asked,
   item-ordered,
-  orderRows,
+  toldRows,
   order-listed,
   order-counted,
   octetsTold,
@@ -376,7 +376,7 @@ order-listed-so : (s : List Part) → Allowed s → (front : List Item) (one : I
     → (o : OpenedOrder) → orderRight o ≡ true → layOrder o ≡ one .values
     → (start : ℕ) → FindTransferAnswerPromise (layout s) (nameOf connection-order) (Accepted start)
     → (table : List Row) → 1 + length (o .parameters) ≤ length table → (r : Answer) (now : List Row) → OrderPromise (layout s) table r now
-    → (r ≡ Accepted (1 + length (o .parameters))) × (now ≡ orderRows start o ++ drop (1 + length (o .parameters)) table)
+    → (r ≡ Accepted (1 + length (o .parameters))) × (now ≡ toldRows start o ++ drop (1 + length (o .parameters)) table)
 unfolding orderRowsOf orderAnswer orderTable
 order-listed-so s a front one back w h b o right e start at table l r now p =
     let m = layout s in
@@ -385,8 +385,8 @@ order-listed-so s a front one back w h b o right e start at table l r now p =
     let i = item-allowed s a front one back w in
     let part : findPart m f ≡ layOrder o =
     transfer-contents s a (nameOf connection-order) 0 front one back w (ap nameOf h) b ∙ item-ordered one i h .0 ∙ sym e in
-    let rows : orderRowsOf m ≡ orderRows start o = ap (λ t. orderListing (startOf f) t) part ∙ order-listed o right (startOf f)
-    ∙ ap (λ k. orderRows k o) (starts-so m f start at) in
+    let rows : orderRowsOf m ≡ toldRows start o = ap (λ t. orderListing (startOf f) t) part ∙ order-listed o right (startOf f)
+    ∙ ap (λ k. toldRows k o) (starts-so m f start at) in
     let count : length (orderRowsOf m) ≡ n = rw rows (order-counted start o) in
     let given : orderAnswer m (length table) ≡ Accepted n = rw (sym at, count, le-ltb (length table) n l) in
     (p .0 ∙ given, p .1 ∙ rw (given, rows))

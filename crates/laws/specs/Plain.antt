@@ -2,7 +2,7 @@
 -- are the listed ones.
 use mathlib.Core.Path.{_≡_, refl, sym, ap, _∙_}
 use mathlib.Core.Bool.{Bool, true, false, cond, not, _||_}
-use mathlib.Core.List.{List, [], _∷_}
+use mathlib.Core.List.{List, [], _∷_, map}
 use Prim.Native.Nat.{ℕ, zero, suc, _+_, _-_, _≤_, _<_}
 use native.Mathlib.Nat.{add-zero}
 use native.Mathlib.Numerals.{add-one}
@@ -80,6 +80,24 @@ module _ (size : Size) where
       → p + 1 + n ≡ q → pars size 0 p (drop i t) ≡ parOf p (getD t i 0) n (drop (i + 1) t) ∷ pars size 0 q (drop (i + 1 + n) t)
   pars-turn p q i n t h e l w =
       rw (drop-cons t i 0, ← add-one i, ← w, ← drop-drop n (i + 1) t) (pars-head p (getD t i 0) n (drop (i + 1) t) e l)
+
+  -- parameters s places further on, by what is made of each
+  pub pars-moved : {B : Type 0} (f g : Par → B) (s : ℕ) → ((p h n : ℕ) (xs : List ℕ) → f (parOf p h n xs) ≡ g (parOf (s + p) h n xs))
+      → (k p : ℕ) (xs : List ℕ) → map f (pars size k p xs) ≡ map g (pars size k (s + p) xs)
+  unfolding pars
+  pars-moved f g s e k p [] = refl
+  pars-moved f g s e (suc k) p (x ∷ xs) =
+      let a : s + (p + 1) ≡ s + p + 1 = omega arith in
+      rw a at (pars-moved f g s e k (p + 1) xs)
+  pars-moved f g s e zero p (x ∷ xs) =
+      let a : s + (p + 1) ≡ s + p + 1 = omega arith in
+      go (leb (size x xs) (length xs)) (rw a at (pars-moved f g s e (size x xs) (p + 1) xs))
+    where
+      go : (b : Bool) → map f (pars size (size x xs) (p + 1) xs) ≡ map g (pars size (size x xs) (s + p + 1) xs)
+          → map f (cond b (parOf p x (size x xs) xs ∷ pars size (size x xs) (p + 1) xs) [])
+          ≡ map g (cond b (parOf (s + p) x (size x xs) xs ∷ pars size (size x xs) (s + p + 1) xs) [])
+      go true ih = rw (e p x (size x xs) xs, ih)
+      go false ih = refl
 
 -- the octet behind a header
 pub octet-behind : (t : List ℕ) (i : ℕ) → getD (drop (i + 1) t) 0 0 ≡ getD t (i + 1) 0

@@ -13,7 +13,6 @@ use Rattle.annex.specs.Heads.{among}
 use Rattle.annex.specs.Orders.{
   orderForms,
   orderHeaders,
-  formsOf,
   layoutOf,
   mayStand,
   orderAfter,
@@ -30,7 +29,7 @@ use Rattle.annex.specs.declared.OrderLayout.{OrderLayout}
 use Rattle.laws.specs.Below.{same-below}
 use Rattle.laws.specs.Faults.{then-sound}
 use Rattle.laws.specs.Members.{among-every}
-use Rattle.laws.specs.Orders.{after-some, parameters-skip}
+use Rattle.laws.specs.Orders.{after-some, parameters-skip, stands-listed}
 use Rattle.laws.specs.Parts.{from-to, octet-next}
 use Rattle.orders.specs.Asked.{placeOf}
 
@@ -96,15 +95,6 @@ unfolding parametersFault
 left-none form before at s l = rw (drop-of-length-le s {i = at} l)
 
 -- ---- the table, computed
-
--- a header that may stand under some form is in the table
-stands-listed : (form h : ℕ) → h < 256 → mayStand form h ≡ true → among h orderHeaders ≡ true
-unfolding formsOf
-stands-listed form h l e = go (among h orderHeaders) (same-below (λ k. cond (among k orderHeaders) [] (formsOf k)) (λ k. []) 256 refl h l)
-  where
-    go : (b : Bool) → cond b [] (formsOf h) ≡ [] → b ≡ true
-    go true f = refl
-    go false f = absurd (let z : false ≡ true = sym (ap (among form) f) ∙ e in let y : _≡_ {A = ℕ} 0 1 = cc in omega arith)
 
 listed-octet : (h : ℕ) → among h orderHeaders ≡ true → h < 256
 listed-octet h e = ltb-true h 256 (among-every (λ k. ltb k 256) orderHeaders refl h e)
@@ -192,7 +182,7 @@ module _ (s : List ℕ) (seen : List Bool) (at : ℕ) (g : Going s seen at) (l :
   -- one that may stand, by its mark
   module _ (e : mayStand form h ≡ true) where
     listed : among h orderHeaders ≡ true
-    listed = stands-listed form h o e
+    listed = stands-listed form h e
 
     pub stood : getD seen (placeOf h) false ≡ true → orderFault s ≡ Bad wrong-order 0
     stood f = here ∙ rw (e, sym (g .marks .told h listed) ∙ f)

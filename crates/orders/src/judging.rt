@@ -108,7 +108,7 @@ pub fn order_fault(s: &[u8]) -> Fault
     }
     let form = s[0];
     if !is_form(form) {
-        return Fault::Bad(Answer::WRONG_ORDER, 0);
+        return Fault::Bad(Answer::CONNECTION_ORDER, 0);
     }
     let mut seen = [false; Order::HEADERS];
     let mut at: usize = Order::HEAD;
@@ -117,10 +117,10 @@ pub fn order_fault(s: &[u8]) -> Fault
         let place = asked.place;
         let layout = asked.layout;
         if !has_form(asked.forms, form) {
-            return Fault::Bad(Answer::WRONG_ORDER, 0);
+            return Fault::Bad(Answer::CONNECTION_ORDER, 0);
         }
         if seen[place] {
-            return Fault::Bad(Answer::WRONG_ORDER, 0);
+            return Fault::Bad(Answer::CONNECTION_ORDER, 0);
         }
         at += 1;
         let f = own_fault(layout, s, at);

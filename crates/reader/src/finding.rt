@@ -103,8 +103,8 @@ pub fn common_by_length(m: &[u8], header: u8) -> Found
 }
 
 // The same of a transfer parameter, in the contents of the first C5.
-fn transfer_by_length(m: &[u8], name: u8, which: usize) -> Found
-    ensures { λ r. ⌜ r ≡ transferPlain name which (now (m .entry)) ⌝ }
+pub fn transfer_by_length(m: &[u8], name: u8, which: usize) -> Found
+    ensures { λ r. ⌜ Gives (transferPlain name which (now (m .entry))) r ⌝ }
 {
     let Found::At(s, e) = contents(m, Key::Header(Common::TRANSFER_DATA)) else {
         return Found::Nowhere;

@@ -1,4 +1,4 @@
--- The caller's table of octets while the rows of a message are stored: what is left to store decides what it will hold.
+-- The caller's table of octets while the rows of a listing are stored: what is left to store decides what it will hold.
 use Prim.Native.Nat.{ℕ, _+_, _*_, _/_, _≤_}
 use native.Mathlib.Omega.{arith}
 use mathlib.Core.Path.{_≡_, refl}
@@ -12,15 +12,14 @@ use Rattle.annex.specs.Answers.{andThen}
 use Rattle.annex.specs.Heads.{most-rows}
 use Rattle.annex.specs.Reading.{verdictOf}
 use Rattle.annex.specs.Spans.{rowsOf, spansOf, spansBy}
-use Rattle.annex.specs.Packed.{row-octets, rowOctets, rowsOctets, octetSpans, octetTable}
+use Rattle.annex.specs.Packed.{row-octets, rowOctets, rowsOctets, octetSpans, octetsBy}
 use Rattle.annex.specs.declared.Answer.{Answer}
 use Rattle.annex.specs.declared.Answer.the-variants.{Accepted, Refused}
 use Rattle.annex.specs.declared.Row.{Row}
 use Rattle.laws.specs.Few.{rows-few}
 use Rattle.laws.specs.Fronts.{front-all}
-use Rattle.laws.specs.Listed.{spansAfter}
-use Rattle.laws.specs.Rows.{Accepts}
 use Rattle.laws.specs.Runs.{Puts, Left, left-none, left-some, left-fits}
+use Rattle.rows.specs.Rows.{answerAfter}
 
 -- ---- the octets of rows
 
@@ -53,7 +52,37 @@ pub left-over : {all : List ℕ} {first : ℕ} {before : List ℕ} (at : ℕ) (n
 unfolding rowsOctets
 left-over at now l = left-none l refl
 
--- ---- what the listing answers
+-- ---- what a listing answers
+
+-- an accepted one, by the answer before the room is asked for: that is accepted, and there is room for the rows
+pub record Roomy (before : Answer) (rows : List Row) (room n : ℕ) : Type 0 where
+  pub accepts : (q : ℕ) × (before ≡ Accepted q)
+  pub count : n ≡ length rows
+  pub roomy : length rows ≤ room
+
+pub listing : (before : Answer) (rows : List Row) (room n : ℕ) → answerAfter before (ltb room (length rows)) rows ≡ Accepted n
+    → Roomy before rows room n
+listing before rows room n e = go before (ltb room (length rows)) (ltb-false room (length rows)) e
+  where
+    go : (a : Answer) (b : Bool) → (b ≡ false → length rows ≤ room) → answerAfter a b rows ≡ Accepted n → Roomy a rows room n
+    go (Accepted q) true h g = absurd (let z : _≡_ {A = ℕ} 0 1 = cc in omega arith)
+    go (Accepted q) false h g = let c : n ≡ length rows = cc in record { accepts = (q, refl); count = c; roomy = h refl }
+    go (Refused k p) b h g = absurd (let z : _≡_ {A = ℕ} 0 1 = cc in omega arith)
+
+-- the table after an accepted listing, and after a refused one
+module _ {before : Answer} {rows : List Row} {n : ℕ} (table : List ℕ) (l : Roomy before rows (length table / row-octets) n) where
+  pub listing-fits : length (rowsOctets rows) ≤ length table
+  listing-fits = omega (arith, length-rows rows, l .roomy)
+
+  pub table-put : (now : List ℕ) (r : ℕ) → Puts (rowsOctets rows) 0 table r now → now ≡ octetsBy (Accepted n) (rowsOctets rows) table
+  table-put now r p =
+      let k : length (rowsOctets rows) ≡ row-octets * n = omega (arith, length-rows rows, l .count) in
+      rw (p .put, front-all table (rowsOctets rows) listing-fits, k)
+
+pub table-kept : (a : Answer) (octets table : List ℕ) (k p : ℕ) → a ≡ Refused k p → table ≡ octetsBy a octets table
+table-kept a octets table k p e = rw e
+
+-- ---- what the listing of a message answers
 
 -- the count of rows after an answer that is no refusal
 abbrev pub countAfter : Answer → List ℕ → Answer
@@ -64,7 +93,7 @@ pub count-checked : (m : List ℕ) (room : ℕ) → spansOf m room ≡ countAfte
 unfolding spansBy
 count-checked m room = go (verdictOf m) (ltb room (length (rowsOf m)))
   where
-    go : (a : Answer) (b : Bool) → spansAfter a b m ≡ countAfter (spansAfter a b m) m
+    go : (a : Answer) (b : Bool) → answerAfter a b (rowsOf m) ≡ countAfter (answerAfter a b (rowsOf m)) m
     go (Accepted q) true = refl
     go (Accepted q) false = refl
     go (Refused k p) b = refl
@@ -73,35 +102,3 @@ count-checked m room = go (verdictOf m) (ltb room (length (rowsOf m)))
 pub count-roomy : (m : List ℕ) (octets : ℕ) → most-rows * row-octets ≤ octets → octetSpans m octets ≡ countAfter (verdictOf m) m
 unfolding spansBy
 count-roomy m octets h = rw (le-ltb (octets / row-octets) (length (rowsOf m)) (omega (arith, rows-few m)))
-
--- an accepted listing: the message is accepted, and there is room for its rows
-pub record Listing (m : List ℕ) (room n : ℕ) : Type 0 where
-  pub accepts : Accepts m
-  pub count : n ≡ length (rowsOf m)
-  pub roomy : length (rowsOf m) ≤ room
-
-pub listing : (m : List ℕ) (room n : ℕ) → spansOf m room ≡ Accepted n → Listing m room n
-unfolding spansBy
-listing m room n e = go (verdictOf m) (ltb room (length (rowsOf m))) refl (ltb-false room (length (rowsOf m))) e
-  where
-    go : (a : Answer) (b : Bool) → verdictOf m ≡ a → (b ≡ false → length (rowsOf m) ≤ room) → spansAfter a b m ≡ Accepted n
-        → Listing m room n
-    go (Accepted q) true f h g = absurd (let z : _≡_ {A = ℕ} 0 1 = cc in omega arith)
-    go (Accepted q) false f h g = let c : n ≡ length (rowsOf m) = cc in record { accepts = (q, f); count = c; roomy = h refl }
-    go (Refused k p) b f h g = absurd (let z : _≡_ {A = ℕ} 0 1 = cc in omega arith)
-
-pub listing-fits : (m table : List ℕ) (n : ℕ) → Listing m (length table / row-octets) n → length (rowsOctets (rowsOf m)) ≤ length table
-listing-fits m table n l = omega (arith, length-rows (rowsOf m), l .roomy)
-
--- the table after an accepted listing, and after a refused one
-pub table-put : (m table now : List ℕ) (n r : ℕ) → octetSpans m (length table) ≡ Accepted n → Puts (rowsOctets (rowsOf m)) 0 table r now
-    → now ≡ octetTable m table
-unfolding octetTable
-table-put m table now n r e p =
-    let l = listing m (length table / row-octets) n e in
-    let k : length (rowsOctets (rowsOf m)) ≡ row-octets * n = omega (arith, length-rows (rowsOf m), l .count) in
-    rw (e, p .put, front-all table (rowsOctets (rowsOf m)) (listing-fits m table n l), k)
-
-pub table-kept : (m table : List ℕ) (k p : ℕ) → octetSpans m (length table) ≡ Refused k p → table ≡ octetTable m table
-unfolding octetTable
-table-kept m table k p e = rw e

@@ -1,4 +1,6 @@
 // The table of rows as octets, for callers that lend no structs.
+use crate::opened;
+use crate::opened::check_order;
 use annex::Answer;
 use annex::Message;
 use annex::Row;
@@ -12,7 +14,7 @@ ghost use Prim.Native.Nat.{_+_, _≤_};
 ghost use lib.ListN.{length};
 ghost use lib.Seq.{sets};
 ghost use Rattle.annex.specs.Packed.{rowOctets, rowsOctets, row-octets, octetSpans};
-ghost use Rattle.annex.specs.Promises.{OctetSpansPromise};
+ghost use Rattle.annex.specs.Promises.{OctetSpansPromise, OctetOrderPromise};
 ghost use Rattle.annex.specs.Spans.{rowsOf};
 ghost use Rattle.laws.specs.Rows.{Accepts};
 ghost use Rattle.laws.specs.Runs.{Puts};
@@ -68,4 +70,23 @@ pub fn octet_spans(m: &[u8], table: &mut [u8]) -> Answer
     };
     let end = put_rows(m, table);
     Answer::Accepted(end / Row::OCTETS)
+}
+
+// The rows of its connection order, in the same way.
+pub fn octet_order(m: &[u8], table: &mut [u8]) -> Answer
+    ensures { λ r. ⌜ OctetOrderPromise (now (m .entry)) (now (table .entry)) r (now (table .exit)) ⌝ }
+{
+    let a = check_order(m, table.len() / Row::OCTETS);
+    let Answer::Accepted(n) = a else {
+        return a;
+    };
+    let end = n * Row::OCTETS;
+    let mut place: usize = 0;
+    let mut c = first();
+    while place < end {
+        put_row(opened::row_here(m, c), place, table);
+        place += Row::OCTETS;
+        c = opened::next(m, c);
+    }
+    a
 }

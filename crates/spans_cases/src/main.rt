@@ -11,6 +11,7 @@ fn main() {
     transfer_headers();
     transfer_contents();
     charging();
+    connection_order();
 }
 
 fn accepted() {
@@ -139,5 +140,40 @@ fn charging() {
     case(
         b"18: a wrong check digit",
         b"\x01\x01\x06\x11\xc5\x06\xf7\x04\x00\x05\x12\x32\x00",
+    );
+}
+
+fn connection_order() {
+    case(
+        b"a connection order, listed as its contents",
+        b"\x01\x01\x06\x11\xc5\x0e\xe0\x0c\x31\xd2\x31\x38\x30\x41\x01\xcd\x03\x11\x02\x03\x00",
+    );
+    case(
+        b"12: no connection form",
+        b"\x01\x01\x06\x11\xc5\x02\xe0\x00\x00",
+    );
+    case(
+        b"12: the count of 91 is in half-octets",
+        b"\x01\x01\x06\x11\xc5\x06\xe0\x04\x21\x91\x03\x21\x00",
+    );
+    case(
+        b"13: a character that is none of an ARE",
+        b"\x01\x01\x06\x11\xc5\x08\xe0\x06\x24\xc9\x03\x11\x00\x3a\x00",
+    );
+    case(
+        b"13: a digit of 92 that is over 9",
+        b"\x01\x01\x06\x11\xc5\x08\xe0\x06\x2e\x92\x03\x03\x10\xb1\x00",
+    );
+    case(
+        b"19: form 43, which uses what is not drawn",
+        b"\x01\x01\x06\x11\xc5\x05\xe0\x03\x43\x91\x00\x00",
+    );
+    case(
+        b"19: a header that is not under the form",
+        b"\x01\x01\x06\x11\xc5\x05\xe0\x03\x21\x41\x01\x00",
+    );
+    case(
+        b"19: a header for the second time",
+        b"\x01\x01\x06\x11\xc5\x07\xe0\x05\x31\x41\x01\x41\x01\x00",
     );
 }

@@ -1,20 +1,22 @@
 -- Connection orders (E0): what is sound opens to an order that the tables allow and that lays out to it; an order that they allow, laid
--- out, is sound and opens to itself. And the rows of a message's order: the stretches that they name, laid end to end, are E0's contents.
+-- out, is sound and opens to itself, and has at most four parameters. And the rows of a message's order: the stretches that they name, laid
+-- end to end, are E0's contents, and they are at most five.
 use Prim.Native.Nat.{ℕ, zero, suc, _+_, _-_, _≤_}
 use native.Mathlib.Omega.{arith}
 use mathlib.Core.Path.{_≡_, refl, sym, ap, _∙_}
 use mathlib.Core.Bool.{Bool, true, false, not, _&&_, _||_}
 use mathlib.Core.List.{List, [], _∷_, _++_, map, append-assoc}
 use mathlib.Core.Logic.{_↔_}
-use borrow.Author.Tests.{eqb-true, eq-eqb, leb-true, le-leb, ltb-true, ltb-false}
+use borrow.Author.Tests.{eqb-true, eq-eqb, leb-true, le-leb, le-ltb, ltb-true, ltb-false}
 use lib.Dec.{eqb, leb, ltb}
-use lib.ListN.{length, getD, take, drop, length-append, take-append-drop}
+use lib.ListN.{length, getD, take, drop, length-append, length-map, take-append-drop}
 use lib.Seq.{length-take-le, drop-nil, drop-drop, take-append-seam, drop-append-seam, getD-take}
-use Rattle.annex.specs.Answers.{no-room, givenOf, isSound, startOf, stopOf}
+use Rattle.annex.specs.Answers.{no-room, refuse, andThen, givenOf, isSound, startOf, stopOf}
 use Rattle.annex.specs.Units.{nameOf}
 use Rattle.annex.specs.Heads.{among, connection-order, heads, pliRight, zeroesOf, formOf}
 use Rattle.annex.specs.Orders.{
   orderForms,
+  orderHeaders,
   layoutOf,
   mayStand,
   orderAfter,
@@ -43,17 +45,18 @@ use Rattle.annex.specs.Walking.{pars, noRow}
 use Rattle.annex.specs.Reading.{verdictOf, recordOf}
 use Rattle.annex.specs.Finding.{findAnswer, findPart}
 use Rattle.annex.specs.Opened.{openedOrder, formRow, parameterRow, orderListing, orderFound, orderRowsOf, orderAnswer, parameterOf}
-use Rattle.annex.specs.declared.Answer.the-variants.{Accepted}
+use Rattle.annex.specs.declared.Answer.{Answer}
+use Rattle.annex.specs.declared.Answer.the-variants.{Accepted, Refused}
 use Rattle.annex.specs.declared.Check.the-variants.{Order}
 use Rattle.annex.specs.declared.Fault.the-variants.{Sound}
 use Rattle.annex.specs.declared.Row.{Row}
-use Rattle.laws.specs.Bools.{and-left, and-right, same-turned}
+use Rattle.laws.specs.Bools.{and-left, and-right, and-both, same-turned}
 use Rattle.laws.specs.Faults.{then-sound, then-both, is-sound}
 use Rattle.laws.specs.Offsets.{layout-alike}
-use Rattle.laws.specs.Orders.{after-some, in-order, parameters-skip, size-own}
+use Rattle.laws.specs.Orders.{after-some, in-order, parameters-skip, size-own, stands-listed, few-stand}
 use Rattle.laws.specs.Headers.{none-asked}
 use Rattle.laws.specs.Leaves.{as-they-are}
-use Rattle.laws.specs.Members.{among-every, sumOf}
+use Rattle.laws.specs.Members.{among-every, sumOf, once-few}
 use Rattle.laws.specs.Plain.{pars-head}
 use Rattle.laws.specs.Rows.{parAt}
 use Rattle.laws.specs.Steps.{passed, then-passed}
@@ -285,6 +288,25 @@ says s =
       only = λ o r e. ap openedOrder (sym e) ∙ ordered-sound o r .1;
     }
 
+-- ---- how many parameters an order has
+
+-- each header may stand under the form
+all-stand : (form : ℕ) (ps : List OrderParameter) → allRight form ps ≡ true → every (mayStand form) (headersIn ps) ≡ true
+all-stand form [] r = refl
+all-stand form (p ∷ ps) r =
+    let t = fits form p (and-left (parameterRight form p) (allRight form ps) r) in
+    let rest = all-stand form ps (and-right (parameterRight form p) (allRight form ps) r) in
+    and-both (mayStand form (p .header)) _ (t .stands) rest
+
+-- at most four, for under no form may more headers stand
+pub parameters-few : (o : OpenedOrder) → orderRight o ≡ true → length (o .parameters) ≤ 4
+parameters-few o e =
+    let ps = o .parameters in
+    let form = o .form in
+    let w = order-tested o e in
+    let few = once-few (mayStand form) orderHeaders (stands-listed form) (headersIn ps) (w .apart) (all-stand form ps (w .right)) in
+    omega (arith, length-map ps (λ p. p .header), few-stand form (w .listed))
+
 -- ---- in a message
 
 -- E0 alone has its name
@@ -325,18 +347,18 @@ found-order m o n e =
 -- ---- the rows of an order
 
 -- the rows of an order whose contents start at p: one to its form, and one to each parameter
-unfoldable pub parameterRows : ℕ → List OrderParameter → List Row
-parameterRows p [] = []
-parameterRows p (q ∷ qs) =
-    record { offset = p; header = q .header; len = length (q .own) } ∷ parameterRows (p + 1 + length (q .own)) qs
+unfoldable pub toldParameters : ℕ → List OrderParameter → List Row
+toldParameters p [] = []
+toldParameters p (q ∷ qs) =
+    record { offset = p; header = q .header; len = length (q .own) } ∷ toldParameters (p + 1 + length (q .own)) qs
 
-abbrev pub orderRows : ℕ → OpenedOrder → List Row
-orderRows p o = formRow p (o .form) ∷ parameterRows (p + 1) (o .parameters)
+abbrev pub toldRows : ℕ → OpenedOrder → List Row
+toldRows p o = formRow p (o .form) ∷ toldParameters (p + 1) (o .parameters)
 
 -- they are the rows of the contents that it lays out to
 parameters-listed : (ps : List OrderParameter) (form s k p : ℕ) → allRight form ps ≡ true → s + k ≡ p
-    → map (parameterRow s) (pars orderSize 0 k (layParameters ps)) ≡ parameterRows p ps
-unfolding pars layParameters parameterRows
+    → map (parameterRow s) (pars orderSize 0 k (layParameters ps)) ≡ toldParameters p ps
+unfolding pars layParameters toldParameters
 parameters-listed [] form s k p r e = refl
 parameters-listed (q ∷ ps) form s k p r e =
     let n = length (q .own) in
@@ -344,17 +366,17 @@ parameters-listed (q ∷ ps) form s k p r e =
     let others = and-right (parameterRight form q) (allRight form ps) r in
     rw (first, e, parameters-listed ps form s (k + 1 + n) (p + 1 + n) others (omega arith))
 
-pub order-listed : (o : OpenedOrder) → orderRight o ≡ true → (p : ℕ) → orderListing p (layOrder o) ≡ orderRows p o
+pub order-listed : (o : OpenedOrder) → orderRight o ≡ true → (p : ℕ) → orderListing p (layOrder o) ≡ toldRows p o
 unfolding orderListing
 order-listed o e p = rw (parameters-listed (o .parameters) (o .form) p 1 (p + 1) (order-tested o e .right) refl)
 
 -- as many as it has parameters, and one
-parameters-counted : (p : ℕ) (ps : List OrderParameter) → length (parameterRows p ps) ≡ length ps
-unfolding parameterRows
+parameters-counted : (p : ℕ) (ps : List OrderParameter) → length (toldParameters p ps) ≡ length ps
+unfolding toldParameters
 parameters-counted p [] = refl
 parameters-counted p (q ∷ ps) = ap suc (parameters-counted (p + 1 + length (q .own)) ps)
 
-pub order-counted : (p : ℕ) (o : OpenedOrder) → length (orderRows p o) ≡ 1 + length (o .parameters)
+pub order-counted : (p : ℕ) (o : OpenedOrder) → length (toldRows p o) ≡ 1 + length (o .parameters)
 order-counted p o = omega (arith, parameters-counted (p + 1) (o .parameters))
 
 -- ---- what they add up to
@@ -374,13 +396,13 @@ Following p [] = Unit {0}
 Following p (r ∷ rs) = (r .offset ≡ p) × Following (p + octetsTold r) rs
 
 -- of the parameters: the octets add up, and each row follows the one before it
-parameters-sum : (p : ℕ) (ps : List OrderParameter) → sumOf octetsTold (parameterRows p ps) ≡ length (layParameters ps)
-unfolding parameterRows layParameters
+parameters-sum : (p : ℕ) (ps : List OrderParameter) → sumOf octetsTold (toldParameters p ps) ≡ length (layParameters ps)
+unfolding toldParameters layParameters
 parameters-sum p [] = refl
 parameters-sum p (q ∷ ps) = simp length-append (omega (arith, parameters-sum (p + 1 + length (q .own)) ps))
 
-parameters-follow : (p k : ℕ) (ps : List OrderParameter) → k ≡ p → Following k (parameterRows p ps)
-unfolding parameterRows
+parameters-follow : (p k : ℕ) (ps : List OrderParameter) → k ≡ p → Following k (toldParameters p ps)
+unfolding toldParameters
 parameters-follow p k [] e = tt
 parameters-follow p k (q ∷ ps) e = (sym e, parameters-follow (p + 1 + length (q .own)) (k + (1 + length (q .own))) ps (omega arith))
 
@@ -396,21 +418,39 @@ stretch-there m p h own others e =
 
 -- so the stretches of the rows of an order that stands there are the order laid out
 parameters-stretch : (m : List ℕ) (p : ℕ) (ps : List OrderParameter) (rest : List ℕ) → drop p m ≡ layParameters ps ++ rest
-    → stretchesOf m (parameterRows p ps) ≡ layParameters ps
-unfolding parameterRows layParameters
+    → stretchesOf m (toldParameters p ps) ≡ layParameters ps
+unfolding toldParameters layParameters
 parameters-stretch m p [] rest e = refl
 parameters-stretch m p (q ∷ ps) rest e =
     let t = stretch-there m p (q .header) (q .own) (layParameters ps ++ rest) (rw append-assoc at e) in
     rw (t .0, parameters-stretch m (p + 1 + length (q .own)) ps rest (t .1))
 
 order-stretches : (m : List ℕ) (p : ℕ) (o : OpenedOrder) (rest : List ℕ) → drop p m ≡ layOrder o ++ rest
-    → stretchesOf m (orderRows p o) ≡ layOrder o
+    → stretchesOf m (toldRows p o) ≡ layOrder o
 order-stretches m p o rest e =
     let t = stretch-there m p (o .form) [] (layParameters (o .parameters) ++ rest) e in
     let k : p + 1 + 0 ≡ p + 1 = omega arith in
     rw (t .0, parameters-stretch m (p + 1) (o .parameters) rest (rw k at (t .1)))
 
 -- ---- of the rows of an accepted message
+
+-- the order that E0's contents say
+abbrev orderIn : List ℕ → OpenedOrder
+orderIn m = openedOrder (findPart m (orderFound m))
+
+-- it lays out to them, the tables allow it, and the rows are its own
+record Said (m : List ℕ) : Type 0 where
+  laid : layOrder (orderIn m) ≡ findPart m (orderFound m)
+  right : orderRight (orderIn m) ≡ true
+  rows : orderRowsOf m ≡ toldRows (startOf (orderFound m)) (orderIn m)
+
+-- so it is where E0 is found in an accepted message
+said-there : (m : List ℕ) → every isOctet m ≡ true → (k : ℕ) → findAnswer m (orderFound m) ≡ Accepted k → Said m
+unfolding orderRowsOf
+said-there m o k e =
+    let s = startOf (orderFound m) in
+    let t = sound-ordered (findPart m (orderFound m)) (found-order m o k e) in
+    record { laid = t .0; right = t .1; rows = ap (orderListing s) (sym (t .0)) ∙ order-listed (orderIn m) (t .1) s }
 
 -- their stretches, one behind the other, are E0's contents, and so their octets add up to them; there are as many as the answer tells; and
 -- the first is the form's, with no octets behind it, where the contents start
@@ -433,24 +473,48 @@ order-given m room n e =
     (t .0, t .1, same, omega (arith, ltb-false room count (u .0)))
 
 pub rows-add-up : (m : List ℕ) → every isOctet m ≡ true → (room n : ℕ) → orderAnswer m room ≡ Accepted n → AddUp m n
-unfolding orderRowsOf
 rows-add-up m o room n e =
     let g = order-given m room n e in
     let v = then-passed (verdictOf m) _ (g .0) (g .1) in
     let f = orderFound m in
     let s = startOf f in
     let part = findPart m f in
-    let t = sound-ordered part (found-order m o (g .0) (g .1)) in
-    let said = openedOrder part in
-    let rows : orderListing s part ≡ orderRows s said = ap (orderListing s) (sym (t .0)) ∙ order-listed said (t .1) s in
+    let t = said-there m o (g .0) (g .1) in
+    let said = orderIn m in
     let there : part ≡ take (stopOf f - s) (drop s m) = rw (v .1) in
     let rest = drop (stopOf f - s) (drop s m) in
     let whole : drop s m ≡ layOrder said ++ rest =
-    sym (take-append-drop (stopOf f - s) (drop s m)) ∙ ap (λ (l : List ℕ). l ++ rest) (sym (t .0 ∙ there)) in
+    sym (take-append-drop (stopOf f - s) (drop s m)) ∙ ap (λ (l : List ℕ). l ++ rest) (sym (t .laid ∙ there)) in
     record {
-      stretches = rw rows (order-stretches m s said rest whole ∙ t .0);
-      follow = rw rows (refl, parameters-follow (s + 1) (s + (1 + 0)) (said .parameters) (omega arith));
-      sum = rw rows (omega (arith, parameters-sum (s + 1) (said .parameters), ap length (t .0)));
+      stretches = rw (t .rows) (order-stretches m s said rest whole ∙ t .laid);
+      follow = rw (t .rows) (refl, parameters-follow (s + 1) (s + (1 + 0)) (said .parameters) (omega arith));
+      sum = rw (t .rows) (omega (arith, parameters-sum (s + 1) (said .parameters), ap length (t .laid)));
       count = g .2;
-      first = rw rows refl;
+      first = rw (t .rows) refl;
     }
+
+-- at most five: the form's, and one to each parameter
+listed-few : (m : List ℕ) → every isOctet m ≡ true → (k : ℕ) → findAnswer m (orderFound m) ≡ Accepted k → length (orderRowsOf m) ≤ 5
+listed-few m o k e =
+    let t = said-there m o k e in
+    rw (t .rows) (omega (arith, order-counted (startOf (orderFound m)) (orderIn m), parameters-few (orderIn m) (t .right)))
+
+-- so the answer tells no more
+pub order-rows-few : (m : List ℕ) → every isOctet m ≡ true → (room n : ℕ) → orderAnswer m room ≡ Accepted n → n ≤ 5
+order-rows-few m o room n e =
+    let g = order-given m room n e in
+    omega (arith, listed-few m o (g .0) (g .1))
+
+-- and with room for five it is never 15: where E0 is found, it is the row count
+pub order-roomy : (m : List ℕ) → every isOctet m ≡ true → (room : ℕ) → 5 ≤ room
+    → orderAnswer m room ≡ andThen (findAnswer m (orderFound m)) (λ _. Accepted (length (orderRowsOf m)))
+unfolding orderAnswer
+order-roomy m o room l = go (findAnswer m (orderFound m)) refl
+  where
+    n : ℕ
+    n = length (orderRowsOf m)
+
+    go : (a : Answer) → findAnswer m (orderFound m) ≡ a
+        → andThen a (λ _. refuse (ltb room n) no-room 0 (Accepted n)) ≡ andThen a (λ _. Accepted n)
+    go (Accepted k) e = rw (le-ltb room n (omega (arith, listed-few m o k e)))
+    go (Refused k p) e = refl

@@ -14,7 +14,7 @@ use Rattle.annex.specs.Heads.{transfer-data}
 use Rattle.annex.specs.Allowed.{Each}
 use Rattle.annex.specs.Walk.{Par}
 use Rattle.annex.specs.Reading.{verdictOf, dataIn}
-use Rattle.annex.specs.Spans.{transferRows, innerRows, commonRows, rowsOf, rowsBy, commonRowsBy}
+use Rattle.annex.specs.Spans.{parRow, transferRows, innerRows, commonRows, rowsOf, rowsBy, commonRowsBy}
 use Rattle.annex.specs.declared.Answer.{Answer}
 use Rattle.annex.specs.declared.Answer.the-variants.{Accepted, Refused}
 use Rattle.annex.specs.declared.Extent.{Extent}
@@ -26,7 +26,7 @@ use Rattle.laws.specs.Extents.{lead-within}
 use Rattle.laws.specs.Listed.{rowsAfter, listed}
 use Rattle.laws.specs.Members.{sumOf}
 use Rattle.laws.specs.Parts.{from-to}
-use Rattle.laws.specs.Plain.{commonSize, transferSize, pars-end, octet-behind}
+use Rattle.laws.specs.Plain.{commonSize, transferSize, pars-end, pars-moved, octet-behind}
 use Rattle.laws.specs.Plain.{commons-plain, transfers-plain, InnerSound, commons-inner}
 use Rattle.laws.specs.Rows.{
   parAt,
@@ -41,6 +41,7 @@ use Rattle.laws.specs.Rows.{
   rowFor,
   transfer-turn,
   common-turn,
+  transfer-rows,
 }
 use Rattle.walk.specs.Stretches.{stretch-whole}
 use Rattle.walk.specs.Cursors.{cursorAt, rowsFrom}
@@ -80,16 +81,11 @@ module _ (size : Size) where
   filled-at p r xs f = record { sum = sums-same r p 0 xs ∙ f .sum }
 
 rows-same : (s p k : ℕ) (xs : List ℕ) → transferRows s (pars transferSize k p xs) ≡ transferRows 0 (pars transferSize k (s + p) xs)
-unfolding transferRows pars
-rows-same s p k [] = refl
-rows-same s p (suc k) (x ∷ xs) = let e : s + (p + 1) ≡ s + p + 1 = omega arith in rw (rows-same s (p + 1) k xs, e)
-rows-same s p zero (x ∷ xs) = go (transferSize x xs) (leb (transferSize x xs) (length xs)) (rows-same s (p + 1) (transferSize x xs) xs)
-  where
-    go : (n : ℕ) (b : Bool) → transferRows s (pars transferSize n (p + 1) xs) ≡ transferRows 0 (pars transferSize n (s + (p + 1)) xs)
-        → transferRows s (cond b (parAt p x (take n xs) ∷ pars transferSize n (p + 1) xs) [])
-        ≡ transferRows 0 (cond b (parAt (s + p) x (take n xs) ∷ pars transferSize n (s + p + 1) xs) [])
-    go n true ih = let e : s + (p + 1) ≡ s + p + 1 = omega arith in rw (ih, e, zero-add (s + p))
-    go n false ih = refl
+rows-same s p k xs =
+    transfer-rows s (pars transferSize k p xs)
+    ∙ pars-moved transferSize (λ q. parRow (extentOf (q .head)) s q) (λ q. parRow (extentOf (q .head)) 0 q) s
+    (λ p h n xs. rw (zero-add (s + p))) k p xs
+    ∙ sym (transfer-rows 0 (pars transferSize k (s + p) xs))
 
 -- outside C5 nothing is left up to its end
 none-inside : (m : List ℕ) (p : ℕ) → p ≤ length m → drop p (take p m) ≡ []
@@ -311,26 +307,28 @@ turn-at m c k a e h = go (ltb (c .at) (length m)) refl
 
 -- behind k rows, the others are left
 behind : (m : List ℕ) → Accepts m → (k : ℕ) → k ≤ length (rowsOf m)
-    → Ahead m (cursorAt m k) × (rowsFrom m (cursorAt m k) ≡ drop k (rowsOf m))
+    → Ahead m (cursorAt (nextOf m) k) × (rowsFrom m (cursorAt (nextOf m) k) ≡ drop k (rowsOf m))
 unfolding cursorAt
 behind m a zero h = (ahead-first m a, rows-first m a)
 behind m a (suc k) h =
+    let c : Cursor = cursorAt (nextOf m) k in
     let b = behind m a k (omega arith) in
-    let t = turn-at m (cursorAt m k) k (b .0) (b .1) h in
-    let e : rowHere m (cursorAt m k) ∷ rowsFrom m (nextOf m (cursorAt m k)) ≡ getD (rowsOf m) k noRow ∷ drop (suc k) (rowsOf m) =
+    let t = turn-at m c k (b .0) (b .1) h in
+    let e : rowHere m c ∷ rowsFrom m (nextOf m c) ≡ getD (rowsOf m) k noRow ∷ drop (suc k) (rowsOf m) =
     sym (t .rows) ∙ b .1 ∙ drop-cons (rowsOf m) k noRow h in
     (t .again, cc)
 
 -- the row there is row k
-pub row-behind : (m : List ℕ) (k : ℕ) → k < length (listed m) → rowHere m (cursorAt m k) ≡ getD (listed m) k noRow
+pub row-behind : (m : List ℕ) (k : ℕ) → k < length (listed m) → rowHere m (cursorAt (nextOf m) k) ≡ getD (listed m) k noRow
 row-behind m k h = go (verdictOf m) refl h
   where
     go : (a : Answer) → verdictOf m ≡ a → k < length (rowsAfter a (rowsOf m))
-        → rowHere m (cursorAt m k) ≡ getD (rowsAfter a (rowsOf m)) k noRow
+        → rowHere m (cursorAt (nextOf m) k) ≡ getD (rowsAfter a (rowsOf m)) k noRow
     go (Accepted q) e l =
+        let c : Cursor = cursorAt (nextOf m) k in
         let b = behind m (q, e) k (omega arith) in
-        let t = turn-at m (cursorAt m k) k (b .0) (b .1) l in
-        let f : rowHere m (cursorAt m k) ∷ rowsFrom m (nextOf m (cursorAt m k)) ≡ getD (rowsOf m) k noRow ∷ drop (suc k) (rowsOf m) =
+        let t = turn-at m c k (b .0) (b .1) l in
+        let f : rowHere m c ∷ rowsFrom m (nextOf m c) ≡ getD (rowsOf m) k noRow ∷ drop (suc k) (rowsOf m) =
         sym (t .rows) ∙ b .1 ∙ drop-cons (rowsOf m) k noRow l in
         cc
     go (Refused n p) e l = absurd (omega arith)

@@ -1,26 +1,26 @@
--- A cursor over a message, behind k rows, and the rows that are left.
+-- A cursor, behind k rows, and the rows of a message that are left.
 use Prim.Native.Nat.{ℕ, zero, suc}
 use mathlib.Core.Path.{_≡_, refl}
 use mathlib.Core.List.{List, _++_}
 use lib.ListN.{take, drop}
 use Rattle.annex.specs.Spans.{transferRows, commonRows}
-use Rattle.annex.specs.Walking.{pars, firstCursor, nextOf}
+use Rattle.annex.specs.Walking.{pars, firstCursor}
 use Rattle.annex.specs.declared.Row.{Row}
 use Rattle.laws.specs.Plain.{commonSize, transferSize}
 use Rattle.annex.specs.declared.Cursor.{Cursor}
 
--- behind k rows
-unfoldable pub cursorAt : List ℕ → ℕ → Cursor
-cursorAt m zero = firstCursor
-cursorAt m (suc k) = nextOf m (cursorAt m k)
+-- behind k rows, where `next` goes from each to the one behind it
+unfoldable pub cursorAt : (Cursor → Cursor) → ℕ → Cursor
+cursorAt next zero = firstCursor
+cursorAt next (suc k) = next (cursorAt next k)
 
-pub cursor-none : (m : List ℕ) → cursorAt m 0 ≡ firstCursor
+pub cursor-none : (next : Cursor → Cursor) → cursorAt next 0 ≡ firstCursor
 unfolding cursorAt
-cursor-none m = refl
+cursor-none next = refl
 
-pub cursor-more : (m : List ℕ) (k : ℕ) → cursorAt m (suc k) ≡ nextOf m (cursorAt m k)
+pub cursor-more : (next : Cursor → Cursor) (k : ℕ) → cursorAt next (suc k) ≡ next (cursorAt next k)
 unfolding cursorAt
-cursor-more m k = refl
+cursor-more next k = refl
 
 -- the rows that are left: those up to the end of C5, and those behind it
 unfoldable pub rowsFrom : List ℕ → Cursor → List Row

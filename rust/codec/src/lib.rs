@@ -220,7 +220,7 @@ pub fn charging(message: &[u8]) -> Result<Charging, Refusal> {
 /// ];
 /// let order = codec::order(&message)?;
 /// assert_eq!((order.form, order.offset), (0x21, 8));
-/// let digits = order.parameter(OrderHeader::Digits).unwrap();
+/// let digits = order.parameter(OrderHeader::SentDigits).unwrap();
 /// assert_eq!((digits.offset, digits.octets), (9, &[0x03, 0x21, 0x0A][..]));
 /// # Ok::<(), codec::Refusal>(())
 /// ```

@@ -37,9 +37,9 @@ pub enum OrderHeader {
     RedirectReason = 0x43,
     /// 91: the digits for the outgoing line, their count in the first octet, coded
     /// as under PLI 10.
-    Digits = 0x91,
+    SentDigits = 0x91,
     /// 92: the number that the call is transferred to, coded as D7.
-    Destination = 0x92,
+    ForwardNumber = 0x92,
     /// C9: the ARE on the calling side: a code, a repeat count, characters.
     CallingAre = 0xC9,
     /// CA: the ARE on the called side, the same.
@@ -65,8 +65,8 @@ impl OrderHeader {
         Self::Trunk,
         Self::Release,
         Self::RedirectReason,
-        Self::Digits,
-        Self::Destination,
+        Self::SentDigits,
+        Self::ForwardNumber,
         Self::CallingAre,
         Self::CalledAre,
         Self::CallingGuidance,
@@ -91,7 +91,7 @@ impl OrderHeader {
     const fn has_length(self) -> bool {
         !matches!(
             self,
-            Self::Trunk | Self::RedirectReason | Self::Digits | Self::WaitingTime
+            Self::Trunk | Self::RedirectReason | Self::SentDigits | Self::WaitingTime
         )
     }
 }
@@ -164,7 +164,7 @@ mod tests {
         let release = order.parameter(OrderHeader::Release).unwrap();
         assert_eq!((release.offset, release.octets), (3, &MESSAGE[4..6]));
         assert_eq!(release.contents(), [0x02]);
-        let digits = order.parameter(OrderHeader::Digits).unwrap();
+        let digits = order.parameter(OrderHeader::SentDigits).unwrap();
         assert_eq!((digits.offset, digits.octets), (6, &MESSAGE[7..10]));
         assert_eq!(digits.contents(), digits.octets);
         assert_eq!(order.parameter(OrderHeader::Trunk), None);

@@ -1,0 +1,2 @@
+-- The walk that the functions share which fill a table of rows.
+pub mod Filling
