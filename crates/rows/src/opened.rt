@@ -75,13 +75,11 @@ pub fn check_order(m: &[u8], room: usize) -> Answer
     let Answer::Accepted(start) = answer else {
         return answer;
     };
-    let rest = left(
-        m,
-        Cursor {
-            at: start,
-            end: m.len(),
-        },
-    );
+    let from = Cursor {
+        at: start,
+        end: m.len(),
+    };
+    let rest = left(m, from);
     let n = count(&rest[..len]);
     if room < n {
         return Answer::Refused(Answer::NO_ROOM, 0);
