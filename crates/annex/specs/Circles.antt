@@ -29,8 +29,7 @@ use Rattle.annex.specs.Contents.{faultOf}
 use Rattle.annex.specs.Items.{Part, plainItem, valuePart, dataPart, holdingOf, itemOf, contentsOf}
 use Rattle.annex.specs.Layout.{layoutItem, layoutItems, layoutPart, layout}
 use Rattle.annex.specs.Allowed.{lengthRight, faultIn, valueRight, valueFits}
-use Rattle.annex.specs.Walk.{walk}
-use Rattle.annex.specs.Walking.{pars}
+use Rattle.annex.specs.Walk.{walk, pars}
 use Rattle.annex.specs.Reading.{
   octetAllowed,
   commonForm,

@@ -28,5 +28,6 @@ pub mod Tariffs
 pub mod Circles
 -- And what the functions give that serve these: no rules of the documents, and no promise of the product rests on them.
 pub mod Walking
+pub mod Ordering
 pub mod Memory
 pub mod Opening

@@ -8,8 +8,7 @@ use Rattle.annex.specs.Answers.{startOf, no-room, refuse, andThen, roomA
 use Rattle.annex.specs.Units.{nameOf}
 use Rattle.annex.specs.Heads.{connection-order}
 use Rattle.annex.specs.Orders.{OrderParameter, orderParameter, OpenedOrder, orderSize}
-use Rattle.annex.specs.Walk.{Par}
-use Rattle.annex.specs.Walking.{pars}
+use Rattle.annex.specs.Walk.{Par, pars}
 use Rattle.annex.specs.Finding.{transferFound, findAnswer, findPart}
 use Rattle.annex.specs.declared.Answer.{Answer}
 use Rattle.annex.specs.declared.Answer.the-variants.{Accepted}

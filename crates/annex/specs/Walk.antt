@@ -1,8 +1,11 @@
 -- A walk over octets, parameter by parameter. Verdict, record, finding and rows are instances of it, in Reading, Finding and Spans.
--- Nothing counts down but the list itself: after a header as many octets are passed over as its step says are its own.
+-- Nothing counts down but the list itself: after a header as many octets are passed over as its step says are its own. At the end a walk
+-- that asks nothing but how many these are: the listing of a connection order is an instance, in Opened.
 use Prim.Native.Nat.{ℕ, zero, suc, _+_}
+use mathlib.Core.Bool.{cond}
 use mathlib.Core.List.{List, [], _∷_}
-use lib.ListN.{getD, set, take, replicate}
+use lib.Dec.{leb}
+use lib.ListN.{length, getD, set, take, replicate}
 use Rattle.annex.specs.Heads.{name-count}
 use Rattle.annex.specs.Units.{nameOf}
 use Rattle.annex.specs.declared.Answer.{Answer}
@@ -57,3 +60,19 @@ judging step close = record { step = step; close = close; stop = Refused; more =
 -- the walk that lists the parameters, up to the first refusal
 abbrev pub listing : Step → Walker (List Par)
 listing step = record { step = step; close = λ seen p. []; stop = λ k p. []; more = λ q qs. q ∷ qs }
+
+-- ---- by the length rule alone, up to the first parameter that is cut
+
+-- how many octets after a header are its own, of the octets after it
+abbrev pub Size : Type 0
+Size = ℕ → List ℕ → ℕ
+
+abbrev pub parOf : ℕ → ℕ → ℕ → List ℕ → Par
+parOf p h n xs = record { place = p; head = h; own = take n xs }
+
+-- k octets still belong to the parameter before; p is the place of the next octet
+unfoldable pub pars : Size → ℕ → ℕ → List ℕ → List Par
+pars size k p [] = []
+pars size (suc k) p (x ∷ xs) = pars size k (p + 1) xs
+pars size zero p (x ∷ xs) =
+    cond (leb (size x xs) (length xs)) (parOf p x (size x xs) xs ∷ pars size (size x xs) (p + 1) xs) []

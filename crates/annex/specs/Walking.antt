@@ -1,13 +1,13 @@
 -- Octets gone over by the length rule alone, with no other check: what the functions give, on any octets, that serve reading, finding,
 -- listing and editing. No rule of document 01; in an accepted message it comes to what Finding and Spans say.
-use Prim.Native.Nat.{ℕ, zero, suc, _+_, _-_}
+use Prim.Native.Nat.{ℕ, _+_, _-_}
 use mathlib.Core.Bool.{Bool, cond}
 use mathlib.Core.List.{List, [], _∷_}
 use lib.Dec.{eqb, leb, ltb}
 use lib.ListN.{length, getD, take, drop}
 use Rattle.annex.specs.Units.{nameOf, afterOf, leadOf, extentOf, commonExtentOf}
 use Rattle.annex.specs.Heads.{end-mark, transfer-data, kth}
-use Rattle.annex.specs.Walk.{Par}
+use Rattle.annex.specs.Walk.{Par, Size, pars}
 use Rattle.annex.specs.declared.Extent.{Extent}
 use Rattle.annex.specs.declared.Key.{Key}
 use Rattle.annex.specs.declared.Key.the-variants.{Header, Name}
@@ -28,24 +28,9 @@ stretchAt t i e =
     let n = afterAt t i e in
     cond (ltb i (length t)) (cond (leb n (length t - (i + 1))) (At (i + 1 + leadOf e) (i + 1 + n)) Nowhere) Nowhere
 
--- ---- all of them, up to the first that is cut
-
--- how many octets after a header are its own, of the octets after it
-abbrev pub Size : Type 0
-Size = ℕ → List ℕ → ℕ
-
+-- how many octets after a header are its own, by its PLI
 abbrev pub sizeBy : (ℕ → Extent) → Size
 sizeBy ext h xs = afterOf (ext h) (getD xs 0 0)
-
-abbrev pub parOf : ℕ → ℕ → ℕ → List ℕ → Par
-parOf p h n xs = record { place = p; head = h; own = take n xs }
-
--- k octets still belong to the parameter before; p is the place of the next octet
-unfoldable pub pars : Size → ℕ → ℕ → List ℕ → List Par
-pars size k p [] = []
-pars size (suc k) p (x ∷ xs) = pars size k (p + 1) xs
-pars size zero p (x ∷ xs) =
-    cond (leb (size x xs) (length xs)) (parOf p x (size x xs) xs ∷ pars size (size x xs) (p + 1) xs) []
 
 -- ---- the one that a key asks for
 
@@ -89,6 +74,29 @@ contentsFound k t = contentsAt k t (searchIn k t)
 -- of a common parameter: the end mark has no contents to be found
 abbrev pub commonPlain : ℕ → List ℕ → Found
 commonPlain h m = cond (eqb h end-mark) Nowhere (contentsFound (Header h) m)
+
+-- of a transfer parameter with the name x, in the transfer data t
+abbrev pub transferSearch : ℕ → ℕ → List ℕ → Found
+transferSearch x which t = contentsFound (Name x which) t
+
+-- what is found in a part that starts at s, told of the whole
+abbrev pub moved : ℕ → Found → Found
+moved s (At a e) = At (s + a) (s + e)
+moved s Nowhere = Nowhere
+
+-- in the transfer data that was found in m
+abbrev pub inData : ℕ → ℕ → List ℕ → Found → Found
+inData x which m (At s e) = moved s (transferSearch x which (take (e - s) (drop s m)))
+inData x which m Nowhere = Nowhere
+
+-- and so in m
+abbrev pub transferPlain : ℕ → ℕ → List ℕ → Found
+transferPlain x which m = inData x which m (contentsFound (Header transfer-data) m)
+
+-- by a key
+abbrev pub plainBy : Key → List ℕ → Found
+plainBy (Header h) m = commonPlain h m
+plainBy (Name x which) m = transferPlain x which m
 
 -- ---- a cursor over a message: the row at it, and the next one
 

@@ -72,7 +72,8 @@ use Rattle.annex.specs.declared.ClassAnswer.the-variants as classes
 use Rattle.laws.specs.Few.{rows-few, order-few}
 use Rattle.laws.specs.Offsets.{fault-within}
 use Rattle.laws.specs.Steps.{PlaceTo, accepted-place, refuse-place, then-place, head-place, sound-place, place-told, verdict-place}
-use Rattle.laws.specs.Finding.{Inside, plainBy, plain-inside, plain-found}
+use Rattle.annex.specs.Walking.{plainBy}
+use Rattle.laws.specs.Finding.{Inside, plain-inside, plain-found}
 use Rattle.theorems.specs.Messages.{message-read}
 use Rattle.theorems.specs.Layouts.{laid-then-read}
 use Rattle.theorems.specs.Edits.{OfOctets, edited-allowed}

@@ -13,8 +13,7 @@ use Rattle.laws.specs.Parts.{octet-next}
 
 -- by whether an ARE's are meant
 abbrev pub isKnown : Bool → ℕ → Bool
-isKnown true x = isAreCharacter x
-isKnown false x = isFigure x
+isKnown are = cond are isAreCharacter isFigure
 
 abbrev pub knownFault : Bool → ℕ → List ℕ → Fault
 knownFault are at xs = outsideFault (isKnown are) at xs

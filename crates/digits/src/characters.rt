@@ -3,10 +3,11 @@ use annex::Answer;
 use annex::Fault;
 use annex::Order;
 ghost use mathlib.Core.Path.{_≡_};
+ghost use mathlib.Core.Bool.{cond};
 ghost use lib.ListN.{drop};
-ghost use Rattle.annex.specs.Orders.{isFigure};
+ghost use Rattle.annex.specs.Orders.{isFigure, isAreCharacter, outsideFault};
 ghost use Rattle.annex.specs.Promises.{Gives};
-ghost use Rattle.digits.specs.Characters.{isKnown, knownFault};
+ghost use Rattle.digits.specs.Characters.{isKnown};
 
 // Whether a character is one of 0 to 9.
 pub fn is_figure(octet: u8) -> bool
@@ -36,7 +37,7 @@ fn is_known(are: bool, octet: u8) -> bool
 
 // The first octet from an offset on that is no such character.
 pub fn characters_fault(are: bool, s: &[u8], from: usize) -> Fault
-    ensures { λ r. ⌜ Gives (knownFault are from (drop from (now (s .entry)))) r ⌝ }
+    ensures { λ r. ⌜ Gives (outsideFault (cond are isAreCharacter isFigure) from (drop from (now (s .entry)))) r ⌝ }
 {
     let mut i = from;
     while i < s.len() {

@@ -18,14 +18,14 @@ use Rattle.annex.specs.Finding.{transferFound}
 use Rattle.annex.specs.Editing.{Edit, newHeader, newHead, newContents, editRefusal, recordEditing, editingOf}
 use Rattle.annex.specs.Editing.Edit.{Replacing, Appending, Removing}
 use Rattle.annex.specs.Promises.{EditPromise}
-use Rattle.annex.specs.Walking.{commonPlain}
+use Rattle.annex.specs.Walking.{commonPlain, moved, transferSearch}
 use Rattle.annex.specs.declared.Answer.{Answer}
 use Rattle.annex.specs.declared.Answer.the-variants.{Accepted, Refused}
 use Rattle.annex.specs.declared.Found.{Found}
 use Rattle.annex.specs.declared.Found.the-variants.{At, Nowhere}
 use Rattle.laws.specs.Steps.{head-then}
 use Rattle.laws.specs.Parts.{from-to}
-use Rattle.laws.specs.Finding.{moved, transferSearch, common-inside, common-plain, transfer-plain}
+use Rattle.laws.specs.Finding.{common-inside, common-plain, transfer-plain}
 use Rattle.theorems.specs.Lists.{every-take}
 use Rattle.theorems.specs.Places.{isFound, data-there, name-there, often-there}
 use Rattle.theorems.specs.Reasons.{editedIn}

@@ -17,9 +17,8 @@ use Rattle.annex.specs.declared.Key.the-variants.{Name}
 use Rattle.annex.specs.declared.Found.{Found}
 use Rattle.annex.specs.declared.Found.the-variants.{At, Nowhere}
 use Rattle.annex.specs.Contents.{faultOf}
-use Rattle.annex.specs.Walking.{isSought, soughtIn, searchIn, contentsAt}
+use Rattle.annex.specs.Walking.{isSought, soughtIn, searchIn, contentsAt, transferSearch}
 use Rattle.laws.specs.Plain.{transfers-plain}
-use Rattle.laws.specs.Finding.{transferSearch}
 use Rattle.theorems.specs.Counts.{namesIn}
 use Rattle.theorems.specs.Transfers.{itemPar}
 use Rattle.theorems.specs.Named.{passed-over}

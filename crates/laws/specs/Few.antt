@@ -11,7 +11,7 @@ use lib.Dec.{eqb, leb}
 use lib.ListN.{length, getD, set, take, length-set, length-append, length-map}
 use Rattle.annex.specs.Units.{nameOf}
 use Rattle.annex.specs.Heads.{among, listedHeaders, transfer-data, name-count, nameUsed, oftenOf, most-transfers, most-rows}
-use Rattle.annex.specs.Walk.{Seen, unseen, timesSeen, counted, Par, Step, byStep, walk, listing}
+use Rattle.annex.specs.Walk.{Seen, unseen, timesSeen, counted, Par, Step, byStep, walk, listing, Size, parOf, pars}
 use Rattle.annex.specs.Reading.{transferStep, transfersOf, commonStep, commonsOf, dataIn, commonsBy, transfersBy}
 use Rattle.annex.specs.Spans.{transferRows, innerRows, commonRows, rowsOf, commonRowsBy, rowsBy}
 use Rattle.annex.specs.declared.Answer.{Answer}
@@ -19,7 +19,6 @@ use Rattle.annex.specs.declared.Answer.the-variants.{Accepted, Refused}
 use Rattle.annex.specs.Contents.{faultOf}
 use Rattle.annex.specs.Orders.{orderSize}
 use Rattle.annex.specs.Opened.{parameterRow, orderListing}
-use Rattle.annex.specs.Walking.{Size, parOf, pars}
 use Rattle.laws.specs.Members.{among-every, sumOf, count}
 use Rattle.laws.specs.Often.{often-sum}
 use Rattle.laws.specs.Steps.{transfer-taken, common-taken}

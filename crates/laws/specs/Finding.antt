@@ -20,7 +20,21 @@ use Rattle.annex.specs.declared.Key.the-variants.{Header, Name}
 use Rattle.annex.specs.declared.Found.{Found}
 use Rattle.annex.specs.declared.Found.the-variants.{At, Nowhere}
 use Rattle.annex.specs.Contents.{faultOf}
-use Rattle.annex.specs.Walking.{sizeBy, isSought, whichOf, extentBy, wholeOf, soughtIn, contentsAt, contentsFound, commonPlain}
+use Rattle.annex.specs.Walking.{
+  sizeBy,
+  isSought,
+  whichOf,
+  extentBy,
+  wholeOf,
+  soughtIn,
+  contentsAt,
+  contentsFound,
+  commonPlain,
+  moved,
+  inData,
+  transferPlain,
+  plainBy,
+}
 use Rattle.laws.specs.Extents.{lead-within}
 use Rattle.laws.specs.Parts.{from-to}
 use Rattle.laws.specs.Plain.{commonSize, transferSize, Lies, pars-lie}
@@ -55,27 +69,6 @@ pub search-inside : (k : Key) (t : List ℕ) → Inside (length t) (contentsFoun
 search-inside k t = sought-inside k (whichOf k) t _ (pars-lie (sizeBy (extentBy k)) t t 0 0 refl)
 
 -- ---- in a message, by the length rule alone
-
--- of a transfer parameter with the name x, in the transfer data t
-abbrev pub transferSearch : ℕ → ℕ → List ℕ → Found
-transferSearch x which t = contentsFound (Name x which) t
-
--- what is found in a part that starts at s, told of the whole
-abbrev pub moved : ℕ → Found → Found
-moved s (At a e) = At (s + a) (s + e)
-moved s Nowhere = Nowhere
-
--- in the transfer data that was found in m
-abbrev inData : ℕ → ℕ → List ℕ → Found → Found
-inData x which m (At s e) = moved s (transferSearch x which (take (e - s) (drop s m)))
-inData x which m Nowhere = Nowhere
-
-abbrev pub transferPlain : ℕ → ℕ → List ℕ → Found
-transferPlain x which m = inData x which m (contentsFound (Header transfer-data) m)
-
-abbrev pub plainBy : Key → List ℕ → Found
-plainBy (Header h) m = commonPlain h m
-plainBy (Name x which) m = transferPlain x which m
 
 pub common-inside : (h : ℕ) (m : List ℕ) → Inside (length m) (commonPlain h m)
 common-inside h m = go (eqb h end-mark)

@@ -16,7 +16,7 @@ use Rattle.annex.specs.Answers.{over-limits}
 use Rattle.annex.specs.Contents.{Rule, faultOf}
 use Rattle.annex.specs.Heads.{end-mark, transfer-data, most-octets}
 use Rattle.annex.specs.Allowed.{Each}
-use Rattle.annex.specs.Walk.{Seen, unseen, counted, Par, Step, byStep, walk, judging, listing}
+use Rattle.annex.specs.Walk.{Seen, unseen, counted, Par, Step, byStep, walk, judging, listing, Size, parOf, pars}
 use Rattle.annex.specs.Reading.{
   transfersVerdict,
   endOf,
@@ -35,7 +35,7 @@ use Rattle.annex.specs.Reading.{
   dataBy,
   commonStepBy,
 }
-use Rattle.annex.specs.Walking.{Size, sizeBy, parOf, pars}
+use Rattle.annex.specs.Walking.{sizeBy}
 use Rattle.annex.specs.declared.Extent.{Extent}
 use Rattle.annex.specs.declared.Answer.{Answer}
 use Rattle.annex.specs.declared.Answer.the-variants.{Accepted, Refused}

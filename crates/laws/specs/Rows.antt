@@ -14,7 +14,7 @@ use lib.Seq.{drop-cons, length-take-le}
 use Rattle.annex.specs.Units.{leadOf, extentOf, commonExtentOf}
 use Rattle.annex.specs.Answers.{over-limits}
 use Rattle.annex.specs.Heads.{most-octets}
-use Rattle.annex.specs.Walk.{Seen, unseen, counted, Par, Step, byStep, walk, judging, listing}
+use Rattle.annex.specs.Walk.{Seen, unseen, counted, Par, Step, byStep, walk, judging, listing, Size, pars}
 use Rattle.annex.specs.Reading.{
   transferStep,
   transfersVerdict,
@@ -36,7 +36,6 @@ use Rattle.annex.specs.declared.Answer.the-variants.{Accepted, Refused}
 use Rattle.annex.specs.declared.Row.{Row}
 use Rattle.annex.specs.declared.Extent.{Extent}
 use Rattle.annex.specs.Contents.{faultOf}
-use Rattle.annex.specs.Walking.{Size, pars}
 use Rattle.laws.specs.Members.{sumOf}
 use Rattle.laws.specs.Steps.{passed, transfer-taken, common-within}
 use Rattle.laws.specs.Plain.{

@@ -1,8 +1,8 @@
 // What is wrong with the contents of E0: the form first, then each parameter from left to right.
+use crate::lengths::octets_after;
 use crate::table::asked_of;
 use crate::table::has_form;
 use crate::table::is_form;
-use crate::table::octets_after;
 use annex::Alphabet;
 use annex::Answer;
 use annex::Fault;

@@ -1,12 +1,11 @@
 // The tables of connection orders. Forms are held as bits of one number: the form C0 C1 is bit C1 of the sixteen that C0 has, those of 2
 // lowest, then those of 3 and 4.
-use annex::HalfOctets;
 use annex::Order;
 use annex::OrderLayout;
 ghost use mathlib.Core.Path.{_≡_};
 ghost use Rattle.annex.specs.Heads.{among};
 ghost use Rattle.annex.specs.Promises.{Gives};
-ghost use Rattle.annex.specs.Orders.{orderForms, orderAfter, layoutOf};
+ghost use Rattle.annex.specs.Orders.{orderForms};
 ghost use Rattle.orders.specs.Asked.{asking, askedOf, hasBit};
 
 // What the table says of a header: its place among those of the table, its layout, and the forms under which it may stand.
@@ -75,35 +74,4 @@ pub fn is_form(form: u8) -> bool
     ensures { λ r. ⌜ Gives (among form orderForms) r ⌝ }
 {
     has_form(FORMS, form)
-}
-
-// How many octets behind a header of this layout are its own; first is the octet right after it, or 0. The count of 91 is in half-octets,
-// every other in octets.
-pub fn octets_after(layout: OrderLayout, first: u8) -> usize
-    ensures { λ r. ⌜ Gives (orderAfter layout first) r ⌝ }
-{
-    match layout {
-        OrderLayout::TrunkKind => 1,
-        OrderLayout::RedirectReason => 1,
-        OrderLayout::WaitingTime => 3,
-        OrderLayout::SentDigits => {
-            let digits = HalfOctets::counted_whole(first);
-            let octets = digits.octets();
-            1 + octets.0
-        }
-        OrderLayout::ReleaseKind => 1 + first as usize,
-        OrderLayout::ForwardNumber => 1 + first as usize,
-        OrderLayout::AreControl => 1 + first as usize,
-        OrderLayout::AreLogic => 1 + first as usize,
-        OrderLayout::Guidance => 1 + first as usize,
-    }
-}
-
-// The same of a header.
-pub fn octets_behind(header: u8, first: u8) -> usize
-    ensures { λ r. ⌜ Gives (orderAfter (layoutOf header) first) r ⌝ }
-{
-    let asked = asked_of(header);
-    let layout = asked.layout;
-    octets_after(layout, first)
 }

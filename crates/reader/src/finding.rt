@@ -20,8 +20,7 @@ ghost use Rattle.annex.specs.Promises.{
   FindTransferAnswerPromise,
   Gives,
 };
-ghost use Rattle.annex.specs.Walking.{isSought, whichOf, extentBy, searchIn, contentsFound, commonPlain};
-ghost use Rattle.laws.specs.Finding.{transferPlain, plainBy};
+ghost use Rattle.annex.specs.Walking.{isSought, whichOf, extentBy, searchIn, contentsFound, commonPlain, transferPlain, plainBy};
 ghost use Rattle.reader.specs.Finding.{Tells};
 
 // What finding gives: the answer to the second question, and where the contents start and end, 0 and 0 if refused.

@@ -6,7 +6,7 @@ use native.Mathlib.Numerals.{add-one}
 use native.Mathlib.Omega.{arith}
 use mathlib.Core.Path.{_≡_, refl, sym, ap, _∙_}
 use mathlib.Core.Bool.{Bool, true, false, cond}
-use mathlib.Core.List.{List, [], _∷_, map}
+use mathlib.Core.List.{List, [], _∷_}
 use borrow.Author.Tests.{leb-true, le-leb, lt-leb, le-ltb, ne-eqb}
 use lib.Dec.{eqb, leb, ltb}
 use lib.ListN.{length, getD, take, drop, length-map, length-take, length-drop, drop-of-length-le}
@@ -15,10 +15,22 @@ use Rattle.annex.specs.Answers.{startOf, stopOf, givenOf, andThen}
 use Rattle.annex.specs.Finding.{foundAnswer, findAnswer, findPart}
 use Rattle.annex.specs.Heads.{connection-order}
 use Rattle.annex.specs.Opened.{formRow, parameterRow, orderListing, orderFound, orderRowsOf, orderAnswer, orderTable}
+use Rattle.annex.specs.Ordering.{
+  orderSpan,
+  orderLeft,
+  parameterRows,
+  takenOf,
+  orderRowsPlain,
+  orderRowsFrom,
+  orderRowHere,
+  orderBehind,
+  orderNext,
+}
 use Rattle.annex.specs.Orders.{layoutOf, orderAfter, orderSize}
 use Rattle.annex.specs.Reading.{verdictOf}
 use Rattle.annex.specs.Units.{nameOf}
-use Rattle.annex.specs.Walking.{pars, cursorTo, firstCursor, noRow}
+use Rattle.annex.specs.Walk.{pars}
+use Rattle.annex.specs.Walking.{cursorTo, firstCursor, noRow, transferPlain}
 use Rattle.annex.specs.declared.Answer.{Answer}
 use Rattle.annex.specs.declared.Answer.the-variants.{Accepted, Refused}
 use Rattle.annex.specs.declared.Cursor.{Cursor}
@@ -38,56 +50,13 @@ use Rattle.annex.specs.declared.OrderLayout.the-variants.{
   WaitingTime,
 }
 use Rattle.annex.specs.declared.Row.{Row}
-use Rattle.laws.specs.Finding.{Inside, transferPlain, plain-inside, transfer-plain}
+use Rattle.laws.specs.Finding.{Inside, plain-inside, transfer-plain}
 use Rattle.laws.specs.Listed.{rowsAfter}
 use Rattle.laws.specs.Parts.{from-to}
 use Rattle.laws.specs.Plain.{pars-skip, pars-moved}
 use Rattle.laws.specs.Rows.{Accepts}
 use Rattle.walk.specs.Cursors.{cursorAt}
 use Rattle.rows.specs.Rows.{Within, Source, filled, given-within, filled-all}
-
--- ---- at a cursor
-
--- from the first octet of E0's contents to behind their last; at 0 none, where there is no E0
-abbrev pub orderSpan : List ℕ → Cursor
-orderSpan m =
-    let f = transferPlain (nameOf connection-order) 0 m in
-    cursorTo (startOf f) (stopOf f)
-
--- the octets from a cursor on; none where it is past its end, or that is past the message
-abbrev pub orderLeft : List ℕ → Cursor → List ℕ
-orderLeft m c = cond (ltb (length m) (c .end)) [] (drop (c .at) (take (c .end) m))
-
--- the rows of parameters in octets that start at the place p of a message
-abbrev pub parameterRows : ℕ → List ℕ → List Row
-parameterRows p xs = map (parameterRow 0) (pars orderSize 0 p xs)
-
--- how many octets the first of them takes, its header among them: 0 where it is cut, or there is none
-unfoldable pub takenOf : List ℕ → ℕ
-takenOf [] = 0
-takenOf (h ∷ xs) = cond (leb (orderSize h xs) (length xs)) (suc (orderSize h xs)) 0
-
--- all rows of the order
-abbrev pub orderRowsPlain : List ℕ → List Row
-orderRowsPlain m = orderListing (orderSpan m .at) (orderLeft m (orderSpan m))
-
--- the rows from a cursor on; one at 0 stands before the form
-unfoldable pub orderRowsFrom : List ℕ → Cursor → List Row
-orderRowsFrom m c = cond (eqb (c .at) 0) (orderRowsPlain m) (parameterRows (c .at) (orderLeft m c))
-
--- the first of them
-abbrev pub orderRowHere : List ℕ → Cursor → Row
-orderRowHere m c = getD (orderRowsFrom m c) 0 noRow
-
--- behind a parameter that takes n octets; where it is cut the order ends
-abbrev pub orderBehind : Cursor → ℕ → Cursor
-orderBehind c zero = cursorTo (c .at) (c .at)
-orderBehind c (suc n) = cursorTo (c .at + suc n) (c .end)
-
--- the cursor behind its first row
-unfoldable pub orderNext : List ℕ → Cursor → Cursor
-orderNext m c =
-    cond (eqb (c .at) 0) (cursorTo (orderSpan m .at + 1) (orderSpan m .end)) (orderBehind c (takenOf (orderLeft m c)))
 
 -- ---- the first parameter of octets
 

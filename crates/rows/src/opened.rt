@@ -6,7 +6,7 @@ use annex::Found;
 use annex::Key;
 use annex::Row;
 use annex::Transfer;
-use orders::table::octets_behind;
+use orders::lengths::octets_behind;
 use reader::finding::find_both;
 use reader::finding::transfer_by_length;
 ghost use mathlib.Core.Path.{_≡_};
@@ -14,7 +14,7 @@ ghost use lib.ListN.{length, getD};
 ghost use Rattle.annex.specs.Opened.{orderListing};
 ghost use Rattle.annex.specs.Promises.{Gives, OrderCheckPromise};
 ghost use Rattle.annex.specs.Walking.{noRow};
-ghost use Rattle.rows.specs.Orders.{orderSpan, orderLeft, parameterRows, takenOf, orderRowsPlain, orderRowHere, orderNext};
+ghost use Rattle.annex.specs.Ordering.{orderSpan, orderLeft, parameterRows, takenOf, orderRowsPlain, orderRowHere, orderNext};
 
 // The octets from a cursor on; none where it is past its end, or that is past the message.
 fn left(m: &[u8], c: Cursor) -> &[u8]

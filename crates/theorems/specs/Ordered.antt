@@ -41,7 +41,8 @@ use Rattle.annex.specs.Orders.{
 use Rattle.annex.specs.Contents.{faultOf}
 use Rattle.annex.specs.Items.{Item, contentsOf}
 use Rattle.annex.specs.Allowed.{every, isOctet, timesIn, itemsIn, namesOf}
-use Rattle.annex.specs.Walking.{pars, noRow}
+use Rattle.annex.specs.Walk.{pars}
+use Rattle.annex.specs.Walking.{noRow}
 use Rattle.annex.specs.Reading.{verdictOf, recordOf}
 use Rattle.annex.specs.Finding.{findAnswer, findPart}
 use Rattle.annex.specs.Opened.{openedOrder, formRow, parameterRow, orderListing, orderFound, orderRowsOf, orderAnswer, parameterOf}

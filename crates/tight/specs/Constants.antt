@@ -43,10 +43,8 @@ use Rattle.annex.specs.Digits.{
 }
 use Rattle.annex.specs.Rates.{isKind, fieldsOf, numbersDrawn, drawnFault, checkRight, decimal, fieldIn, chargesOf}
 use Rattle.annex.specs.Orders.{
-  orderForms,
   formsOf,
   layoutOf,
-  mayStand,
   orderAfter,
   layoutFault,
   ownFault,
@@ -61,7 +59,7 @@ use Rattle.annex.specs.Contents.{dialledFault, chargingFault, faultUnder, fault
 use Rattle.annex.specs.Items.{Item, valuePart, holdingBy, holdingOf, openBy, itemOf, contentsOf, ownOf}
 use Rattle.annex.specs.Layout.{layoutItem, layoutPart, callOctets}
 use Rattle.annex.specs.Allowed.{every, lengthRight, faultIn, valueRight, valueFits}
-use Rattle.annex.specs.Walk.{walk}
+use Rattle.annex.specs.Walk.{walk, pars}
 use Rattle.annex.specs.Reading.{
   transferOf,
   octetAllowed,
@@ -98,7 +96,9 @@ use Rattle.annex.specs.Writing.{headWriting, itemWriting, partWriting, endWriti
 use Rattle.annex.specs.Image.{imageHead, headFront, itemSize, commonFront}
 use Rattle.annex.specs.Promises.{Gives, Keeps}
 use Rattle.annex.specs.Bench.{K, recordOfK, recordOfM}
-use Rattle.annex.specs.Walking.{pars, soughtIn, searchIn, commonPlain, stretchAt, cursorTo, stretchHere, rowHere, nextOf}
+use Rattle.annex.specs.Opened.{orderListing}
+use Rattle.annex.specs.Ordering.{takenOf, orderRowsFrom, orderRowHere, orderNext}
+use Rattle.annex.specs.Walking.{soughtIn, searchIn, commonPlain, stretchAt, cursorTo, stretchHere, rowHere, nextOf, transferPlain}
 use Rattle.annex.specs.Memory.{Request, put, laidAt, spliced, copying, splicing, packing, unpacking, laying, layingHead, valuesFit}
 use Rattle.annex.specs.Opening.{headFor, valuesWith, openedHead, openedValues, partHead}
 use Rattle.annex.specs.declared.Alphabet.the-variants.{Dialled, Numbered, Decimal}
@@ -241,6 +241,10 @@ lent n = replicate n 0xEE
 abbrev carried : Item
 carried = itemFrom (carriedHead 0x41 1) (1 ∷ [])
 
+-- a message with a connection order of one parameter
+abbrev trunk : List ℕ
+trunk = K ++ (0xC5 ∷ 0x05 ∷ 0xE0 ∷ 0x03 ∷ 0x23 ∷ 0x41 ∷ 0x05 ∷ 0x00 ∷ [])
+
 abbrev laidCarried : ℕ → List ℕ → List ℕ
 laidCarried at room = laidAt (itemWriting 0 0 carried) (layoutItem carried) at room
 
@@ -287,8 +291,6 @@ rows =
     faults (chargingFault (0x00 ∷ 0x05 ∷ 0x12 ∷ 0x31 ∷ [])) (chargingFault (0x00 ∷ 0x05 ∷ 0x12 ∷ 0x32 ∷ [])) ∷  -- charging_fault
     gives Charges (λ c. c .mbi) (chargesOf (0x00 ∷ 0x05 ∷ 0x12 ∷ 0x31 ∷ [])) (chargesOf (0x00 ∷ 0x05 ∷ 0x21 ∷ 0x31 ∷ [])) ∷  -- charges
     gives HalfOctets (λ n. n .0) (wholeCount 0x42) (wholeCount 0x02) ∷  -- HalfOctets::counted_whole
-    tests (among 0x2E orderForms) (among 0x2F orderForms) ∷  -- is_form
-    tests (mayStand 0x3D 0xCF) (mayStand 0x3E 0xCF) ∷  -- asked_of, has_form
     counts (orderAfter SentDigits 2) (orderAfter SentDigits 3) ∷  -- octets_after
     counts (orderAfter (layoutOf 0x91) 4) (orderAfter (layoutOf 0xCB) 4) ∷  -- octets_behind
     faults (orderFault (0x28 ∷ 0x42 ∷ 0x01 ∷ 0x00 ∷ [])) (orderFault (0x29 ∷ 0x42 ∷ 0x01 ∷ 0x00 ∷ [])) ∷  -- order_fault, form
@@ -326,6 +328,9 @@ rows =
     commons (λ c. c .value) (partHead 0x83 (0x39 ∷ 0x30 ∷ 0x00 ∷ []) 0) (partHead 0x83 (0x30 ∷ 0x39 ∷ 0x00 ∷ []) 0) ∷  -- part_head
     finds (searchIn (Name 0x01 0) (0x41 ∷ 0x01 ∷ [])) (searchIn (Name 0x01 1) (0x41 ∷ 0x01 ∷ [])) ∷  -- search_by_length
     finds (commonPlain 0x01 K) (commonPlain 0x06 K) ∷  -- common_by_length
+    finds (transferPlain 0x20 0 trunk) (transferPlain 0x21 0 trunk) ∷  -- transfer_by_length
+    gives Row (λ r. r .offset) (orderRowHere trunk (cursorTo 0 0)) (orderRowHere trunk (cursorTo 9 11)) ∷  -- opened::row_here
+    gives Cursor (λ c. c .at) (orderNext trunk (cursorTo 0 0)) (orderNext trunk (cursorTo 9 11)) ∷  -- opened::next
     gives Answer givenOf (findAnswer short (foundBy (Header 0x01) short)) (findAnswer short (foundBy (Header 0x06) short))
     ∷  -- find_both, answer
     counts (length (findPart short (foundBy (Header 0x01) short))) (length (findPart short (foundBy (Header 0x00) short)))
@@ -346,11 +351,12 @@ rows =
 
 rows-differ : allDiffer rows ≡ true
 unfolding afterOf extentOf commonExtentOf leadOf nameUsed pliRight oftenOf zeroesOf formOf halves joined digitOf codeOf isCode halvesFault
-    digitsFault digitsOf packed numberFaultIn outsideFault isKind fieldsOf numbersDrawn drawnFault checkRight decimal fieldIn chargesOf chargingFault
-    formsOf layoutOf orderAfter layoutFault ownFault parameterFault parametersFault orderFault dialledFault faultOf holdingOf itemOf
-    contentsOf ownOf layoutItem lengthRight faultIn valueRight valueFits walk transferBy octetAllowed commonForm endOf commonBy
-    messageVerdictBy verdictBy commonsBy commonIn commonFound pad valuesOf pack lengthsOf transfersSum isWhole viewItems viewParts view
-    overLimits itemWriting partWriting layoutPart pars soughtIn stretchAt stretchHere rowHere nextOf put spliced
+    digitsFault digitsOf packed numberFaultIn outsideFault isKind fieldsOf numbersDrawn drawnFault checkRight decimal fieldIn chargesOf
+    chargingFault formsOf layoutOf orderAfter layoutFault ownFault parameterFault parametersFault orderFault dialledFault faultOf
+    holdingOf itemOf contentsOf ownOf layoutItem lengthRight faultIn valueRight valueFits walk transferBy octetAllowed commonForm endOf
+    commonBy messageVerdictBy verdictBy commonsBy commonIn commonFound pad valuesOf pack lengthsOf transfersSum isWhole viewItems
+    viewParts view overLimits itemWriting partWriting layoutPart pars soughtIn stretchAt stretchHere rowHere nextOf orderListing takenOf
+    orderRowsFrom orderNext put spliced
 rows-differ = refl
 
 -- every row's programs are shut out

@@ -19,8 +19,8 @@ use Rattle.annex.specs.Orders.{
   orderFault,
 }
 use Rattle.annex.specs.Contents.{faultOf}
-use Rattle.annex.specs.Walk.{walk}
-use Rattle.annex.specs.Walking.{pars, noRow}
+use Rattle.annex.specs.Walk.{walk, pars}
+use Rattle.annex.specs.Walking.{noRow}
 use Rattle.annex.specs.Reading.{
   octetAllowed,
   commonForm,

@@ -12,7 +12,7 @@ use lib.Seq.{getD-take, drop-cons, drop-drop, length-take-le}
 use Rattle.annex.specs.Units.{afterOf, leadOf, extentOf, commonExtentOf}
 use Rattle.annex.specs.Heads.{transfer-data}
 use Rattle.annex.specs.Allowed.{Each}
-use Rattle.annex.specs.Walk.{Par}
+use Rattle.annex.specs.Walk.{Par, Size, pars}
 use Rattle.annex.specs.Reading.{verdictOf, dataIn}
 use Rattle.annex.specs.Spans.{parRow, transferRows, innerRows, commonRows, rowsOf, rowsBy, commonRowsBy}
 use Rattle.annex.specs.declared.Answer.{Answer}
@@ -21,7 +21,7 @@ use Rattle.annex.specs.declared.Extent.{Extent}
 use Rattle.annex.specs.declared.Extent.the-variants.{Fixed, Counted}
 use Rattle.annex.specs.declared.Found.the-variants.{At}
 use Rattle.annex.specs.Contents.{faultOf}
-use Rattle.annex.specs.Walking.{noRow, Size, pars, cursorTo, firstCursor, extentHere, stretchHere, rowHere, nextOf}
+use Rattle.annex.specs.Walking.{noRow, cursorTo, firstCursor, extentHere, stretchHere, rowHere, nextOf}
 use Rattle.laws.specs.Extents.{lead-within}
 use Rattle.laws.specs.Listed.{rowsAfter, listed}
 use Rattle.laws.specs.Members.{sumOf}

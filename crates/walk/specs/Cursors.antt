@@ -4,7 +4,8 @@ use mathlib.Core.Path.{_≡_, refl}
 use mathlib.Core.List.{List, _++_}
 use lib.ListN.{take, drop}
 use Rattle.annex.specs.Spans.{transferRows, commonRows}
-use Rattle.annex.specs.Walking.{pars, firstCursor}
+use Rattle.annex.specs.Walk.{pars}
+use Rattle.annex.specs.Walking.{firstCursor}
 use Rattle.annex.specs.declared.Row.{Row}
 use Rattle.laws.specs.Plain.{commonSize, transferSize}
 use Rattle.annex.specs.declared.Cursor.{Cursor}

@@ -8,7 +8,8 @@ use lib.ListN.{length}
 use Rattle.annex.specs.Heads.{transfer-data}
 use Rattle.annex.specs.declared.Key.the-variants.{Header, Name}
 use Rattle.annex.specs.declared.Found.the-variants.{At}
-use Rattle.laws.specs.Finding.{search-inside, transferPlain, plain-inside}
+use Rattle.annex.specs.Walking.{transferPlain}
+use Rattle.laws.specs.Finding.{search-inside, plain-inside}
 use Rattle.reader.proofs.finding.transfer_by_length.Statement.{statement}
 use Rattle.reader.proofs.finding.transfer_by_length.Tie as tie
 

@@ -11,7 +11,8 @@ use Rattle.annex.specs.Opened.{orderFound, orderRowsOf, orderAnswer}
 use Rattle.annex.specs.Packed.{row-octets, rowsOctets, octetOrder, octetOrderTable}
 use Rattle.annex.specs.declared.Answer.the-variants.{Accepted}
 use Rattle.laws.specs.Runs.{Left, left-all}
-use Rattle.rows.specs.Orders.{orderRowsFrom, orderRowHere, orderNext, rows-first, rows-step}
+use Rattle.annex.specs.Ordering.{orderRowsFrom, orderRowHere, orderNext}
+use Rattle.rows.specs.Orders.{rows-first, rows-step}
 use Rattle.rows.specs.Tables.{
   length-rows,
   left-one,

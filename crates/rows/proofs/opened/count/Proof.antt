@@ -7,7 +7,8 @@ use borrow.Author.Needs.{needs}
 use lib.ListN.{length, drop}
 use Rattle.annex.specs.Opened.{orderListing}
 use Rattle.laws.specs.Parts.{to-end}
-use Rattle.rows.specs.Orders.{parameterRows, takenOf, rows-over, listing-none, listing-some, count-turn}
+use Rattle.annex.specs.Ordering.{parameterRows, takenOf}
+use Rattle.rows.specs.Orders.{rows-over, listing-none, listing-some, count-turn}
 use Rattle.rows.proofs.opened.count.Statement.{statement}
 use Rattle.rows.proofs.opened.count.Tie as tie
 

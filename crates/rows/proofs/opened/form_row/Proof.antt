@@ -6,7 +6,8 @@ use denote.Ref.{now}
 use borrow.Author.Needs.{needs}
 use lib.ListN.{length, getD}
 use Rattle.annex.specs.Walking.{noRow}
-use Rattle.rows.specs.Orders.{orderSpan, orderLeft, listing-none, listing-first}
+use Rattle.annex.specs.Ordering.{orderSpan, orderLeft}
+use Rattle.rows.specs.Orders.{listing-none, listing-first}
 use Rattle.rows.proofs.opened.form_row.Statement.{statement}
 use Rattle.rows.proofs.opened.form_row.Tie as tie
 

@@ -5,7 +5,8 @@ use denote.Ref.{now}
 use borrow.Author.Needs.{needs}
 use borrow.Author.Tests.{eq-eqb, ne-eqb}
 use Rattle.annex.specs.declared.Cursor.{Cursor}
-use Rattle.rows.specs.Orders.{orderLeft, takenOf, orderNext, taken-within, left-long, behind-more, span-within}
+use Rattle.annex.specs.Ordering.{orderLeft, takenOf, orderNext}
+use Rattle.rows.specs.Orders.{taken-within, left-long, behind-more, span-within}
 use Rattle.rows.proofs.opened.next.Statement.{statement}
 use Rattle.rows.proofs.opened.next.Tie as tie
 

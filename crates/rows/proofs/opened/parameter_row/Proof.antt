@@ -5,7 +5,8 @@ use denote.Ref.{now}
 use borrow.Author.Needs.{needs}
 use lib.ListN.{length, getD}
 use Rattle.annex.specs.Walking.{noRow}
-use Rattle.rows.specs.Orders.{orderLeft, takenOf, rows-over, rows-more, taken-within}
+use Rattle.annex.specs.Ordering.{orderLeft, takenOf}
+use Rattle.rows.specs.Orders.{rows-over, rows-more, taken-within}
 use Rattle.rows.proofs.opened.parameter_row.Statement.{statement}
 use Rattle.rows.proofs.opened.parameter_row.Tie as tie
 

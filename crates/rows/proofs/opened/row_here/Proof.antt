@@ -1,7 +1,7 @@
 -- `row_here` meets its contract.
 use borrow.Author.Needs.{needs}
 use borrow.Author.Tests.{eq-eqb, ne-eqb}
-use Rattle.rows.specs.Orders.{orderRowsFrom}
+use Rattle.annex.specs.Ordering.{orderRowsFrom}
 use Rattle.rows.proofs.opened.row_here.Statement.{statement}
 use Rattle.rows.proofs.opened.row_here.Tie as tie
 

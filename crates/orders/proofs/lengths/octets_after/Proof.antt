@@ -6,8 +6,8 @@ use Rattle.annex.specs.Units.{wholeCount, octetsOf}
 use Rattle.annex.specs.Orders.{orderAfter}
 use Rattle.annex.specs.declared.HalfOctets.{HalfOctets}
 use Rattle.annex.specs.declared.Octets.{Octets}
-use Rattle.orders.proofs.table.octets_after.Statement.{statement}
-use Rattle.orders.proofs.table.octets_after.Tie as tie
+use Rattle.orders.proofs.lengths.octets_after.Statement.{statement}
+use Rattle.orders.proofs.lengths.octets_after.Tie as tie
 
 returns : tie.Need-returns
 unfolding orderAfter

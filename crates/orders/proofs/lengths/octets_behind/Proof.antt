@@ -3,8 +3,8 @@ use mathlib.Core.Path.{ap, _∙_}
 use borrow.Author.Needs.{needs}
 use Rattle.annex.specs.Orders.{orderAfter}
 use Rattle.orders.specs.declared.table.Asked.{Asked}
-use Rattle.orders.proofs.table.octets_behind.Statement.{statement}
-use Rattle.orders.proofs.table.octets_behind.Tie as tie
+use Rattle.orders.proofs.lengths.octets_behind.Statement.{statement}
+use Rattle.orders.proofs.lengths.octets_behind.Tie as tie
 
 returns : tie.Need-returns
 returns c =
