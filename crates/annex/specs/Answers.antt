@@ -119,7 +119,7 @@ abbrev pub offsetOf : Fault → ℕ
 offsetOf Sound = 0
 offsetOf (Bad k i) = i
 
--- faults in their order: 12 where the form is not kept comes before other faults
+-- faults in their order: 12 where the form is not kept, and else another
 abbrev pub formedThen : Bool → Fault → Fault
 formedThen true f = f
 formedThen false f = Bad bad-form 0

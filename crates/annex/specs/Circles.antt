@@ -1,15 +1,17 @@
--- Connection orders, computed: document 02, request b. The whole grid of forms and headers, drawn as the annex draws it; orders and their
--- listings, each refusal on both sides of its limit, edits, records, and the octets for Rust and C, under one statement.
-use Prim.Native.Nat.{ℕ, zero, suc}
+-- Connection orders, computed: document 02, request b. The forms, and the whole grid of forms and headers, drawn as the annex draws them;
+-- then, under one statement, orders and their listings, each refusal on both sides of its limit, edits, records, and the octets for Rust
+-- and C.
+use Prim.Native.Nat.{ℕ, zero, suc, _+_, _*_}
 use mathlib.Core.Path.{_≡_, refl}
 use mathlib.Core.Bool.{Bool, true, false, cond}
 use mathlib.Core.List.{List, [], _∷_, _++_, map}
 use lib.ListN.{length, replicate}
 use Rattle.annex.specs.Units.{afterOf, leadOf, commonExtentOf, extentOf}
-use Rattle.annex.specs.Heads.{nameUsed, pliRight, oftenOf, zeroesOf, formOf}
+use Rattle.annex.specs.Heads.{among, nameUsed, pliRight, oftenOf, zeroesOf, formOf}
 use Rattle.annex.specs.Digits.{halves, isCode, halvesFault, digitsFault, numberFaultIn}
 use Rattle.annex.specs.Rates.{total}
 use Rattle.annex.specs.Orders.{
+  orderForms,
   orderHeaders,
   formsOf,
   layoutOf,
@@ -54,17 +56,19 @@ use Rattle.annex.specs.Packed.{rowsOctets, octetOrder, octetOrderTable}
 use Rattle.annex.specs.Bench.{K}
 use Rattle.annex.specs.declared.Answer.{Answer}
 use Rattle.annex.specs.declared.Answer.the-variants.{Accepted, Refused}
+use Rattle.annex.specs.declared.Fault.{Fault}
+use Rattle.annex.specs.declared.Fault.the-variants.{Bad}
 use Rattle.annex.specs.declared.Row.{Row}
 
 -- ---- the grid
 
--- a line of the annex's table 2.3.2: a header, and under each form a circle or none
+-- a line of the annex's tables: its label, and in each column a circle or none
 record Line : Type 0 where
-  header : ℕ
+  label : ℕ
   circles : List Bool
 
 abbrev line : ℕ → List Bool → Line
-line h cs = record { header = h; circles = cs }
+line l cs = record { label = l; circles = cs }
 
 abbrev o : Bool
 o = true
@@ -72,7 +76,29 @@ o = true
 abbrev ‧ : Bool
 ‧ = false
 
--- the table's headers, D3 too, and a part of it with these forms
+-- the numbers below n
+abbrev upTo : ℕ → List ℕ
+upTo zero = []
+upTo (suc n) = upTo n ++ (n ∷ [])
+
+-- how many of some numbers pass a test
+abbrev howMany : (ℕ → Bool) → List ℕ → ℕ
+howMany test ns = total (map (λ n. cond (test n) 1 0) ns)
+
+-- table 2.3.1: C0 before a line, C1 above it; 43 and 45 stay out
+pub forms-drawn :
+    map (λ c0. line c0 (map (λ c1. among (16 * c0 + c1) orderForms) (upTo 16))) (2 ∷ 3 ∷ 4 ∷ []) ≡
+    --     0   1   2   3   4   5   6   7   8   9   A   B   C   D   E   F
+    line 2 (‧ ∷ o ∷ o ∷ o ∷ o ∷ o ∷ o ∷ o ∷ o ∷ o ∷ ‧ ∷ o ∷ o ∷ o ∷ o ∷ ‧ ∷ []) ∷
+    line 3 (‧ ∷ o ∷ o ∷ o ∷ o ∷ o ∷ o ∷ o ∷ o ∷ o ∷ o ∷ o ∷ o ∷ o ∷ o ∷ o ∷ []) ∷
+    line 4 (‧ ∷ o ∷ o ∷ ‧ ∷ o ∷ ‧ ∷ o ∷ o ∷ ‧ ∷ ‧ ∷ ‧ ∷ ‧ ∷ ‧ ∷ ‧ ∷ ‧ ∷ ‧ ∷ []) ∷ []
+forms-drawn = refl
+
+-- there are no others
+pub no-other-form : howMany (λ f. among f orderForms) (upTo 256) ≡ 33
+no-other-form = refl
+
+-- table 2.3.2: its headers, D3 too, and a part of it with these forms
 abbrev tableHeaders : List ℕ
 tableHeaders = orderHeaders ++ (0xD3 ∷ [])
 
@@ -140,25 +166,20 @@ pub part-three :
 unfolding formsOf
 part-three = refl
 
--- nothing else may stand: of all octets as form and all octets as header there are as many as there are circles
-abbrev upTo : ℕ → List ℕ
-upTo zero = []
-upTo (suc n) = n ∷ upTo n
-
-abbrev standing : ℕ → ℕ
-standing h = total (map (λ f. cond (mayStand f h) 1 0) (upTo 256))
-
-pub no-other : total (map standing (upTo 256)) ≡ 74
+-- no header may stand under another form: of all octets as form and all octets as header there are as many as there are circles
+pub no-other : total (map (λ h. howMany (λ f. mayStand f h) (upTo 256)) (upTo 256)) ≡ 74
 unfolding formsOf
 no-other = refl
 
 -- ---- the cases
 
--- E0's contents in a message, the answer where fourteen rows are lent, and the rows; a message, how many rows are lent, and the answer;
--- E0's contents in a message, how many rows are lent, and what they then are; the same in octets, with the answer; an edit of a message
--- with so much room behind it, and the answer; a record, and the answer to writing it, room aside
+-- E0's contents in a message, the answer where fourteen rows are lent, and the rows; E0's contents, and what is wrong with them; a
+-- message, how many rows are lent, and the answer; E0's contents in a message, how many rows are lent, and what they then are; the same
+-- in octets, with the answer; an edit of a message with so much room behind it, and the answer; a record, and the answer to writing it,
+-- room aside
 pub data Case : Type 0 where
   Opens : List ℕ → Answer → List Row → Case
+  Wrong : List ℕ → Fault → Case
   Asked : List ℕ → ℕ → Answer → Case
   Kept : List ℕ → ℕ → List Row → Case
   Given : List ℕ → List ℕ → Answer → List ℕ → Case
@@ -193,6 +214,7 @@ given = 8 ∷ 0 ∷ 0x23 ∷ 0 ∷ 0 ∷ 9 ∷ 0 ∷ 0x41 ∷ 1 ∷ 0 ∷ []
 
 abbrev asDefined : Case → Case
 asDefined (Opens s a rs) = Opens s (orderAnswer (with s) 14) (orderRowsOf (with s))
+asDefined (Wrong s f) = Wrong s (orderFault s)
 asDefined (Asked m room a) = Asked m room (orderAnswer m room)
 asDefined (Kept s room rs) = Kept s room (orderTable (with s) (replicate room lentRow))
 asDefined (Given s room a now) = Given s room (octetOrder (with s) (length room)) (octetOrderTable (with s) room)
@@ -283,6 +305,7 @@ cases =
     Opens (0x2C ∷ 0xCC ∷ []) (Refused 12 6) [] ∷
     Opens (0x2C ∷ 0xCC ∷ 0x02 ∷ 0x01 ∷ []) (Refused 12 6) [] ∷
     Opens (0x31 ∷ 0xCD ∷ []) (Refused 12 6) [] ∷
+    Opens (0x37 ∷ 0xCE ∷ []) (Refused 12 6) [] ∷
     Opens (0x37 ∷ 0xCE ∷ 0x02 ∷ 0x00 ∷ []) (Refused 12 6) [] ∷
     Opens (0x3D ∷ 0xCF ∷ []) (Refused 12 6) [] ∷
     Opens (0x31 ∷ 0xD2 ∷ 0x30 ∷ 0x31 ∷ []) (Refused 12 6) [] ∷
@@ -301,6 +324,7 @@ cases =
     Opens (0x24 ∷ 0xC9 ∷ 0x03 ∷ 0x00 ∷ 0x04 ∷ 0x31 ∷ []) (Refused 12 6) [] ∷
     Opens (0x22 ∷ 0xCA ∷ 0x03 ∷ 0x00 ∷ 0xFF ∷ 0x31 ∷ []) (Refused 12 6) [] ∷
     Opens (0x31 ∷ 0xCD ∷ 0x02 ∷ 0x00 ∷ 0x00 ∷ []) (Refused 12 6) [] ∷
+    Opens (0x31 ∷ 0xCD ∷ 0x03 ∷ 0x00 ∷ 0x04 ∷ 0x31 ∷ []) (Refused 12 6) [] ∷
     Opens (0x2C ∷ 0xCC ∷ 0x00 ∷ []) (Refused 12 6) [] ∷
     Opens (0x2C ∷ 0xCC ∷ 0x01 ∷ 0x00 ∷ []) (Refused 12 6) [] ∷
     Opens (0x2C ∷ 0xCC ∷ 0x02 ∷ 0x00 ∷ 0x04 ∷ []) (Refused 12 6) [] ∷
@@ -329,6 +353,17 @@ cases =
     -- 12 before 13 in one parameter
     Opens (0x24 ∷ 0xC9 ∷ 0x03 ∷ 0x00 ∷ 0x04 ∷ 0x2F ∷ []) (Refused 12 6) [] ∷
     Opens (0x2E ∷ 0x92 ∷ 0x03 ∷ 0x03 ∷ 0x11 ∷ 0x0A ∷ []) (Refused 12 6) [] ∷
+    -- the offset of a 13: low half, high half, filler, character, behind another parameter; 12 and 19 at 0
+    Wrong (0x21 ∷ 0x91 ∷ 0x02 ∷ 0x10 ∷ []) (Bad 13 3) ∷
+    Wrong (0x21 ∷ 0x91 ∷ 0x03 ∷ 0x11 ∷ 0x0D ∷ []) (Bad 13 4) ∷
+    Wrong (0x21 ∷ 0x91 ∷ 0x03 ∷ 0x11 ∷ 0x11 ∷ []) (Bad 13 4) ∷
+    Wrong (0x2E ∷ 0x92 ∷ 0x04 ∷ 0x03 ∷ 0x10 ∷ 0x21 ∷ 0xA0 ∷ []) (Bad 13 6) ∷
+    Wrong (0x2E ∷ 0x92 ∷ 0x03 ∷ 0x83 ∷ 0x10 ∷ 0x11 ∷ []) (Bad 13 5) ∷
+    Wrong (0x24 ∷ 0xC9 ∷ 0x04 ∷ 0x00 ∷ 0x00 ∷ 0x31 ∷ 0x2F ∷ []) (Bad 13 6) ∷
+    Wrong (0x31 ∷ 0xD2 ∷ 0x30 ∷ 0x3A ∷ 0x30 ∷ []) (Bad 13 3) ∷
+    Wrong (0x31 ∷ 0x41 ∷ 0x01 ∷ 0xD2 ∷ 0x30 ∷ 0x30 ∷ 0x3A ∷ []) (Bad 13 6) ∷
+    Wrong (0x31 ∷ 0x41 ∷ 0x01 ∷ 0xD2 ∷ 0x30 ∷ 0x30 ∷ []) (Bad 12 0) ∷
+    Wrong (0x31 ∷ 0x41 ∷ 0x01 ∷ 0x41 ∷ 0x01 ∷ []) (Bad 19 0) ∷
     -- 16: no E0, and no transfer data; reading's numbers come before it, and 11 before 12; 15 comes last
     Asked (K ++ (0xC5 ∷ 0x02 ∷ 0x41 ∷ 0x01 ∷ 0x00 ∷ [])) 0 (Refused 16 0) ∷
     Asked (K ++ (0x00 ∷ [])) 0 (Refused 16 0) ∷

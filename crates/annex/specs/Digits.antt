@@ -41,7 +41,7 @@ zeroTo Decimal d = d
 unfoldable pub codeOf : Alphabet → ℕ → ℕ
 codeOf z d = cond (eqb d 10) 11 (cond (eqb d 11) 12 (zeroTo z d))
 
--- spare codes: those over the last, and the other code's zero
+-- spare codes: those over the last, and the code that is a zero elsewhere
 abbrev pub lastCode : Alphabet → ℕ
 lastCode Dialled = 12
 lastCode Numbered = 12
@@ -103,6 +103,6 @@ numberFaultIn z at s =
     (formedThen (not (eqb (oddOf s) 1 && eqb (length s) 2))
     (digitsFault z (countOf s) (at + 2) (drop 2 s)))
 
--- in its own
+-- in D7's own code
 abbrev pub numberFault : ℕ → List ℕ → Fault
 numberFault = numberFaultIn Numbered

@@ -41,6 +41,10 @@ unfoldable pub orderListing : ℕ → List ℕ → List Row
 orderListing p [] = []
 orderListing p (form ∷ xs) = formRow p form ∷ map (parameterRow p) (pars orderSize 0 1 xs)
 
+-- the most of them: under no form may more than four headers stand
+abbrev pub most-order-rows : ℕ
+most-order-rows = 5
+
 -- ---- of a message
 
 -- where E0's contents stand

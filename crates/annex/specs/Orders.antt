@@ -1,6 +1,7 @@
 -- Connection orders (E0): document 02, request b, with the annex's sections 2.3.1 to 2.3.7. One table has a row to each parameter: how it
 -- is laid out, and the forms under which it may stand. How many octets a parameter has, what is wrong with an order, what an order may be
--- and its listing follow from it. The headers are of an order alone: CC here is not the transfer parameter CC.
+-- and its listing follow from it. The headers are of an order alone: 41 to 43, 91 and CC to CF are not the transfer parameters
+-- of those numbers.
 use Prim.Native.Nat.{ℕ, zero, suc, _+_, _%_}
 use mathlib.Core.Bool.{Bool, true, false, cond, not, _&&_, _||_}
 use mathlib.Core.List.{List, [], _∷_, _++_, map}
@@ -47,6 +48,7 @@ pub record OrderRow : Type 0 where
 abbrev row : ℕ → OrderLayout → List ℕ → OrderRow
 row h l fs = record { header = h; layout = l; forms = fs }
 
+-- the table, by its headers
 abbrev pub orderRows : List OrderRow
 orderRows =
     -- trunk in the exchange, kind of release, reason of the redirection
@@ -64,7 +66,7 @@ orderRows =
     row 0xCA AreControl (0x22 ∷ 0x25 ∷ 0x26 ∷ 0x33 ∷ 0x35 ∷ []) ∷
     row 0xCB Guidance
     (0x37 ∷ 0x38 ∷ 0x39 ∷ 0x3A ∷ 0x3B ∷ 0x3C ∷ 0x3D ∷ 0x3E ∷ 0x3F ∷ (0x41 ∷ 0x42 ∷ 0x44 ∷ 0x46 ∷ 0x47 ∷ [])) ∷
-    -- ARE logic control on the called side, ARE control when waiting ends, guidance on the called side and when waiting ends
+    -- ARE logic control on the called side, ARE control when waiting times out, guidance on the called side and when waiting times out
     row 0xCC AreLogic (0x2C ∷ 0x34 ∷ []) ∷
     row 0xCD AreControl (0x31 ∷ []) ∷
     row 0xCE Guidance (0x37 ∷ 0x39 ∷ 0x3A ∷ 0x3C ∷ 0x3E ∷ 0x3F ∷ 0x41 ∷ []) ∷
@@ -77,6 +79,7 @@ orderRows =
 abbrev rowHeader : OrderRow → ℕ
 rowHeader r = r .header
 
+-- the headers of the table
 abbrev pub orderHeaders : List ℕ
 orderHeaders = map rowHeader orderRows
 
@@ -85,6 +88,7 @@ abbrev pub rowIn : List OrderRow → ℕ → OrderRow
 rowIn [] h = row h Guidance []
 rowIn (r ∷ rs) h = cond (eqb h (r .header)) r (rowIn rs h)
 
+-- the forms under which a header may stand, and its layout
 unfoldable pub formsOf : ℕ → List ℕ
 formsOf h = rowIn orderRows h .forms
 
@@ -228,5 +232,6 @@ allRight form (p ∷ ps) = parameterRight form p && allRight form ps
 abbrev pub headersIn : List OrderParameter → List ℕ
 headersIn ps = map (λ p. p .header) ps
 
+-- an order that may be: its form is listed, each parameter is right under it, and each header stands once
 unfoldable pub orderRight : OpenedOrder → Bool
 orderRight o = among (o .form) orderForms && (allRight (o .form) (o .parameters) && once (headersIn (o .parameters)))

@@ -222,7 +222,7 @@ pub record Demand2 : Type 0 where
   -- And its connection order is told beside it (document 02, request b). Nothing is wrong with contents of E0 exactly if some order that
   -- the tables allow lays out to them; there is one such order; and each E0 of the record has it.
   pub order-contents : (t : List ℕ) → (faultOf connection-order t ≡ Sound) ↔ ((o : OpenedOrder) × (orderRight o ≡ true) × (layOrder o ≡ t))
-  pub one-order : (o q : OpenedOrder) → orderRight o ≡ true → orderRight q ≡ true → layOrder o ≡ layOrder q → o ≡ q
+  pub order-only : (o q : OpenedOrder) → orderRight o ≡ true → orderRight q ≡ true → layOrder o ≡ layOrder q → o ≡ q
   pub ordered : (s : List Part) → Allowed s → (front : List Item) (one : Item) (back : List Item) → itemsIn s ≡ front ++ (one ∷ back)
       → one .header ≡ connection-order → (o : OpenedOrder) × (orderRight o ≡ true) × (layOrder o ≡ one .values)
   -- The listing tells the order of the first E0, whose contents start where finding says: a row to its form and one to each of its

@@ -470,7 +470,7 @@ demand-2 =
           charged-first s a front one back w h b r p ∙ ap (λ t. chargings.Is (chargesOf t)) e ∙ ap chargings.Is (said-again x l c k .1);
       charging-there = charging-so;
       order-contents = λ t. rw (order-asked t) (says t .sound);
-      one-order = λ o q r t e. sym (says (layOrder q) .only o r e) ∙ says (layOrder q) .only q t refl;
+      order-only = λ o q r t e. sym (says (layOrder q) .only o r e) ∙ says (layOrder q) .only q t refl;
       ordered = λ s a front one back w h.
           let i = item-allowed s a front one back w in
           says (one .values) .sound .0 (item-ordered one i h .1);

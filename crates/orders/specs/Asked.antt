@@ -27,11 +27,11 @@ abbrev pub placeIn : ℕ → ℕ → List ℕ → ℕ
 placeIn at h [] = 0
 placeIn at h (x ∷ xs) = cond (eqb h x) at (placeIn (at + 1) h xs)
 
-abbrev pub placeOf : ℕ → ℕ
-placeOf h = placeIn 0 h orderHeaders
+abbrev pub rowPlace : ℕ → ℕ
+rowPlace h = placeIn 0 h orderHeaders
 
 abbrev pub askedOf : ℕ → Asked
-askedOf h = asking (placeOf h) (layoutOf h) (bitsOf (formsOf h))
+askedOf h = asking (rowPlace h) (layoutOf h) (bitsOf (formsOf h))
 
 -- ---- a bit tells what the definitions say
 

@@ -31,7 +31,7 @@ use Rattle.laws.specs.Faults.{then-sound}
 use Rattle.laws.specs.Members.{among-every}
 use Rattle.laws.specs.Orders.{after-some, parameters-skip, stands-listed}
 use Rattle.laws.specs.Parts.{from-to, octet-next}
-use Rattle.orders.specs.Asked.{placeOf}
+use Rattle.orders.specs.Asked.{rowPlace}
 
 -- ---- the octets of a header
 
@@ -100,39 +100,39 @@ listed-octet : (h : ℕ) → among h orderHeaders ≡ true → h < 256
 listed-octet h e = ltb-true h 256 (among-every (λ k. ltb k 256) orderHeaders refl h e)
 
 -- the places are those of an array of thirteen, and tell the header
-pub place-below : (h : ℕ) → h < 256 → placeOf h < 13
-place-below h l = ltb-true _ _ (same-below (λ k. ltb (placeOf k) 13) (λ k. true) 256 refl h l)
+pub place-below : (h : ℕ) → h < 256 → rowPlace h < 13
+place-below h l = ltb-true _ _ (same-below (λ k. ltb (rowPlace k) 13) (λ k. true) 256 refl h l)
 
-place-back : (h : ℕ) → among h orderHeaders ≡ true → getD orderHeaders (placeOf h) 0 ≡ h
+place-back : (h : ℕ) → among h orderHeaders ≡ true → getD orderHeaders (rowPlace h) 0 ≡ h
 place-back h e =
-    rw e at (same-below (λ k. cond (among k orderHeaders) (getD orderHeaders (placeOf k) 0) k) (λ k. k) 256 refl h (listed-octet h e))
+    rw e at (same-below (λ k. cond (among k orderHeaders) (getD orderHeaders (rowPlace k) 0) k) (λ k. k) 256 refl h (listed-octet h e))
 
 -- ---- the marks of the headers that have stood
 
-pub record Marks (seen : List Bool) (before : List ℕ) : Type 0 where
+pub record Stood (seen : List Bool) (before : List ℕ) : Type 0 where
   pub long : length seen ≡ 13
-  pub told : (h : ℕ) → among h orderHeaders ≡ true → getD seen (placeOf h) false ≡ among h before
+  pub told : (h : ℕ) → among h orderHeaders ≡ true → getD seen (rowPlace h) false ≡ among h before
 
 none-marked : (n i : ℕ) → getD (replicate n false) i false ≡ false
 none-marked zero i = refl
 none-marked (suc n) zero = refl
 none-marked (suc n) (suc i) = none-marked n i
 
-marks-none : Marks (replicate 13 false) []
-marks-none = record { long = refl; told = λ h e. none-marked 13 (placeOf h) }
+marks-none : Stood (replicate 13 false) []
+marks-none = record { long = refl; told = λ h e. none-marked 13 (rowPlace h) }
 
 -- one more
-marks-more : (seen : List Bool) (before : List ℕ) (h : ℕ) → among h orderHeaders ≡ true → Marks seen before
-    → Marks (set seen (placeOf h) true) (h ∷ before)
+marks-more : (seen : List Bool) (before : List ℕ) (h : ℕ) → among h orderHeaders ≡ true → Stood seen before
+    → Stood (set seen (rowPlace h) true) (h ∷ before)
 marks-more seen before h e m =
-    record { long = length-set seen (placeOf h) true ∙ m .long; told = λ k f. go k f (eqb k h) refl }
+    record { long = length-set seen (rowPlace h) true ∙ m .long; told = λ k f. go k f (eqb k h) refl }
   where
     go : (k : ℕ) → among k orderHeaders ≡ true → (b : Bool) → eqb k h ≡ b
-        → getD (set seen (placeOf h) true) (placeOf k) false ≡ b || among k before
+        → getD (set seen (rowPlace h) true) (rowPlace k) false ≡ b || among k before
     go k f true g =
-        rw (eqb-true k h g) (getD-set-same seen (placeOf h) true false (omega (arith, place-below h (listed-octet h e), m .long)))
+        rw (eqb-true k h g) (getD-set-same seen (rowPlace h) true false (omega (arith, place-below h (listed-octet h e), m .long)))
     go k f false g =
-        getD-set-other seen (placeOf h) (placeOf k) true false
+        getD-set-other seen (rowPlace h) (rowPlace k) true false
         (λ p. eqb-false k h g (sym (place-back k f) ∙ (ap (λ (i : ℕ). getD orderHeaders i 0) p ∙ place-back h e)))
         ∙ m .told k f
 
@@ -142,7 +142,7 @@ marks-more seen before h e m =
 pub record Going (s : List ℕ) (seen : List Bool) (at : ℕ) : Type 0 where
   pub before : List ℕ
   pub left : orderFault s ≡ leftFault (getD s 0 0) before at s
-  pub marks : Marks seen before
+  pub marks : Stood seen before
 
 pub no-form : (s : List ℕ) → length s ≡ 0 → orderFault s ≡ Bad bad-form 0
 unfolding orderFault
@@ -184,18 +184,18 @@ module _ (s : List ℕ) (seen : List Bool) (at : ℕ) (g : Going s seen at) (l :
     listed : among h orderHeaders ≡ true
     listed = stands-listed form h e
 
-    pub stood : getD seen (placeOf h) false ≡ true → orderFault s ≡ Bad wrong-order 0
+    pub stood : getD seen (rowPlace h) false ≡ true → orderFault s ≡ Bad wrong-order 0
     stood f = here ∙ rw (e, sym (g .marks .told h listed) ∙ f)
 
-    stands : getD seen (placeOf h) false ≡ false
+    stands : getD seen (rowPlace h) false ≡ false
         → orderFault s ≡ faultThen (ownFault (layoutOf h) (at + 1) (drop (at + 1) s)) (leftFault form (h ∷ g .before) behind s)
     stands f = here ∙ rw (e, sym (g .marks .told h listed) ∙ f)
 
-    pub own-bad : getD seen (placeOf h) false ≡ false → (k i : ℕ) → ownFault (layoutOf h) (at + 1) (drop (at + 1) s) ≡ Bad k i
+    pub own-bad : getD seen (rowPlace h) false ≡ false → (k i : ℕ) → ownFault (layoutOf h) (at + 1) (drop (at + 1) s) ≡ Bad k i
         → orderFault s ≡ Bad k i
     own-bad f k i w = stands f ∙ rw w
 
-    pub going-on : getD seen (placeOf h) false ≡ false → ownFault (layoutOf h) (at + 1) (drop (at + 1) s) ≡ Sound
-        → Going s (set seen (placeOf h) true) behind
+    pub going-on : getD seen (rowPlace h) false ≡ false → ownFault (layoutOf h) (at + 1) (drop (at + 1) s) ≡ Sound
+        → Going s (set seen (rowPlace h) true) behind
     going-on f w =
         record { before = h ∷ g .before; left = stands f ∙ rw w; marks = marks-more seen (g .before) h listed (g .marks) }

@@ -1,5 +1,5 @@
 // What is wrong with the contents of E0: the form first, then each parameter from left to right.
-use crate::lengths::octets_after;
+use crate::lengths::order_after;
 use crate::table::asked_of;
 use crate::table::has_form;
 use crate::table::is_form;
@@ -91,7 +91,7 @@ fn layout_fault(layout: OrderLayout, s: &[u8], at: usize) -> Fault
 fn own_fault(layout: OrderLayout, s: &[u8], at: usize) -> Fault
     ensures { λ r. ⌜ r ≡ ownFault layout at (drop at (now (s .entry))) ⌝ }
 {
-    let n = octets_after(layout, octet_at(s, at));
+    let n = order_after(layout, octet_at(s, at));
     if !lies_within(s.len(), at, n) {
         return Fault::Bad(Answer::BAD_FORM, 0);
     }
@@ -128,7 +128,7 @@ pub fn order_fault(s: &[u8]) -> Fault
             return f;
         };
         seen[place] = true;
-        at += octets_after(layout, octet_at(s, at));
+        at += order_after(layout, octet_at(s, at));
     }
     Fault::Sound
 }

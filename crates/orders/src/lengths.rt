@@ -7,7 +7,7 @@ ghost use Rattle.annex.specs.Orders.{orderAfter, layoutOf};
 
 // How many octets behind a header of this layout are its own; first is the octet right after it, or 0. The count of 91 is in half-octets,
 // every other in octets.
-pub fn octets_after(layout: OrderLayout, first: u8) -> usize
+pub fn order_after(layout: OrderLayout, first: u8) -> usize
     ensures { λ r. ⌜ Gives (orderAfter layout first) r ⌝ }
 {
     match layout {
@@ -28,10 +28,10 @@ pub fn octets_after(layout: OrderLayout, first: u8) -> usize
 }
 
 // The same of a header.
-pub fn octets_behind(header: u8, first: u8) -> usize
+pub fn order_size(header: u8, first: u8) -> usize
     ensures { λ r. ⌜ Gives (orderAfter (layoutOf header) first) r ⌝ }
 {
     let asked = asked_of(header);
     let layout = asked.layout;
-    octets_after(layout, first)
+    order_after(layout, first)
 }

@@ -37,21 +37,10 @@ use Rattle.annex.specs.declared.Cursor.{Cursor}
 use Rattle.annex.specs.declared.Found.{Found}
 use Rattle.annex.specs.declared.Found.the-variants.{At, Nowhere}
 use Rattle.annex.specs.declared.Key.the-variants.{Name}
-use Rattle.annex.specs.declared.OrderLayout.{OrderLayout}
-use Rattle.annex.specs.declared.OrderLayout.the-variants.{
-  TrunkKind,
-  ReleaseKind,
-  RedirectReason,
-  SentDigits,
-  ForwardNumber,
-  AreControl,
-  AreLogic,
-  Guidance,
-  WaitingTime,
-}
 use Rattle.annex.specs.declared.Row.{Row}
 use Rattle.laws.specs.Finding.{Inside, plain-inside, transfer-plain}
 use Rattle.laws.specs.Listed.{rowsAfter}
+use Rattle.laws.specs.Orders.{after-some}
 use Rattle.laws.specs.Parts.{from-to}
 use Rattle.laws.specs.Plain.{pars-skip, pars-moved}
 use Rattle.laws.specs.Rows.{Accepts}
@@ -98,22 +87,9 @@ module _ (p : ℕ) (xs : List ℕ) (some : takenOf xs ≡ 0 → ⊥) where
       ≡ record { offset = p; header = getD xs 0 0; len = takenOf xs - 1 } ∷ parameterRows (p + takenOf xs) (drop (takenOf xs) xs)
   rows-more = counted (takenOf xs) (known p xs) some .1
 
--- no parameter has fewer than two octets
-after-some : (l : OrderLayout) (x : ℕ) → 1 ≤ orderAfter l x
-unfolding orderAfter
-after-some TrunkKind x = omega arith
-after-some ReleaseKind x = omega arith
-after-some RedirectReason x = omega arith
-after-some SentDigits x = omega arith
-after-some ForwardNumber x = omega arith
-after-some AreControl x = omega arith
-after-some AreLogic x = omega arith
-after-some Guidance x = omega arith
-after-some WaitingTime x = omega arith
-
 -- what the first two octets tell: how many octets behind the header are its own
-abbrev pub ownOf : List ℕ → ℕ
-ownOf xs = orderAfter (layoutOf (getD xs 0 0)) (getD xs 1 0)
+abbrev pub sizeAhead : List ℕ → ℕ
+sizeAhead xs = orderAfter (layoutOf (getD xs 0 0)) (getD xs 1 0)
 
 -- it is not there, is cut, or is whole
 pub taken-short : (xs : List ℕ) → length xs < 2 → takenOf xs ≡ 0
@@ -123,12 +99,12 @@ taken-short (x ∷ xs) h =
     let a = after-some (layoutOf x) (getD xs 0 0) in
     rw (lt-leb (orderSize x xs) (length xs) (omega arith))
 
-pub taken-cut : (xs : List ℕ) → length xs - 1 < ownOf xs → takenOf xs ≡ 0
+pub taken-cut : (xs : List ℕ) → length xs - 1 < sizeAhead xs → takenOf xs ≡ 0
 unfolding takenOf
 taken-cut [] h = refl
 taken-cut (x ∷ xs) h = rw (lt-leb (orderSize x xs) (length xs) (omega arith))
 
-pub taken-whole : (xs : List ℕ) → 2 ≤ length xs → ownOf xs ≤ length xs - 1 → takenOf xs ≡ ownOf xs + 1
+pub taken-whole : (xs : List ℕ) → 2 ≤ length xs → sizeAhead xs ≤ length xs - 1 → takenOf xs ≡ sizeAhead xs + 1
 unfolding takenOf
 taken-whole [] l h = absurd (omega arith)
 taken-whole (x ∷ xs) l h = rw (le-leb (orderSize x xs) (length xs) (omega arith), add-one)
@@ -291,9 +267,9 @@ rows-long m = listing-long (startOf (orderFound m)) (findPart m (orderFound m))
 abbrev pub orderListed : List ℕ → List Row
 orderListed m = rowsAfter (findAnswer m (orderFound m)) (orderRowsOf m)
 
-pub order-told : (m : List ℕ) (k : ℕ) → k < length (orderListed m)
+pub row-told : (m : List ℕ) (k : ℕ) → k < length (orderListed m)
     → orderRowHere m (cursorAt (orderNext m) k) ≡ getD (orderListed m) k noRow
-order-told m k h = go (findAnswer m (orderFound m)) refl h
+row-told m k h = go (findAnswer m (orderFound m)) refl h
   where
     go : (a : Answer) → findAnswer m (orderFound m) ≡ a → k < length (rowsAfter a (orderRowsOf m))
         → orderRowHere m (cursorAt (orderNext m) k) ≡ getD (rowsAfter a (orderRowsOf m)) k noRow
@@ -316,7 +292,7 @@ orderSource = record {
   table = orderTable;
   row = orderRowHere;
   next = orderNext;
-  told = order-told;
+  told = row-told;
   within = order-within;
   whole = order-whole;
 }

@@ -6,7 +6,7 @@ use annex::Found;
 use annex::Key;
 use annex::Row;
 use annex::Transfer;
-use orders::lengths::octets_behind;
+use orders::lengths::order_size;
 use reader::finding::find_both;
 use reader::finding::transfer_by_length;
 ghost use mathlib.Core.Path.{_≡_};
@@ -39,7 +39,7 @@ fn taken(rest: &[u8]) -> usize
     if len < 2 {
         return 0;
     }
-    let n = octets_behind(rest[0], rest[1]);
+    let n = order_size(rest[0], rest[1]);
     if len - 1 < n {
         return 0;
     }

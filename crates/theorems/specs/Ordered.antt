@@ -45,7 +45,17 @@ use Rattle.annex.specs.Walk.{pars}
 use Rattle.annex.specs.Walking.{noRow}
 use Rattle.annex.specs.Reading.{verdictOf, recordOf}
 use Rattle.annex.specs.Finding.{findAnswer, findPart}
-use Rattle.annex.specs.Opened.{openedOrder, formRow, parameterRow, orderListing, orderFound, orderRowsOf, orderAnswer, parameterOf}
+use Rattle.annex.specs.Opened.{
+  openedOrder,
+  formRow,
+  parameterRow,
+  orderListing,
+  orderFound,
+  orderRowsOf,
+  orderAnswer,
+  parameterOf,
+  most-order-rows,
+}
 use Rattle.annex.specs.declared.Answer.{Answer}
 use Rattle.annex.specs.declared.Answer.the-variants.{Accepted, Refused}
 use Rattle.annex.specs.declared.Check.the-variants.{Order}
@@ -495,19 +505,20 @@ rows-add-up m o room n e =
     }
 
 -- at most five: the form's, and one to each parameter
-listed-few : (m : List ℕ) → every isOctet m ≡ true → (k : ℕ) → findAnswer m (orderFound m) ≡ Accepted k → length (orderRowsOf m) ≤ 5
+listed-few : (m : List ℕ) → every isOctet m ≡ true → (k : ℕ) → findAnswer m (orderFound m) ≡ Accepted k
+    → length (orderRowsOf m) ≤ most-order-rows
 listed-few m o k e =
     let t = said-there m o k e in
     rw (t .rows) (omega (arith, order-counted (startOf (orderFound m)) (orderIn m), parameters-few (orderIn m) (t .right)))
 
 -- so the answer tells no more
-pub order-rows-few : (m : List ℕ) → every isOctet m ≡ true → (room n : ℕ) → orderAnswer m room ≡ Accepted n → n ≤ 5
+pub order-rows-few : (m : List ℕ) → every isOctet m ≡ true → (room n : ℕ) → orderAnswer m room ≡ Accepted n → n ≤ most-order-rows
 order-rows-few m o room n e =
     let g = order-given m room n e in
     omega (arith, listed-few m o (g .0) (g .1))
 
 -- and with room for five it is never 15: where E0 is found, it is the row count
-pub order-roomy : (m : List ℕ) → every isOctet m ≡ true → (room : ℕ) → 5 ≤ room
+pub order-roomy : (m : List ℕ) → every isOctet m ≡ true → (room : ℕ) → most-order-rows ≤ room
     → orderAnswer m room ≡ andThen (findAnswer m (orderFound m)) (λ _. Accepted (length (orderRowsOf m)))
 unfolding orderAnswer
 order-roomy m o room l = go (findAnswer m (orderFound m)) refl

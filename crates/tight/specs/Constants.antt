@@ -291,8 +291,8 @@ rows =
     faults (chargingFault (0x00 ∷ 0x05 ∷ 0x12 ∷ 0x31 ∷ [])) (chargingFault (0x00 ∷ 0x05 ∷ 0x12 ∷ 0x32 ∷ [])) ∷  -- charging_fault
     gives Charges (λ c. c .mbi) (chargesOf (0x00 ∷ 0x05 ∷ 0x12 ∷ 0x31 ∷ [])) (chargesOf (0x00 ∷ 0x05 ∷ 0x21 ∷ 0x31 ∷ [])) ∷  -- charges
     gives HalfOctets (λ n. n .0) (wholeCount 0x42) (wholeCount 0x02) ∷  -- HalfOctets::counted_whole
-    counts (orderAfter SentDigits 2) (orderAfter SentDigits 3) ∷  -- octets_after
-    counts (orderAfter (layoutOf 0x91) 4) (orderAfter (layoutOf 0xCB) 4) ∷  -- octets_behind
+    counts (orderAfter SentDigits 2) (orderAfter SentDigits 3) ∷  -- order_after
+    counts (orderAfter (layoutOf 0x91) 4) (orderAfter (layoutOf 0xCB) 4) ∷  -- order_size
     faults (orderFault (0x28 ∷ 0x42 ∷ 0x01 ∷ 0x00 ∷ [])) (orderFault (0x29 ∷ 0x42 ∷ 0x01 ∷ 0x00 ∷ [])) ∷  -- order_fault, form
     faults (orderFault (0x37 ∷ 0xCB ∷ 0x00 ∷ [])) (orderFault (0x37 ∷ 0xCB ∷ 0x01 ∷ [])) ∷  -- order_fault, length
     faults (formed true) (formed false) ∷  -- Fault::formed

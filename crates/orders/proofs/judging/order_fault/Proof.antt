@@ -12,7 +12,7 @@ use lib.ListN.{length, getD, set, drop}
 use Rattle.annex.specs.Answers.{wrong-order}
 use Rattle.annex.specs.Orders.{layoutOf, mayStand, orderAfter, ownFault, orderFault}
 use Rattle.annex.specs.declared.Fault.the-variants.{Sound, Bad}
-use Rattle.orders.specs.Asked.{hasBit, placeOf, stand-bits}
+use Rattle.orders.specs.Asked.{hasBit, rowPlace, stand-bits}
 use Rattle.orders.specs.declared.table.Asked.{Asked}
 use Rattle.orders.specs.Walked.{
   own-there,
@@ -87,7 +87,7 @@ returns-3 c =
 -- where the header's mark is
 place : (c : tie.After-asked-of Inv-loop μ-loop) →
     let l = c .before .before .before in
-    c .asked-of .result .place ≡ placeOf (getD (now (l .before .before .before .before .before .before .args .s)) (l .loop .at) 0)
+    c .asked-of .result .place ≡ rowPlace (getD (now (l .before .before .before .before .before .before .args .s)) (l .loop .at) 0)
 place c = ap (λ (r : Asked). r .place) (c .asked-of .ensures)
 
 marked : (c : tie.After-asked-of Inv-loop μ-loop) → c .asked-of .result .place < 13
@@ -116,7 +116,7 @@ module _ (c : tie.Else3 Inv-loop μ-loop) where
   stand : mayStand (getD s 0 0) (getD s at 0) ≡ true
   stand = sym (may (c .before)) ∙ not-false (c .before .has-form .result) (c .if3 .left)
 
-  mark : (b : Bool) → getD seen (asked .asked-of .result .place) false ≡ b → getD seen (placeOf (getD s at 0)) false ≡ b
+  mark : (b : Bool) → getD seen (asked .asked-of .result .place) false ≡ b → getD seen (rowPlace (getD s at 0)) false ≡ b
   mark b e = ap (λ (i : ℕ). getD seen i false) (sym (place asked)) ∙ e
 
   twice : getD seen (asked .asked-of .result .place) false ≡ true → orderFault s ≡ Bad wrong-order 0
@@ -130,7 +130,7 @@ module _ (c : tie.After-own-fault Inv-loop μ-loop) where
   abbrev third : tie.Else3 Inv-loop μ-loop
   third = c .before .before
 
-  first : getD (seen third) (placeOf (getD (s third) (at third) 0)) false ≡ false
+  first : getD (seen third) (rowPlace (getD (s third) (at third) 0)) false ≡ false
   first = mark third false (c .before .if4 .left)
 
   owned : c .own-fault .result ≡ ownFault (layoutOf (getD (s third) (at third) 0)) (at third + 1) (drop (at third + 1) (s third))
@@ -149,7 +149,7 @@ module _ (c : tie.After-own-fault Inv-loop μ-loop) where
   behind = at third + 1 + orderAfter (layoutOf (getD (s third) (at third) 0)) (getD (s third) (at third + 1) 0)
 
   sound : c .own-fault .result ≡ Sound
-      → Going (s third) (set (seen third) (placeOf (getD (s third) (at third) 0)) true) behind × (behind ≤ length (s third))
+      → Going (s third) (set (seen third) (rowPlace (getD (s third) (at third) 0)) true) behind × (behind ≤ length (s third))
   sound e =
       let l = inside third in (
         going-on (s third) (seen third) (at third) (l .before .loop .inv) (l .loop-test .taken) (octet (asked third) .0) (stand third)
@@ -164,22 +164,22 @@ array-write-seen : tie.Need-array-write-seen Inv-loop μ-loop
 array-write-seen c = marked (asked (third (c .before .before)))
 
 -- the offset behind them
-next : (c : tie.After-octets-after Inv-loop μ-loop) →
+next : (c : tie.After-order-after Inv-loop μ-loop) →
     let o = c .before .before .before .before in
-    at (third o) + 1 + c .octets-after .result ≡ behind o
+    at (third o) + 1 + c .order-after .result ≡ behind o
 next c =
     let x = c .before in
     let o = x .before .before .before in
     let t = third o in
     let first = getD (s t) (at t + 1) 0 in
     ap (λ (n : ℕ). at t + 1 + n)
-    (c .octets-after .ensures
+    (c .order-after .ensures
     ∙ ap (orderAfter (asked t .asked-of .result .layout)) (x .octet-at .ensures)
     ∙ ap (λ (r : Asked). orderAfter (r .layout) first) (asked t .asked-of .ensures))
 
-whole : (c : tie.After-octets-after Inv-loop μ-loop) →
+whole : (c : tie.After-order-after Inv-loop μ-loop) →
     let o = c .before .before .before .before in
-    Going (s (third o)) (set (seen (third o)) (placeOf (getD (s (third o)) (at (third o)) 0)) true) (behind o)
+    Going (s (third o)) (set (seen (third o)) (rowPlace (getD (s (third o)) (at (third o)) 0)) true) (behind o)
     × (behind o ≤ length (s (third o)))
 whole c = let t = c .before .before in sound (t .before .before) (t .enum-told .given .1)
 
@@ -194,9 +194,9 @@ loop-less c =
 loop-again : tie.Need-loop-again Inv-loop μ-loop
 loop-again c =
     let t = third (c .before .before .before .before) in
-    let n = at t + 1 + c .octets-after .result in
+    let n = at t + 1 + c .order-after .result in
     subst (λ (i : ℕ). Going (s t) (set (seen t) i true) n) (sym (place (asked t)))
-    (subst (λ (k : ℕ). Going (s t) (set (seen t) (placeOf (getD (s t) (at t) 0)) true) k) (sym (next c)) (whole c .0))
+    (subst (λ (k : ℕ). Going (s t) (set (seen t) (rowPlace (getD (s t) (at t) 0)) true) k) (sym (next c)) (whole c .0))
 
 returns-6 : tie.Need-returns-6 Inv-loop μ-loop
 returns-6 c =

@@ -14,16 +14,16 @@ use Rattle.orders.proofs.judging.own_fault.Statement.{statement}
 use Rattle.orders.proofs.judging.own_fault.Tie as tie
 
 -- how many they are
-own : (c : tie.After-octets-after) →
+own : (c : tie.After-order-after) →
     let a = c .before .before .before .args in
-    c .octets-after .result ≡ orderAfter (a .layout) (getD (now (a .s)) (a .at) 0)
-own c = let o = c .before in c .octets-after .ensures ∙ ap (orderAfter (o .before .before .args .layout)) (o .octet-at .ensures)
+    c .order-after .result ≡ orderAfter (a .layout) (getD (now (a .s)) (a .at) 0)
+own c = let o = c .before in c .order-after .ensures ∙ ap (orderAfter (o .before .before .args .layout)) (o .octet-at .ensures)
 
 -- they are there
 there : (c : tie.Else1) →
     let n = c .before .before in
     let a = n .before .before .before .args in
-    a .at + n .octets-after .result ≤ length (now (a .s))
+    a .at + n .order-after .result ≤ length (now (a .s))
 there c = leb-true _ _ (sym (c .before .lies-within .ensures) ∙ not-false _ (c .if1 .left))
 
 returns : tie.Need-returns
@@ -32,7 +32,7 @@ returns c =
     let n = w .before in
     let a = n .before .before .before .args in
     sym
-    (own-so (a .layout) (now (a .s)) (a .at) (n .octets-after .result) (own n)
+    (own-so (a .layout) (now (a .s)) (a .at) (n .order-after .result) (own n)
     ∙ rw (sym (w .lies-within .ensures) ∙ not-true _ (c .if1 .taken)))
 
 add-end : tie.Need-add-end
@@ -43,7 +43,7 @@ slice-aggregate-layout-fault c =
     let e = c .before in
     let n = e .before .before in
     let a = n .before .before .before .args in
-    sym (length-take-le (a .at + n .octets-after .result) (now (a .s)) (there e))
+    sym (length-take-le (a .at + n .order-after .result) (now (a .s)) (there e))
 
 -- one of them at least
 layout-fault-requires : tie.Need-layout-fault-requires
@@ -55,7 +55,7 @@ layout-fault-requires c κs =
       arith,
       own n,
       after-some (a .layout) (getD (now (a .s)) (a .at) 0),
-      length-take-le (a .at + n .octets-after .result) (now (a .s)) (there e),
+      length-take-le (a .at + n .order-after .result) (now (a .s)) (there e),
     )
 
 returns-2 : tie.Need-returns-2
@@ -65,7 +65,7 @@ returns-2 c =
     let a = n .before .before .before .args in
     c .layout-fault .ensures
     ∙ sym
-    (own-so (a .layout) (now (a .s)) (a .at) (n .octets-after .result) (own n)
+    (own-so (a .layout) (now (a .s)) (a .at) (n .order-after .result) (own n)
     ∙ rw (le-leb _ _ (there e)))
 
 pub own-fault-spec : {M : Type 1} → statement M

@@ -12,12 +12,12 @@ returns : tie.Need-returns
 returns c = sym (taken-short _ (c .if1 .taken))
 
 returns-2 : tie.Need-returns-2
-returns-2 c = sym (taken-cut _ (omega (arith, c .before .octets-behind .ensures, c .if2 .taken)))
+returns-2 c = sym (taken-cut _ (omega (arith, c .before .order-size .ensures, c .if2 .taken)))
 
 returns-3 : tie.Need-returns-3
 returns-3 c =
     let b = c .before in
-    let e = b .octets-behind .ensures in
+    let e = b .order-size .ensures in
     let s = b .before .before .before in
     let xs = now (s .before .before .args .rest) in
     ap (λ k. k + 1) e ∙ sym (taken-whole xs (omega (arith, s .if1 .left)) (omega (arith, e, c .if2 .left)))

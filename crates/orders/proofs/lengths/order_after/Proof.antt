@@ -1,4 +1,4 @@
--- `octets_after` meets its contract: each arm is a case of the definition, and the digits of 91 are counted in half-octets.
+-- `order_after` meets its contract: each arm is a case of the definition, and the digits of 91 are counted in half-octets.
 use native.Mathlib.Omega.{arith}
 use mathlib.Core.Path.{_≡_, ap, _∙_}
 use borrow.Author.Needs.{needs}
@@ -6,8 +6,8 @@ use Rattle.annex.specs.Units.{wholeCount, octetsOf}
 use Rattle.annex.specs.Orders.{orderAfter}
 use Rattle.annex.specs.declared.HalfOctets.{HalfOctets}
 use Rattle.annex.specs.declared.Octets.{Octets}
-use Rattle.orders.proofs.lengths.octets_after.Statement.{statement}
-use Rattle.orders.proofs.lengths.octets_after.Tie as tie
+use Rattle.orders.proofs.lengths.order_after.Statement.{statement}
+use Rattle.orders.proofs.lengths.order_after.Tie as tie
 
 returns : tie.Need-returns
 unfolding orderAfter
@@ -59,8 +59,8 @@ returns-4 c =
     let e = counts o in
     rw (o .before .before .enum-told4 .given .1) (omega (arith, e .0, e .1))
 
-pub octets-after-spec : {M : Type 1} → statement M
-octets-after-spec =
+pub order-after-spec : {M : Type 1} → statement M
+order-after-spec =
     tie.close
     (tie.spec
     (λ c. search needs)
