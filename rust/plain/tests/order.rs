@@ -1,16 +1,12 @@
 //! The connection order in messages, records and edits.
 
+mod opened;
 mod support;
 
-use plain::{append, find_transfer, order, order_spans, replace, write, Refusal, Row};
-use support::{octets, record, transfer, M};
-
-/// K with this connection order, and its end mark.
-fn message(order: &str) -> Vec<u8> {
-    let parameter = octets(order);
-    let head = [0x01, 0x01, 0x06, 0x11, 0xC5, parameter.len() as u8];
-    [&head, &parameter[..], &[0x00]].concat()
-}
+use opened::{edits_refuse_at_0, message, written};
+use plain::transfer::ORDER;
+use plain::{find_transfer, order, order_spans, Refusal, Row};
+use support::{octets, M};
 
 /// Digits, a trunk and characters, sound; and with faults of its own, by number.
 const SOUND: &str = "E0 0C 2B 91 03 21 0A 41 05 C9 03 11 02 03";
@@ -85,38 +81,14 @@ fn read_with_the_place_of_the_header() {
 
 #[test]
 fn written_by_the_same_rule() {
-    let written = |contents: &[u8]| {
-        let common = [(0x01, 1), (0x06, 0x11), (0xC5, 0)];
-        let mut room = [0; 272];
-        let len = write(&record(&common, &[(transfer(0xE0), contents)]), &mut room)?;
-        Ok(room[..len].to_vec())
-    };
-    assert_eq!(written(&octets(SOUND)[2..]), Ok(message(SOUND)));
+    assert_eq!(written(ORDER, &octets(SOUND)[2..]), Ok(message(SOUND)));
     for (parameter, number) in FAULTY.into_iter().filter(|(_, number)| *number != 11) {
         let refused = Err(Refusal::new(number, 6));
-        assert_eq!(written(&octets(parameter)[2..]), refused);
+        assert_eq!(written(ORDER, &octets(parameter)[2..]), refused);
     }
 }
 
-/// K with this parameter before a CC that fills the transfer data up.
-fn full(parameter: &str) -> Vec<u8> {
-    let parameter = octets(parameter);
-    let left = 255 - parameter.len() - 2;
-    let head = octets("01 01 06 11 C5 FF");
-    let carried = [&[0xCC, left as u8], &vec![0x00; left][..]].concat();
-    [&head, &parameter, &carried, &[0x00][..]].concat()
-}
-
-/// 14 comes behind all of them: the new parameter has no room in the transfer
-/// data.
 #[test]
 fn edits_refuse_it_at_0() {
-    let faults = FAULTY.into_iter().chain([(SOUND, 14)]);
-    for (new, number) in faults {
-        let refused = Err(Refusal::new(number, 0));
-        let (mut without, mut with) = (full(""), full("E0 01 28"));
-        let n = without.len();
-        assert_eq!(append(&mut without, n, &octets(new)), refused);
-        assert_eq!(replace(&mut with, n, &octets(new)), refused);
-    }
+    edits_refuse_at_0(&FAULTY, SOUND, "E0 01 28");
 }
