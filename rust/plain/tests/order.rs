@@ -6,7 +6,8 @@ mod support;
 use opened::{edits_refuse_at_0, message, written};
 use plain::transfer::ORDER;
 use plain::{find_transfer, order, order_spans, Refusal, Row};
-use support::{octets, M};
+use std::collections::BTreeMap;
+use support::{octets, vectors, M};
 
 /// Digits, a trunk and characters, sound; and with faults of its own, by number.
 const SOUND: &str = "E0 0C 2B 91 03 21 0A 41 05 C9 03 11 02 03";
@@ -42,6 +43,38 @@ fn form_and_parameters_as_rows() {
     let total: usize = rows.iter().map(|row| 1 + usize::from(row.len)).sum();
     assert_eq!(find_transfer(&sound, 0x20), Ok(8..8 + total));
     assert_eq!(order(&message("E0 01 28")), Ok(vec![row(8, 0x28, 0)]));
+}
+
+/// The parameters of the orders in the vectors' messages, by form and header.
+fn in_vectors() -> BTreeMap<(u8, u8), Vec<u8>> {
+    let mut parameters = BTreeMap::new();
+    for line in vectors("messages.txt") {
+        let message = octets(&line[0]);
+        let rows = order(&message).unwrap_or_default();
+        for row in rows.iter().skip(1) {
+            let start = usize::from(row.offset);
+            let parameter = &message[start..=start + usize::from(row.len)];
+            parameters.insert((rows[0].header, row.header), parameter.to_vec());
+        }
+    }
+    parameters
+}
+
+/// The vectors, which `vectors.rs` puts to the codec, have every form with all
+/// headers that may stand under it.
+#[test]
+fn every_form_with_every_header() {
+    let parameters = in_vectors();
+    for form in 0..=255 {
+        for header in 0..=255 {
+            let known = parameters.iter().find(|((_, known), _)| *known == header);
+            let parameter = known.map_or(vec![header], |(_, octets)| octets.clone());
+            let may_stand = parameters.contains_key(&(form, header));
+            let expected = may_stand.then_some(()).ok_or(Refusal::new(19, 6));
+            let contents = [&[form], &parameter[..]].concat();
+            assert_eq!(written(ORDER, &contents).map(|_| ()), expected);
+        }
+    }
 }
 
 #[test]
