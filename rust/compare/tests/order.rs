@@ -2,104 +2,36 @@
 //! every octet in every place, put to both codecs in every call that reads or
 //! writes it.
 
-use compare::proved;
+mod opened;
+
+use opened::{lent, parameter, readings, same, same_in_all, EMPTY};
 use plain::order::ORDER_ROW_LIMIT;
 use plain::transfer::ORDER;
 use trial::messages::with_alone;
 use trial::order::{FORMS, HEADERS};
 use trial::outcome::ROW_LEN;
-use trial::record::{Common, Record, Transfer};
-use trial::{answer, Input};
+use trial::Input;
 
-/// A message with an empty C5.
-const EMPTY: [u8; 7] = [0x01, 0x01, 0x06, 0x11, 0xC5, 0x00, 0x00];
-
-fn parameter(contents: &[u8]) -> Vec<u8> {
-    [&[ORDER, contents.len() as u8], contents].concat()
-}
-
-/// The image of a record that holds these contents.
-fn image(contents: &[u8]) -> Vec<u8> {
-    let common = |header, value, transfers| Common {
-        header,
-        value,
-        transfers,
-    };
-    let order = Transfer {
-        header: ORDER,
-        values: contents.to_vec(),
-        ..Transfer::default()
-    };
-    let common = vec![
-        common(0x01, 1, vec![]),
-        common(0x06, 0x11, vec![]),
-        common(0xC5, 0, vec![order]),
-    ];
-    Record { common }.image()
-}
-
-/// A buffer that begins with the message, and the message's length.
-fn buffer(message: &[u8]) -> (Vec<u8>, u16) {
-    ([message, &[0xEE; 260]].concat(), message.len() as u16)
-}
-
-/// The calls that read these contents.
-fn readings(contents: &[u8]) -> [Input; 3] {
-    let message = with_alone(&parameter(contents));
-    let lent = || vec![0xEE; 310];
-    [
-        Input::Order {
-            message: message.clone(),
-            table: lent(),
-        },
-        Input::Read {
-            message: message.clone(),
-            image: lent(),
-        },
-        Input::Rows {
-            message,
-            table: lent(),
-        },
-    ]
+/// The call that opens these contents.
+fn opening(contents: &[u8]) -> Input {
+    Input::Order {
+        message: with_alone(&parameter(ORDER, contents)),
+        table: lent(),
+    }
 }
 
 /// The calls that write them.
 fn writings(contents: &[u8]) -> [Input; 3] {
-    let new = parameter(contents);
-    let (without, n) = buffer(&EMPTY);
-    let (with, with_n) = buffer(&with_alone(&parameter(&[0x28])));
-    [
-        Input::Write {
-            image: image(contents),
-            room: vec![0xEE; 300],
-        },
-        Input::Append {
-            buffer: without,
-            n,
-            new: new.clone(),
-        },
-        Input::Replace {
-            buffer: with,
-            n: with_n,
-            new,
-        },
-    ]
+    opened::writings(ORDER, contents, &[0x28])
 }
 
 /// Whether the codecs agree on the contents in every call; gives the number, which
 /// is the same in all of them.
 fn agreed(contents: &[u8]) -> u8 {
-    let calls = [readings(contents), writings(contents)].concat();
-    let numbers: Vec<u8> = calls.iter().map(same).collect();
-    assert!(numbers.iter().all(|number| *number == numbers[0]));
-    numbers[0]
-}
-
-/// The number of both codecs' answer.
-fn same(input: &Input) -> u8 {
-    let outcome = answer(input);
-    assert_eq!(proved(input), outcome, "{input:02X?}");
-    outcome.number()
+    let mut calls = vec![opening(contents)];
+    calls.extend(readings(&with_alone(&parameter(ORDER, contents))));
+    calls.extend(writings(contents));
+    same_in_all(&calls)
 }
 
 /// The shortest sound octets behind a header; any behind one that there is not.
@@ -155,7 +87,7 @@ fn every_form_with_every_header() {
         for header in 0..=255 {
             let contents = [&[form, header], shortest(header)].concat();
             let (number, expected) = match under {
-                None => (same(&readings(&contents)[0]), 19),
+                None => (same(&opening(&contents)), 19),
                 Some((_, headers)) if headers.contains(&header) => (agreed(&contents), 0),
                 Some(_) => (agreed(&contents), 19),
             };
@@ -273,7 +205,7 @@ fn longer_than_any_message() {
 #[test]
 fn into_tables_of_every_length() {
     let contents = b"\x31\x41\x05\xC9\x03\x11\x02\x03\xCD\x03\x12\x00\x03\xD2180";
-    let message = with_alone(&parameter(contents));
+    let message = with_alone(&parameter(ORDER, contents));
     for len in 0..=ROW_LEN * (ORDER_ROW_LIMIT + 2) {
         let table = vec![0xEE; len];
         let message = message.clone();
