@@ -177,7 +177,7 @@ uint64_t tk_order(const uint8_t *message, size_t message_len, uint8_t *table, si
 
 /* Puts the new parameter in the place of the one with its name.
  * Refused: 15 (n); reading's; then at 0: 16 (no transfer data), 11 (no new octets), 8, 9, 16 (name absent), 11 (new octets too few
- * or left over), 12, 13, 18, 19, 14, 15 (`buffer` too short). */
+ * or left over), what is wrong with the new contents (12, 13, 18 or 19), 14, 15 (`buffer` too short). */
 uint64_t tk_replace(uint8_t *buffer, size_t buffer_len, size_t n, const uint8_t *new_octets, size_t new_len);
 
 /* Puts the new parameter behind the last one of the transfer data.

@@ -245,8 +245,8 @@ pub fn order(message: &[u8]) -> Result<Order<'_>, Refusal> {
 ///
 /// 15 at 0 if `n` is beyond the buffer, those of [`read`], then all at 0: 16
 /// without transfer data, 11 without octets, 8, 9, 16 if the name is absent, 11
-/// if octets are too few or too many, 12, 13, 18, 19, 14, and 15 if the buffer
-/// is too short.
+/// if octets are too few or too many, what is wrong with the new contents (12,
+/// 13, 18 or 19), 14, and 15 if the buffer is too short.
 pub fn replace(buffer: &mut [u8], n: usize, new: &[u8]) -> Result<usize, Refusal> {
     Ok(unpack(boundary::replace(buffer, n, new))?.value)
 }

@@ -56,7 +56,8 @@ fn check_new_header(new: &[u8]) -> Result<Layout, Refusal> {
         .map_err(Refusal::placeless)
 }
 
-/// 11 if the new octets are too few or left over, then 12, 13, 18 and 19.
+/// 11 if the new octets are too few or left over, then what is wrong with the new
+/// contents (12, 13, 18 or 19).
 fn check_new_contents(layout: Layout, new: &[u8]) -> Result<(), Refusal> {
     let check = match transfer::contents_of(new) {
         Some(contents) if contents.end == new.len() => {
@@ -104,7 +105,7 @@ fn splice(
 /// Refused are 15 if `n` is beyond the buffer; reading's 1 to 13, 18 and 19
 /// with their places; then all at 0: 16 without transfer data; 11 if `new` is
 /// empty; 8; 9; 16 if the name is absent; 11 if octets of `new` are too few or
-/// left over; 12; 13; 18; 19; 14; 15.
+/// left over; what is wrong with the new contents (12, 13, 18 or 19); 14; 15.
 pub fn replace(buffer: &mut [u8], n: usize, new: &[u8]) -> Result<usize, Refusal> {
     let name = new.first().map(|&header| name_of(header));
     let (data, old) = survey(buffer, n, name)?;
