@@ -57,21 +57,22 @@ enum tk_number {
 /* The class of a code value. */
 enum tk_class_value { TK_NAMED = 0, TK_HELD_BACK = 1, TK_SPARE = 2 };
 
-/* The headers of a connection order's parameters. They are of their own: CC, CE and CF are no transfer parameters here. */
+/* The headers of a connection order's parameters. They are of their own: 41 to 43, 91 and CC to CF are not the transfer parameters
+ * of those numbers here. */
 enum tk_order_header {
-    TK_ORDER_TRUNK = 0x41,            /* trunk of the office: one octet */
-    TK_ORDER_RELEASE = 0x42,          /* what is released: a length octet, which is 1, and one octet */
-    TK_ORDER_REDIRECT_REASON = 0x43,  /* why the call is redirected: one octet with bit 7 set */
-    TK_ORDER_SENT_DIGITS = 0x91,      /* digits for the outgoing line: a count of half-octets in a whole octet, digits as in PLI 10 */
-    TK_ORDER_FORWARD_NUMBER = 0x92,   /* number that the call is transferred to: a length octet, then as D7 with digits 0 to 9 alone */
-    TK_ORDER_CALLING_ARE = 0xC9,      /* ARE, calling side: a length octet, a code, a repeat count of at most 3, characters */
-    TK_ORDER_CALLED_ARE = 0xCA,       /* ARE, called side: the same */
-    TK_ORDER_CALLING_GUIDANCE = 0xCB, /* guidance, calling side: a length octet and carried octets */
-    TK_ORDER_CALLED_ARE_LOGIC = 0xCC, /* ARE logic, called side: a length octet, a conversion kind, a repeat count up to 3, a key */
-    TK_ORDER_TIMEOUT_ARE = 0xCD,      /* ARE after waiting in vain: as on the calling side */
-    TK_ORDER_CALLED_GUIDANCE = 0xCE,  /* guidance, called side: a length octet and carried octets */
-    TK_ORDER_TIMEOUT_GUIDANCE = 0xCF, /* guidance after waiting in vain: the same */
-    TK_ORDER_WAITING_TIME = 0xD2      /* waiting time in half seconds: three IA5 digits */
+    TK_ORDER_TRUNK = 0x41,            /* trunk in the exchange: one octet */
+    TK_ORDER_RELEASE = 0x42,          /* kind of release: a length octet, which is 1, and one octet */
+    TK_ORDER_REDIRECT_REASON = 0x43,  /* reason of the redirection: one octet with bit 7 set */
+    TK_ORDER_SENT_DIGITS = 0x91,      /* digits sent on the outgoing line: a count of half-octets in a whole octet, digits as in PLI 10 */
+    TK_ORDER_FORWARD_NUMBER = 0x92,   /* number to which the call is forwarded: a length octet, then as D7 with digits 0 to 9 alone */
+    TK_ORDER_CALLING_ARE = 0xC9,      /* ARE control on the calling side: a length octet, code, repeat count up to 3, characters */
+    TK_ORDER_CALLED_ARE = 0xCA,       /* ARE control on the called side: the same */
+    TK_ORDER_CALLING_GUIDANCE = 0xCB, /* guidance on the calling side: a length octet and carried octets */
+    TK_ORDER_CALLED_ARE_LOGIC = 0xCC, /* ARE logic control on the called side: a length octet, conversion kind, repeat count up to 3, key */
+    TK_ORDER_TIMEOUT_ARE = 0xCD,      /* ARE control when waiting times out: as on the calling side */
+    TK_ORDER_CALLED_GUIDANCE = 0xCE,  /* guidance on the called side: a length octet and carried octets */
+    TK_ORDER_TIMEOUT_GUIDANCE = 0xCF, /* guidance when waiting times out: the same */
+    TK_ORDER_WAITING_TIME = 0xD2      /* waiting time: three IA5 digits, in half seconds */
 };
 
 /*

@@ -3,7 +3,7 @@
 
 #include "tsurakemobu.h"
 
-/* Form 31: messages of the ARE while the call waits, 90 seconds at most, and after that; a trunk. */
+/* Form 31: ARE control while the call waits, 90 seconds at most, and when waiting times out; a trunk. */
 static uint8_t message[] = {0x01, 0x01, 0x06, 0x12, 0xC5, 0x15, 0xE0, 0x13, 0x31, 0xC9, 0x05, 0x11, 0x00, '1',
                             '2',  0x03, 0xCD, 0x03, 0x12, 0x02, 0x03, 0x41, 0x01, 0xD2, '1',  '8',  '0',  0x00};
 

@@ -3,8 +3,8 @@
 
 use codec::{Order, OrderHeader, OrderParameter, Refusal};
 
-/// Form 31: an announcement of the ARE while the call waits, 90 seconds at most,
-/// another one and a trunk if it waits in vain.
+/// Form 31: ARE control while the call waits, 90 seconds at most, and when waiting
+/// times out; a trunk.
 const MESSAGE: [u8; 28] = *b"\x01\x01\x06\x12\xC5\x15\xE0\x13\x31\
     \xC9\x05\x11\x0012\x03\xCD\x03\x12\x02\x03\x41\x01\xD2180\x00";
 

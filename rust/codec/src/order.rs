@@ -26,36 +26,37 @@ pub struct OrderParameter<'m> {
 }
 
 /// The header (A0, A1) of a parameter of a connection order. These are headers of
-/// their own: CC, CE and CF are no transfer parameters here.
+/// their own: 41 to 43, 91 and CC to CF are not the transfer parameters of those
+/// numbers here.
 #[derive(Clone, Copy, Debug, PartialEq, Eq, PartialOrd, Ord, Hash)]
 pub enum OrderHeader {
-    /// 41: a trunk of the office, one octet.
+    /// 41: trunk in the exchange, one octet.
     Trunk = 0x41,
-    /// 42: what is released, one octet behind its length.
+    /// 42: kind of release, one octet behind its length.
     Release = 0x42,
-    /// 43: why the call is redirected, one octet with bit 7 set.
+    /// 43: reason of the redirection, one octet with bit 7 set.
     RedirectReason = 0x43,
-    /// 91: the digits for the outgoing line, their count in the first octet, coded
+    /// 91: digits sent on the outgoing line, their count in the first octet, coded
     /// as under PLI 10.
     SentDigits = 0x91,
-    /// 92: the number that the call is transferred to, coded as D7.
+    /// 92: number to which the call is forwarded, coded as D7.
     ForwardNumber = 0x92,
-    /// C9: the ARE on the calling side: a code, a repeat count, characters.
+    /// C9: ARE control on the calling side: a code, a repeat count, characters.
     CallingAre = 0xC9,
-    /// CA: the ARE on the called side, the same.
+    /// CA: ARE control on the called side, the same.
     CalledAre = 0xCA,
     /// CB: guidance on the calling side, carried.
     CallingGuidance = 0xCB,
-    /// CC: the ARE's logic on the called side: a conversion kind, a repeat count,
+    /// CC: ARE logic control on the called side: a conversion kind, a repeat count,
     /// a key.
     CalledAreLogic = 0xCC,
-    /// CD: the ARE after waiting in vain, as on the calling side.
+    /// CD: ARE control when waiting times out, as on the calling side.
     TimeoutAre = 0xCD,
     /// CE: guidance on the called side, carried.
     CalledGuidance = 0xCE,
-    /// CF: guidance after waiting in vain, carried.
+    /// CF: guidance when waiting times out, carried.
     TimeoutGuidance = 0xCF,
-    /// D2: the waiting time, three IA5 digits, in half seconds.
+    /// D2: waiting time, three IA5 digits, in half seconds.
     WaitingTime = 0xD2,
 }
 
