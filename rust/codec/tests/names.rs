@@ -1,6 +1,7 @@
 //! The refusal numbers have the same names here and in the header for C, and so
 //! have the headers of a connection order, and the lengths the same values; both
-//! lend as much room for an image as is proved to suffice.
+//! lend as much room for an image, and for the rows of an order, as is proved to
+//! suffice.
 
 use codec::OrderHeader;
 use std::collections::BTreeMap;
@@ -50,12 +51,20 @@ fn of_the_longest_image() {
 }
 
 #[test]
+fn of_the_most_rows_of_an_order() {
+    let proved = include_str!("../../../crates/annex/specs/Opened.antt");
+    let proved = value(line(proved, "most-order-rows = ", '\n'));
+    let header = line(HEADER, "#define TK_ORDER_ROWS_MAX ", '\n');
+    assert_eq!(value(header), proved);
+    assert_eq!(codec::ORDER_ROWS_MAX, proved);
+}
+
+#[test]
 fn of_the_other_lengths() {
     let lengths = [
         ("TK_MESSAGE_MAX", codec::MESSAGE_MAX),
         ("TK_ROWS_MAX", codec::ROWS_MAX),
         ("TK_CHARGING_LEN", codec::CHARGING_LEN),
-        ("TK_ORDER_ROWS_MAX", codec::ORDER_ROWS_MAX),
     ];
     for (name, here) in lengths {
         let told = line(HEADER, &format!("#define {name} "), '\n');
