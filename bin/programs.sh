@@ -1,6 +1,7 @@
 # For the scripts beside it, which source it: `build NAME` proves and builds a program of the repository, where that has not been done since
 # its sources last changed, tells on standard error what it has proved, and ends the script with status 3 where that fails; `run NAME` runs
-# the program on standard input; `build_archive` makes the static library. Programs are for x86-64: on another processor they run under the emulator that the toolchain brings.
+# the program on standard input; `build_archive` makes the static library. Programs are for x86-64: on another processor they run under the
+# emulator that the toolchain brings.
 home=$(dirname "$(dirname "$(readlink -f "${BASH_SOURCE[0]}")")")
 
 tell() { echo "bin/$(basename "$(readlink -f "$0")"): $*" >&2; }
