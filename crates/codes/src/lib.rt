@@ -3,7 +3,7 @@ use annex::Alphabet;
 ghost use mathlib.Core.Path.{_≡_};
 ghost use lib.ListN.{getD};
 ghost use Rattle.annex.specs.Promises.{Gives};
-ghost use Rattle.annex.specs.Digits.{halves, zeroTo, digitOf, codeOf, lastCode, isCode};
+ghost use Rattle.annex.specs.Digits.{halves, zeroTo, digitOf, codeOf, lastCode, otherZero, isCode};
 
 // The half-octet at i, and 0 past the end.
 pub fn half_at(octets: &[u8], i: usize) -> u8
@@ -68,16 +68,20 @@ fn last_code(z: Alphabet) -> u8
     }
 }
 
-// Whether a half-octet stands for a digit.
+// The code that is a zero elsewhere, and here spare.
+fn other_zero(z: Alphabet) -> u8
+    ensures { λ r. ⌜ r ≡ otherZero z ⌝ }
+{
+    match z {
+        Alphabet::Dialled => 0,
+        Alphabet::Numbered => 10,
+        Alphabet::Decimal => 10,
+    }
+}
+
+// Whether a half-octet stands for a digit. Both tests are made, so that the compiler can take many at once.
 pub fn is_code(z: Alphabet, h: u8) -> bool
     ensures { λ r. ⌜ Gives (isCode z h) r ⌝ }
 {
-    if last_code(z) < h {
-        return false;
-    }
-    match z {
-        Alphabet::Dialled => h != 0,
-        Alphabet::Numbered => h != 10,
-        Alphabet::Decimal => h != 10,
-    }
+    (h <= last_code(z)) & (h != other_zero(z))
 }
