@@ -21,6 +21,7 @@ use Rattle.annex.specs.declared.Row.{Row}
 abbrev pub orderPars : List ℕ → List Par
 orderPars s = pars orderSize 0 1 (drop 1 s)
 
+-- without its offset
 abbrev pub parameterOf : Par → OrderParameter
 parameterOf q = orderParameter (q .head) (q .own)
 

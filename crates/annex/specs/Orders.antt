@@ -119,7 +119,7 @@ orderSize h xs = orderAfter (layoutOf h) (getD xs 0 0)
 
 -- ---- what is wrong with a parameter's octets
 
--- IA5 characters: 0 to 9; and in the parameters of an ARE `;` between two and ETX behind them
+-- IA5 characters: 0 to 9; and in the parameters of an ARE also `;` and ETX. Which of them stands where is not asked
 abbrev pub isFigure : ℕ → Bool
 isFigure x = isRight Character x
 
@@ -195,6 +195,7 @@ pub record OrderParameter : Type 0 where
   pub header : ℕ
   pub own : List ℕ
 
+-- made of the two
 abbrev pub orderParameter : ℕ → List ℕ → OrderParameter
 orderParameter h own = record { header = h; own = own }
 
@@ -203,7 +204,7 @@ pub record OpenedOrder : Type 0 where
   pub form : ℕ
   pub parameters : List OrderParameter
 
--- laid out
+-- parameters laid out, one behind the other; and an order, its form first
 unfoldable pub layParameters : List OrderParameter → List ℕ
 layParameters [] = []
 layParameters (p ∷ ps) = p .header ∷ (p .own ++ layParameters ps)
@@ -223,7 +224,7 @@ abbrev pub once : List ℕ → Bool
 once [] = true
 once (h ∷ hs) = not (among h hs) && once hs
 
--- each of them
+-- each of some parameters is right under the form
 abbrev pub allRight : ℕ → List OrderParameter → Bool
 allRight form [] = true
 allRight form (p ∷ ps) = parameterRight form p && allRight form ps
