@@ -3,6 +3,7 @@
  *
  * Link with target/staticlib/libboundary.a, which `rt staticlib boundary` writes. The archive is for x86-64 and needs nothing
  * but memset and memcpy. The functions keep no state and allocate nothing; any thread may call any of them at any time.
+ * An edit takes at most 1024 octets of stack, any other call at most 2048, beside what memset and memcpy take for themselves.
  *
  * A stretch of octets is handed in as a pointer and a length. The pointer must not be null, also where the length is 0. What is
  * handed in as const is only read. What is lent without const is written only as each function tells, never past its length, and
