@@ -1,0 +1,362 @@
+# What `run` puts to bin/stack: small functions in the assembly of x86-64. A case starts with a line `$ what it is`; a line `@ word` in it
+# is an option of bin/stack, or a processor that is another one. Before the first case stand macros. `function` opens a function in a
+# section of its own, as in the static library; `taking` makes a whole one with a frame of so many octets, `calling` one that also pushes
+# a register and calls another; `edits` makes the three edits, small.
+
+.macro function name
+    .section .text.\name, "ax", @progbits
+    \name:
+.endm
+.macro taking name, octets
+    function \name
+    sub $\octets, %rsp
+    add $\octets, %rsp
+    ret
+.endm
+.macro calling name, callee, octets
+    function \name
+    push %rbx
+    sub $\octets, %rsp
+    call \callee
+    add $\octets, %rsp
+    pop %rbx
+    ret
+.endm
+.macro edits
+    taking tk_replace, 8
+    taking tk_append, 8
+    taking tk_remove, 8
+.endm
+
+$ an edit of 1024 octets
+    calling tk_replace, inner, 992
+    taking tk_append, 8
+    taking tk_remove, 8
+    function inner
+    movb $0, -8(%rsp)
+    ret
+
+$ an edit of an octet more, below the stack pointer
+    taking tk_replace, 8
+    calling tk_append, inner, 992
+    taking tk_remove, 8
+    function inner
+    movb $0, -9(%rsp)
+    ret
+
+$ an edit of eight octets more, in its frame
+    taking tk_replace, 8
+    taking tk_append, 8
+    calling tk_remove, inner, 1000
+    taking inner, 8
+
+$ another function of 2048 octets
+    edits
+    taking tk_other, 2040
+
+$ another function of eight octets more
+    edits
+    taking tk_other, 2048
+
+$ an edit that is not there
+    taking tk_replace, 8
+    taking tk_remove, 8
+
+$ the deeper of two calls, and the C library
+    edits
+    taking flat, 24
+    calling deeper, memset, 48
+    function tk_other
+    sub $8, %rsp
+    call deeper
+    call flat
+    add $8, %rsp
+    ret
+
+$ functions inside
+@ --all
+    edits
+    calling tk_other, inner, 0
+    taking inner, 24
+
+$ frames made in other ways
+    edits
+    function tk_other
+    lea -16(%rsp), %rsp
+    add $-16, %rsp
+    pushq $1
+    sub $-40, %rsp
+    ret
+
+$ an index below the stack pointer, in a function that calls none
+    edits
+    function tk_other
+    movb $0, -9(%rsp,%rdi)
+    ret
+
+$ a pointer into the stack, in functions that call none
+    edits
+    function tk_copying
+    push %rbp
+    mov %rsp, %rbp
+    movb $0, -100(%rbp)
+    pop %rbp
+    ret
+    function tk_leading
+    lea 4(%rsp), %rax
+    movb $0, -100(%rax)
+    ret
+
+$ a function that has the name of one of the C library
+    edits
+    calling tk_other, memset, 0
+    taking memset, 24
+
+$ a jump to another function, which takes this one's place
+    edits
+    taking inner, 24
+    function tk_other
+    jmp inner
+
+$ a jump table, of which an arm takes more
+    edits
+    function tk_other
+    lea .Ltable(%rip), %rcx
+    movslq (%rcx,%rdi,4), %rax
+    add %rcx, %rax
+    jmp *%rax
+    .Lmore:
+    push %rbx
+    push %rax
+    pop %rax
+    pop %rbx
+    .Lnone:
+    ret
+    .section .rodata
+    .p2align 2
+    .Ltable:
+    .long .Lnone-.Ltable
+    .long .Lmore-.Ltable
+
+$ recursion
+    edits
+    calling tk_other, inner, 0
+    function inner
+    jmp tk_other
+
+$ a function that calls itself
+    edits
+    calling tk_other, tk_other, 0
+
+$ an indirect call
+    edits
+    calling tk_other, *%rdi, 0
+
+$ an indirect jump
+    edits
+    function tk_other
+    jmp *%rdi
+
+$ an indirect jump behind a jump table
+    edits
+    function tk_other
+    lea .Ltable(%rip), %rcx
+    movslq (%rcx,%rdi,4), %rax
+    add %rcx, %rax
+    jmp *%rax
+    .Lmore:
+    push %rbx
+    call memset
+    pop %rbx
+    jmp *%rax
+    .section .rodata
+    .p2align 2
+    .Ltable:
+    .long .Lmore-.Ltable
+
+$ a call on the way to a jump table
+    edits
+    function tk_other
+    lea .Ltable(%rip), %rcx
+    movslq (%rcx,%rdi,4), %rax
+    add %rcx, %rax
+    call memset
+    jmp *%rax
+    .Lnone:
+    ret
+    .section .rodata
+    .p2align 2
+    .Ltable:
+    .long .Lnone-.Ltable
+
+$ a jump into the way to a jump table
+    edits
+    function tk_other
+    lea .Ltable(%rip), %rcx
+    test %rsi, %rsi
+    je .Ljump
+    movslq (%rcx,%rdi,4), %rax
+    add %rcx, %rax
+    .Ljump:
+    jmp *%rax
+    .Lnone:
+    ret
+    .section .rodata
+    .p2align 2
+    .Ltable:
+    .long .Lnone-.Ltable
+
+$ a jump by a table that is not there
+    edits
+    function tk_other
+    movslq (%rsi,%rdi,4), %rax
+    add %rsi, %rax
+    jmp *%rax
+
+$ a jump table that leads to another function
+    edits
+    taking inner, 24
+    function tk_other
+    lea .Ltable(%rip), %rcx
+    movslq (%rcx,%rdi,4), %rax
+    add %rcx, %rax
+    jmp *%rax
+    .section .rodata
+    .p2align 2
+    .Ltable:
+    .long inner-.Ltable
+
+$ a jump into the middle of an instruction
+    edits
+    function tk_other
+    jmp .Lhere+1
+    .Lhere:
+    mov $1, %eax
+    ret
+
+$ the relocation of a call at another instruction
+    edits
+    taking inner, 24
+    function tk_other
+    lea inner@PLT(%rip), %rax
+    ret
+
+$ a far call
+    edits
+    function tk_other
+    lcall *(%rdi)
+    ret
+
+$ octets that are no instruction
+    edits
+    function tk_other
+    .byte 0x06
+    ret
+
+$ zeros, which a disassembler may leave out
+    edits
+    function tk_other
+    ret
+    .zero 64
+
+$ two functions in a section
+    edits
+    taking inner, 24
+    tk_other:
+    ret
+
+$ a call into the middle of a function
+    edits
+    taking inner, 24
+    calling tk_other, inner+4, 0
+
+$ code for another processor
+@ aarch64
+    tk_replace:
+    ret
+
+$ a frame of no fixed size
+    edits
+    function tk_other
+    sub %rdi, %rsp
+    add %rdi, %rsp
+    ret
+
+$ a frame that is aligned
+    edits
+    function tk_other
+    mov %rsp, %rax
+    and $-64, %rsp
+    mov %rax, %rsp
+    ret
+
+$ a frame by its pointer
+    edits
+    function tk_other
+    push %rbp
+    mov %rsp, %rbp
+    sub $64, %rsp
+    leave
+    ret
+
+$ a frame exchanged
+    edits
+    function tk_other
+    xchg %rax, %rsp
+    ret
+
+$ a frame taken off the stack
+    edits
+    function tk_other
+    push %rax
+    pop %rsp
+    ret
+
+$ a frame by half of the stack pointer
+    edits
+    function tk_other
+    sub $64, %esp
+    ret
+
+$ two ways of other depths
+    edits
+    function tk_other
+    test %rdi, %rdi
+    je .Lover
+    push %rax
+    .Lover:
+    ud2
+
+$ a return from within a frame
+    edits
+    function tk_other
+    push %rax
+    ret
+
+$ a return that takes more off
+    edits
+    function tk_other
+    ret $8
+
+$ a jump to another function from within a frame
+    edits
+    taking inner, 24
+    function tk_other
+    push %rax
+    jmp inner
+
+$ a call of a function that is not there
+    edits
+    calling tk_other, malloc, 0
+
+$ code that nothing leads to
+    edits
+    function tk_other
+    ret
+    push %rax
+    ret
+
+$ code that goes beyond the end
+    edits
+    function tk_other
+    push %rax
