@@ -1,6 +1,8 @@
-//! No call takes more stack than `bin/stack` tells of its function. The script
-//! follows the archive's code and runs nothing; here each call is made on a
-//! stack of its own, which shows afterwards how deep it has been written.
+//! Calls take as much stack as `bin/stack` tells of their function, some call of
+//! each as much and none more. The script follows the archive's code and runs
+//! nothing; here each call is made on a stack of its own, which shows afterwards
+//! how deep it has been written. A path through the code that no input takes
+//! would be told and not seen: of the deepest ones none is so.
 
 #![cfg(target_arch = "x86_64")]
 
@@ -12,7 +14,8 @@ use trial::{input_at, Input};
 const SEED: u64 = 7;
 const COUNT: u64 = 200_000;
 
-/// So many words of 16 octets has the stack on which calls are made.
+/// So many words has the stack on which calls are made. They are of 16 octets,
+/// since a stack must be aligned so when a function is called.
 const WORDS: usize = 512;
 
 // Only their addresses are taken: `call` hands the arguments over.
@@ -76,6 +79,7 @@ fn call_of(input: &Input, memory: &mut [u8]) -> Call {
 unsafe fn call(function: unsafe extern "C" fn(), arguments: &[usize], top: *mut u8) -> u64 {
     let argument = |i: usize| arguments.get(i).copied().unwrap_or_default();
     let answer;
+    // What a function is called with in r12 to r15 it leaves there.
     asm!(
         "mov r12, rsp",
         "mov rsp, r13",
@@ -135,18 +139,13 @@ fn told() -> BTreeMap<String, usize> {
 }
 
 #[test]
-fn no_call_takes_more_than_told() {
-    let told = told();
+fn calls_take_as_much_as_told() {
     let mut seen: BTreeMap<String, usize> = BTreeMap::new();
     for index in 0..COUNT {
         let (name, octets) = taken(&input_at(SEED, index), index as u8);
         let most = seen.entry(name.to_owned()).or_default();
         *most = octets.max(*most);
     }
-    println!("{:16} told seen", "function");
-    for (name, most) in &seen {
-        println!("{name:16} {:4} {most:4}", told[name]);
-    }
-    assert!(seen.keys().eq(told.keys()), "{told:?}");
-    assert!(seen.iter().all(|(name, most)| most <= &told[name]));
+    println!("the most stack that a call took: {seen:#?}");
+    assert_eq!(seen, told());
 }
