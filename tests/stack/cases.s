@@ -138,6 +138,67 @@ $ a jump table, of which an arm takes more
     .long .Lnone-.Ltable
     .long .Lmore-.Ltable
 
+$ a jump table by registers that are kept over a call and a product, an entry of it at the function's end
+    edits
+    taking inner, 24
+    function tk_other
+    push %rbp
+    push %rbx
+    lea .Ltable(%rip), %rbp
+    mov %rbp, %rbx
+    call inner
+    mul %rdi
+    movslq (%rbp,%rsi,4), %rax
+    add %rbx, %rax
+    xchg %ax, %ax
+    cmp %rbx, %rax
+    jmp *%rax
+    .Lleft:
+    pop %rbx
+    pop %rbp
+    ret
+    .Lend:
+    .section .rodata
+    .p2align 2
+    .Ltable:
+    .long .Lleft-.Ltable
+    .long .Lend-.Ltable
+
+$ two jump tables
+    edits
+    function tk_other
+    lea .Lone(%rip), %rcx
+    lea .Ltwo(%rip), %rdx
+    movslq (%rcx,%rdi,4), %rax
+    add %rcx, %rax
+    jmp *%rax
+    .Lfirst:
+    movslq (%rdx,%rdi,4), %rax
+    add %rdx, %rax
+    jmp *%rax
+    .Lsecond:
+    push %rbx
+    push %rbx
+    pop %rbx
+    pop %rbx
+    ret
+    .section .rodata
+    .p2align 2
+    .Lone:
+    .long .Lfirst-.Lone
+    .Ltwo:
+    .long .Lsecond-.Ltwo
+
+$ an instruction of which a disassembler tells more on a line of its own
+    edits
+    function tk_other
+    shufpd $2, .Lpair(%rip), %xmm1
+    ret
+    .section .rodata.cst16
+    .p2align 4
+    .Lpair:
+    .quad 1, 2
+
 $ recursion
     edits
     calling tk_other, inner, 0
@@ -188,6 +249,100 @@ $ a call on the way to a jump table
     .p2align 2
     .Ltable:
     .long .Lnone-.Ltable
+
+$ a product on the way to a jump table
+    edits
+    function tk_other
+    lea .Ltable(%rip), %rcx
+    movslq (%rcx,%rdi,4), %rax
+    add %rcx, %rax
+    mul %rdi
+    jmp *%rax
+    .Lnone:
+    ret
+    .section .rodata
+    .p2align 2
+    .Ltable:
+    .long .Lnone-.Ltable
+
+$ a jump by a table that was kept in memory
+    edits
+    function tk_other
+    lea .Ltable(%rip), %rcx
+    mov %rcx, -8(%rsp)
+    mov -8(%rsp), %rdx
+    movslq (%rdx,%rdi,4), %rax
+    add %rdx, %rax
+    jmp *%rax
+    .Lnone:
+    ret
+    .section .rodata
+    .p2align 2
+    .Ltable:
+    .long .Lnone-.Ltable
+
+$ a jump to where a table stands
+    edits
+    function tk_other
+    lea .Ltable(%rip), %rcx
+    jmp *%rcx
+    .Lnone:
+    ret
+    .section .rodata
+    .p2align 2
+    .Ltable:
+    .long .Lnone-.Ltable
+
+$ a jump by a table that the caller hands over, beside one of the function's own
+    edits
+    function tk_other
+    lea .Ltable(%rip), %rcx
+    movslq (%rcx,%rdi,4), %rax
+    add %rcx, %rax
+    jmp *%rax
+    .Lnone:
+    movslq (%rsi,%rdi,4), %rax
+    add %rsi, %rax
+    jmp *%rax
+    .section .rodata
+    .p2align 2
+    .Ltable:
+    .long .Lnone-.Ltable
+
+$ a jump by a table that is another one on one of two ways
+    edits
+    function tk_other
+    lea .Ltable(%rip), %rcx
+    test %rdi, %rdi
+    je .Lsame
+    mov %rsi, %rcx
+    .Lsame:
+    movslq (%rcx,%rdi,4), %rax
+    add %rcx, %rax
+    jmp *%rax
+    .Lnone:
+    ret
+    .section .rodata
+    .p2align 2
+    .Ltable:
+    .long .Lnone-.Ltable
+
+$ a jump by a distance out of one table and another's start
+    edits
+    function tk_other
+    lea .Ltable(%rip), %rcx
+    lea .Lother(%rip), %rdx
+    movslq (%rcx,%rdi,4), %rax
+    add %rdx, %rax
+    jmp *%rax
+    .Lnone:
+    ret
+    .section .rodata
+    .p2align 2
+    .Ltable:
+    .long .Lnone-.Ltable
+    .Lother:
+    .long .Lnone-.Lother
 
 $ a jump into the way to a jump table
     edits
