@@ -1,7 +1,8 @@
 # What `run` puts to bin/stack: small functions in the assembly of x86-64. A case starts with a line `$ what it is`; a line `@ word` in it
 # is an option of bin/stack, or a processor that is another one. Before the first case stand macros. `function` opens a function in a
 # section of its own, as in the static library; `taking` makes a whole one with a frame of so many octets, `calling` one that also pushes
-# a register and calls another; `edits` makes the three edits, small.
+# a register and calls another; `edits` makes the three edits, small. `table` makes a jump table that leads to one or two places, and
+# `by_table` takes into rax where its entry of number rdi leads to, the way LLVM does.
 
 .macro function name
     .section .text.\name, "ax", @progbits
@@ -21,6 +22,20 @@
     add $\octets, %rsp
     pop %rbx
     ret
+.endm
+.macro by_table
+    lea .Ltable(%rip), %rcx
+    movslq (%rcx,%rdi,4), %rax
+    add %rcx, %rax
+.endm
+.macro table first, second
+    .section .rodata
+    .p2align 2
+    .Ltable:
+    .long \first-.Ltable
+    .ifnb \second
+    .long \second-.Ltable
+    .endif
 .endm
 .macro edits
     taking tk_replace, 8
@@ -121,9 +136,7 @@ $ a jump to another function, which takes this one's place
 $ a jump table, of which an arm takes more
     edits
     function tk_other
-    lea .Ltable(%rip), %rcx
-    movslq (%rcx,%rdi,4), %rax
-    add %rcx, %rax
+    by_table
     jmp *%rax
     .Lmore:
     push %rbx
@@ -132,11 +145,7 @@ $ a jump table, of which an arm takes more
     pop %rbx
     .Lnone:
     ret
-    .section .rodata
-    .p2align 2
-    .Ltable:
-    .long .Lnone-.Ltable
-    .long .Lmore-.Ltable
+    table .Lnone, .Lmore
 
 $ a jump table by registers that are kept over a call and a product, an entry of it at the function's end
     edits
@@ -158,11 +167,7 @@ $ a jump table by registers that are kept over a call and a product, an entry of
     pop %rbp
     ret
     .Lend:
-    .section .rodata
-    .p2align 2
-    .Ltable:
-    .long .Lleft-.Ltable
-    .long .Lend-.Ltable
+    table .Lleft, .Lend
 
 $ two jump tables
     edits
@@ -221,49 +226,34 @@ $ an indirect jump
 $ an indirect jump behind a jump table
     edits
     function tk_other
-    lea .Ltable(%rip), %rcx
-    movslq (%rcx,%rdi,4), %rax
-    add %rcx, %rax
+    by_table
     jmp *%rax
     .Lmore:
     push %rbx
     call memset
     pop %rbx
     jmp *%rax
-    .section .rodata
-    .p2align 2
-    .Ltable:
-    .long .Lmore-.Ltable
+    table .Lmore
 
 $ a call on the way to a jump table
     edits
     function tk_other
-    lea .Ltable(%rip), %rcx
-    movslq (%rcx,%rdi,4), %rax
-    add %rcx, %rax
+    by_table
     call memset
     jmp *%rax
     .Lnone:
     ret
-    .section .rodata
-    .p2align 2
-    .Ltable:
-    .long .Lnone-.Ltable
+    table .Lnone
 
 $ a product on the way to a jump table
     edits
     function tk_other
-    lea .Ltable(%rip), %rcx
-    movslq (%rcx,%rdi,4), %rax
-    add %rcx, %rax
+    by_table
     mul %rdi
     jmp *%rax
     .Lnone:
     ret
-    .section .rodata
-    .p2align 2
-    .Ltable:
-    .long .Lnone-.Ltable
+    table .Lnone
 
 $ a jump by a table that was kept in memory
     edits
@@ -276,10 +266,7 @@ $ a jump by a table that was kept in memory
     jmp *%rax
     .Lnone:
     ret
-    .section .rodata
-    .p2align 2
-    .Ltable:
-    .long .Lnone-.Ltable
+    table .Lnone
 
 $ a jump to where a table stands
     edits
@@ -288,26 +275,18 @@ $ a jump to where a table stands
     jmp *%rcx
     .Lnone:
     ret
-    .section .rodata
-    .p2align 2
-    .Ltable:
-    .long .Lnone-.Ltable
+    table .Lnone
 
 $ a jump by a table that the caller hands over, beside one of the function's own
     edits
     function tk_other
-    lea .Ltable(%rip), %rcx
-    movslq (%rcx,%rdi,4), %rax
-    add %rcx, %rax
+    by_table
     jmp *%rax
     .Lnone:
     movslq (%rsi,%rdi,4), %rax
     add %rsi, %rax
     jmp *%rax
-    .section .rodata
-    .p2align 2
-    .Ltable:
-    .long .Lnone-.Ltable
+    table .Lnone
 
 $ a jump by a table that is another one on one of two ways
     edits
@@ -322,10 +301,7 @@ $ a jump by a table that is another one on one of two ways
     jmp *%rax
     .Lnone:
     ret
-    .section .rodata
-    .p2align 2
-    .Ltable:
-    .long .Lnone-.Ltable
+    table .Lnone
 
 $ a jump by a distance out of one table and another's start
     edits
@@ -356,10 +332,7 @@ $ a jump into the way to a jump table
     jmp *%rax
     .Lnone:
     ret
-    .section .rodata
-    .p2align 2
-    .Ltable:
-    .long .Lnone-.Ltable
+    table .Lnone
 
 $ a jump by a table that is not there
     edits
@@ -372,14 +345,9 @@ $ a jump table that leads to another function
     edits
     taking inner, 24
     function tk_other
-    lea .Ltable(%rip), %rcx
-    movslq (%rcx,%rdi,4), %rax
-    add %rcx, %rax
+    by_table
     jmp *%rax
-    .section .rodata
-    .p2align 2
-    .Ltable:
-    .long inner-.Ltable
+    table inner
 
 $ a jump into the middle of an instruction
     edits
