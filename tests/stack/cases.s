@@ -2,7 +2,7 @@
 # is an option of bin/stack, or a processor that is another one. Before the first case stand macros. `function` opens a function in a
 # section of its own, as in the static library; `taking` makes a whole one with a frame of so many octets, `calling` one that also pushes
 # a register and calls another; `edits` makes the three edits, small. `table` makes a jump table that leads to one or two places, and
-# `by_table` takes into rax where its entry of number rdi leads to, the way LLVM does.
+# `by_table` takes into rax where the table's entry of number rdi leads to, the way LLVM does.
 
 .macro function name
     .section .text.\name, "ax", @progbits
@@ -23,18 +23,18 @@
     pop %rbx
     ret
 .endm
-.macro by_table
-    lea .Ltable(%rip), %rcx
+.macro by_table name=.Ltable
+    lea \name(%rip), %rcx
     movslq (%rcx,%rdi,4), %rax
     add %rcx, %rax
 .endm
-.macro table first, second
+.macro table first, second, name=.Ltable
     .section .rodata
     .p2align 2
-    .Ltable:
-    .long \first-.Ltable
+    \name:
+    .long \first-\name
     .ifnb \second
-    .long \second-.Ltable
+    .long \second-\name
     .endif
 .endm
 .macro edits
@@ -172,14 +172,10 @@ $ a jump table by registers that are kept over a call and a product, an entry of
 $ two jump tables
     edits
     function tk_other
-    lea .Lone(%rip), %rcx
-    lea .Ltwo(%rip), %rdx
-    movslq (%rcx,%rdi,4), %rax
-    add %rcx, %rax
+    by_table
     jmp *%rax
     .Lfirst:
-    movslq (%rdx,%rdi,4), %rax
-    add %rdx, %rax
+    by_table .Lother
     jmp *%rax
     .Lsecond:
     push %rbx
@@ -187,12 +183,8 @@ $ two jump tables
     pop %rbx
     pop %rbx
     ret
-    .section .rodata
-    .p2align 2
-    .Lone:
-    .long .Lfirst-.Lone
-    .Ltwo:
-    .long .Lsecond-.Ltwo
+    table .Lfirst
+    table .Lsecond, name=.Lother
 
 $ an instruction of which a disassembler tells more on a line of its own
     edits
@@ -313,12 +305,8 @@ $ a jump by a distance out of one table and another's start
     jmp *%rax
     .Lnone:
     ret
-    .section .rodata
-    .p2align 2
-    .Ltable:
-    .long .Lnone-.Ltable
-    .Lother:
-    .long .Lnone-.Lother
+    table .Lnone
+    table .Lnone, name=.Lother
 
 $ a jump into the way to a jump table
     edits
