@@ -25,7 +25,7 @@ extern "C" {
 #define TK_ROWS_MAX 59
 #define TK_ROW_LEN 5
 /* Room for the image of any record that is read: the count, 6 common and 52 transfer parameters, two values to an octet of C5. */
-#define TK_IMAGE_MAX (1 + 6 * 6 + 52 * 11 + 2 * 255)
+#define TK_IMAGE_MAX (1 + 6 * 7 + 52 * 11 + 2 * 255)
 /* The octets of the opened charging information. */
 #define TK_CHARGING_LEN 23
 /* The most rows of an opened connection order: its form, and as many parameters as can stand under one form. */
@@ -38,7 +38,7 @@ enum tk_number {
     TK_UNLISTED = 2,         /* a common header that is not in the list */
     TK_REPEATED = 3,         /* a common parameter for the second time */
     TK_CUT_SHORT = 4,        /* no end mark, or a common parameter runs past the message's end */
-    TK_NOT_ALLOWED = 5,      /* a user class or signal kind that is not among those allowed */
+    TK_NOT_ALLOWED = 5,      /* a user class or signal kind that is not among those allowed, or a sequence with another number than 1 */
     TK_MISSING = 6,          /* the end mark comes without user class or signal kind before it */
     TK_LEFT_OVER = 7,        /* something follows the end mark */
     TK_UNUSED_NAME = 8,      /* a transfer name that is not in use */
@@ -90,7 +90,8 @@ static inline size_t tk_value_of(uint64_t answer) { return (size_t)(answer & 0xF
  *
  *   1  count of common parameters, then for each of them
  *      1  header
- *      4  value: the call number of 82 and 83, the octet of 01, 04 and 06; C5 has none
+ *      4  value: the call number of 82 and 83, the number of 04 (bits 6-0 of its octet), which is 1, the octet of 01 and 06; C5 has none
+ *      1  more-data mark of 04 (bit 7 of its octet); the others have none
  *      1  count of transfer parameters of a C5; the others have none. Right after a C5, for each of these
  *         1  header
  *         1  notification    (90, 91, 95)
@@ -124,7 +125,7 @@ uint64_t tk_read(const uint8_t *message, size_t message_len, uint8_t *image, siz
 
 /* The message of a record. Value: the message's length; it stands at the front of `room`, and the octets behind it stay.
  * Refused: 1 at 0, also for an image that ends too early or too late; where the headers would stand, 2, 3, 5, 12 (call number or
- * sequence octet too large) and 8 to 13, 18 and 19; 14 at C5 after its last parameter; 6 where the end mark would stand; 15 at 0 if
+ * more-data mark too large) and 8 to 13, 18 and 19; 14 at C5 after its last parameter; 6 where the end mark would stand; 15 at 0 if
  * `room` is too short. */
 uint64_t tk_write(const uint8_t *image, size_t image_len, uint8_t *room, size_t room_len);
 

@@ -14,8 +14,8 @@ enum { AREA = 0x10, DIALLED = 0x18 };
 static const uint8_t *values_of(const uint8_t *image, int name, size_t *count) {
     const uint8_t *at = image + 1;
     for (int commons = image[0]; commons > 0; commons--) {
-        int transfers = at[0] == 0xC5 ? at[5] : 0;
-        for (at += 6; transfers > 0; transfers--) {
+        int transfers = at[0] == 0xC5 ? at[6] : 0;
+        for (at += 7; transfers > 0; transfers--) {
             *count = at[9] + ((size_t)at[10] << 8);
             if ((at[0] & 0x3F) == name) return at + 11;
             at += 11 + *count;

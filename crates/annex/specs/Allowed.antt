@@ -9,7 +9,6 @@ use lib.ListN.{length, getD, drop}
 use Rattle.annex.specs.Answers.{bad-digit, formedThen, isSound}
 use Rattle.annex.specs.Units.{nameOf, afterOf, extentOf}
 use Rattle.annex.specs.Heads.{
-  advanced-telephony,
   withheld,
   among,
   user-class,
@@ -18,7 +17,7 @@ use Rattle.annex.specs.Heads.{
   transfer-data,
   isCall,
   commonHeaders,
-  signalKinds,
+  valueAllowed,
   most-commons,
   most-transfers,
   most-transfer-octets,
@@ -32,7 +31,7 @@ use Rattle.annex.specs.declared.Marks.{Marks}
 use Rattle.annex.specs.declared.Marks.the-variants.{Unmarked, Notified, Verified, Typed}
 use Rattle.annex.specs.Digits.{isDigit}
 use Rattle.annex.specs.Contents.{faultOf}
-use Rattle.annex.specs.Items.{Item, Part, part, valuePart, heldAs, contentsOf, ownOf}
+use Rattle.annex.specs.Items.{Item, Part, part, heldAs, contentsOf, ownOf}
 use Rattle.annex.specs.declared.Holding.{Holding}
 use Rattle.annex.specs.declared.Holding.the-variants.{AsContents, AsDigits, AsNumber, AsGeneric}
 use Rattle.annex.specs.Layout.{layoutItems}
@@ -118,17 +117,14 @@ faultIn i = faultAs (heldAs i) i
 
 -- ---- one common parameter
 
--- Common part, and refusal 5: the user class is 01, the signal kind one of the list
-unfoldable pub valueRight : Part → Bool
-valueRight p =
-    cond (eqb (p .header) user-class) (eqb (p .value) advanced-telephony)
-    (cond (eqb (p .header) signal-kind) (among (p .value) signalKinds)
-    true)
+-- Writing, 5
+abbrev pub valueRight : Part → Bool
+valueRight p = valueAllowed (p .header) (p .value)
 
--- Common part, and Writing, 12: the sequence is an octet, a call number has 24 bits
+-- Common part, request d, and Writing, 12: a more-data mark has one bit, a call number has 24
 unfoldable pub valueFits : Part → Bool
 valueFits p =
-    cond (eqb (p .header) sequence) (isOctet (p .value))
+    cond (eqb (p .header) sequence) (leb (p .moreData) 1)
     (cond (isCall (p .header)) (ltb (p .value) call-number-below)
     true)
 
@@ -139,9 +135,14 @@ pub record HeldItem (i : Item) : Type 0 where
   pub octets : every isOctet (i .values) ≡ true
   pub own : ownOf i ≡ i
 
+-- Request d: only 04 has a more-data mark
+abbrev pub ownMark : ℕ → ℕ → ℕ
+ownMark h m = cond (eqb h sequence) m 0
+
 abbrev pub ownPart : Part → Part
 ownPart p =
-    cond (eqb (p .header) transfer-data) (part (p .header) 0 (p .items)) (valuePart (p .header) (p .value))
+    cond (eqb (p .header) transfer-data) (part (p .header) 0 0 (p .items))
+    (part (p .header) (p .value) (ownMark (p .header) (p .moreData)) [])
 
 pub record HeldPart (p : Part) : Type 0 where
   pub octet : p .header < 256

@@ -1,17 +1,17 @@
--- The bench table: document 01, "The bench table", cases 1 to 15 under one statement.
+-- The bench table: document 01, "The bench table", cases 1 to 15, and the examples of document 02's request d, under one statement. Case 1,
+-- M, is an example of that request too.
 use Prim.Native.Nat.{ℕ}
 use mathlib.Core.Path.{_≡_, refl}
 use mathlib.Core.List.{List, [], _∷_, _++_, map}
 use lib.ListN.{length}
 use Rattle.annex.specs.Units.{afterOf, leadOf, commonExtentOf, extentOf}
-use Rattle.annex.specs.Heads.{nameUsed, pliRight, oftenOf, zeroesOf, formOf}
+use Rattle.annex.specs.Heads.{valueAllowed, nameUsed, pliRight, oftenOf, zeroesOf, formOf}
 use Rattle.annex.specs.Digits.{halves, joined, digitOf, codeOf, isCode, halvesFault, digitsFault, digitsOf, packed, numberFaultIn}
 use Rattle.annex.specs.Contents.{callingFault, genericFault, dialledFault, twoFault, faultOf}
-use Rattle.annex.specs.Items.{Part, plainItem, markedItem, numberItem, valuePart, dataPart, holdingOf, itemOf, contentsOf}
+use Rattle.annex.specs.Items.{Part, plainItem, markedItem, numberItem, part, valuePart, dataPart, holdingOf, itemOf, contentsOf}
 use Rattle.annex.specs.Layout.{layoutItem, layoutItems, layoutPart, layout}
 use Rattle.annex.specs.Walk.{walk}
 use Rattle.annex.specs.Reading.{
-  octetAllowed,
   commonForm,
   endOf,
   verdictOf,
@@ -90,12 +90,15 @@ cases =
     (valuePart 0x01 0x01 ∷ valuePart 0x06 0x11 ∷ dataPart (numberItem 0xD7 0x03 0x11 (0 ∷ []) ∷ []) ∷ []) ∷
     Edited (Replacing (0x98 ∷ 0x02 ∷ 0x21 ∷ []) 0) M (Accepted 22)
     (0x01 ∷ 0x01 ∷ 0x83 ∷ 0x39 ∷ 0x30 ∷ 0x00 ∷ 0x04 ∷ 0x01 ∷ 0x06 ∷ 0x11 ∷ 0xC5 ∷ 0x09 ∷
-    0x90 ∷ 0x04 ∷ 0x21 ∷ 0x3A ∷ 0x52 ∷ 0x81 ∷ 0x98 ∷ 0x02 ∷ 0x21 ∷ 0x00 ∷ 0x00 ∷ []) ∷ []
+    0x90 ∷ 0x04 ∷ 0x21 ∷ 0x3A ∷ 0x52 ∷ 0x81 ∷ 0x98 ∷ 0x02 ∷ 0x21 ∷ 0x00 ∷ 0x00 ∷ []) ∷
+    -- request d
+    Read (K ++ (0x04 ∷ 0x81 ∷ 0x00 ∷ [])) (Accepted 7) (recordOfK ++ (part 0x04 1 1 [] ∷ [])) ∷
+    Read (K ++ (0x04 ∷ 0x02 ∷ 0x00 ∷ [])) (Refused 5 4) [] ∷ []
 
 -- what the definitions say of each case is what the table says
 pub bench : map asDefined cases ≡ cases
 unfolding afterOf leadOf commonExtentOf extentOf nameUsed pliRight oftenOf zeroesOf formOf halves joined digitOf codeOf isCode halvesFault
     digitsFault digitsOf packed numberFaultIn callingFault genericFault dialledFault twoFault faultOf holdingOf itemOf contentsOf layoutItem
-    layoutItems layoutPart layout walk transferBy transfersVerdictBy octetAllowed commonForm endOf dataBy commonBy messageVerdictBy
+    layoutItems layoutPart layout walk transferBy transfersVerdictBy valueAllowed commonForm endOf dataBy commonBy messageVerdictBy
     verdictBy commonsBy transfersBy openCommonBy recordBy editRefusal instead editedItems edited recordEditing editingOf bufferOf
 bench = refl

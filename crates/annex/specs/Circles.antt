@@ -7,7 +7,7 @@ use mathlib.Core.Bool.{Bool, true, false, cond}
 use mathlib.Core.List.{List, [], _∷_, _++_, map}
 use lib.ListN.{length, replicate}
 use Rattle.annex.specs.Units.{afterOf, leadOf, commonExtentOf, extentOf}
-use Rattle.annex.specs.Heads.{among, nameUsed, pliRight, oftenOf, zeroesOf, formOf}
+use Rattle.annex.specs.Heads.{valueAllowed, among, nameUsed, pliRight, oftenOf, zeroesOf, formOf}
 use Rattle.annex.specs.Digits.{halves, isCode, halvesFault, digitsFault, numberFaultIn}
 use Rattle.annex.specs.Rates.{total}
 use Rattle.annex.specs.Orders.{
@@ -30,10 +30,9 @@ use Rattle.annex.specs.Orders.{
 use Rattle.annex.specs.Contents.{faultOf}
 use Rattle.annex.specs.Items.{Part, plainItem, valuePart, dataPart, holdingOf, itemOf, contentsOf}
 use Rattle.annex.specs.Layout.{layoutItem, layoutItems, layoutPart, layout}
-use Rattle.annex.specs.Allowed.{lengthRight, faultIn, valueRight, valueFits}
+use Rattle.annex.specs.Allowed.{lengthRight, faultIn, valueFits}
 use Rattle.annex.specs.Walk.{walk, pars}
 use Rattle.annex.specs.Reading.{
-  octetAllowed,
   commonForm,
   endOf,
   transferBy,
@@ -400,8 +399,7 @@ cases =
 pub orders : map asDefined cases ≡ cases
 unfolding afterOf leadOf commonExtentOf extentOf nameUsed pliRight oftenOf zeroesOf formOf halves isCode halvesFault digitsFault
     numberFaultIn formsOf layoutOf orderAfter outsideFault forwardFault controlFault logicFault layoutFault ownFault parameterFault
-    parametersFault orderFault faultOf holdingOf itemOf contentsOf layoutItem layoutItems layoutPart layout lengthRight faultIn valueRight
-    valueFits walk pars transferBy transfersVerdictBy octetAllowed commonForm endOf dataBy commonBy messageVerdictBy verdictBy commonsBy
+    parametersFault orderFault faultOf holdingOf itemOf contentsOf layoutItem layoutItems layoutPart layout lengthRight faultIn valueFits walk pars transferBy transfersVerdictBy valueAllowed commonForm endOf dataBy commonBy messageVerdictBy verdictBy commonsBy
     transfersBy openCommonBy recordBy itemWriting itemsWriting dataWriting partWriting partsWriting overLimits recordWriting transferIn
     transferAmong transferFound editRefusal instead editedItems edited recordEditing editingOf bufferOf orderListing orderRowsOf
     orderAnswer orderTable rowsOctets octetOrderTable

@@ -1,7 +1,7 @@
 -- The headers and limits: document 01, "Common part" (the table of headers, the signal kinds) and "Transfer data" (the lists under
 -- PLI 01, PLI 10 and PLI 11, the names with no layout, the unused names).
 use Prim.Native.Nat.{ℕ, zero, suc, _+_}
-use mathlib.Core.Bool.{Bool, false, cond, not, _&&_, _||_}
+use mathlib.Core.Bool.{Bool, true, false, cond, not, _&&_, _||_}
 use mathlib.Core.List.{List, [], _∷_, map}
 use lib.Dec.{eqb}
 use lib.Bits.{bitAnd}
@@ -61,6 +61,18 @@ signalKinds =
 
 abbrev pub advanced-telephony : ℕ
 advanced-telephony = 0x01
+
+-- Request d: the one number of a sequence that is allowed
+abbrev pub sequence-number : ℕ
+sequence-number = 1
+
+-- refusal 5: the value v that stands with the header h: the user class, a signal kind, the number of a sequence; others are free
+unfoldable pub valueAllowed : ℕ → ℕ → Bool
+valueAllowed h v =
+    cond (eqb h user-class) (eqb v advanced-telephony)
+    (cond (eqb h signal-kind) (among v signalKinds)
+    (cond (eqb h sequence) (eqb v sequence-number)
+    true))
 
 -- Transfer data, DA: the first octet with which a number follows; DC: the presentation with which it is withheld
 abbrev pub added-calling-number : ℕ

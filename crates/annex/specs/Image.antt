@@ -37,9 +37,9 @@ unfoldable pub imageItems : List Item → List ℕ
 imageItems [] = []
 imageItems (i ∷ is) = imageItem i ++ imageItems is
 
--- the head of a common parameter: header, value, count of transfer parameters
+-- the head of a common parameter: header, value, more-data mark, count of transfer parameters
 abbrev pub imageCommon : Common → List ℕ
-imageCommon c = c .header ∷ (fourOctets (c .value) ++ (c .transfers ∷ []))
+imageCommon c = c .header ∷ (fourOctets (c .value) ++ (c .«more_data» ∷ c .transfers ∷ []))
 
 -- a common parameter: its head, then its transfer parameters; only a C5 has any
 unfoldable pub imagePart : Part → List ℕ
@@ -57,7 +57,7 @@ imageOf r = length r ∷ imageParts r
 
 -- the octets of a common parameter before its transfer parameters, and of a transfer parameter before its values
 abbrev pub common-head : ℕ
-common-head = 6
+common-head = 7
 
 abbrev pub transfer-head : ℕ
 transfer-head = 11
@@ -99,8 +99,8 @@ itemsFront (suc n) s =
 -- the common parameter at the front of octets; where it is no C5 its count is not looked at
 abbrev pub commonFront : List ℕ → Common
 commonFront s =
-    commonHead (getD s 0 0) (getD s 1 0 + 256 * getD s 2 0 + 65536 * getD s 3 0 + 16777216 * getD s 4 0)
-    (cond (eqb (getD s 0 0) transfer-data) (getD s 5 0) 0)
+    commonHead (getD s 0 0) (getD s 1 0 + 256 * getD s 2 0 + 65536 * getD s 3 0 + 16777216 * getD s 4 0) (getD s 5 0)
+    (cond (eqb (getD s 0 0) transfer-data) (getD s 6 0) 0)
 
 abbrev pub partFront : List ℕ → List Item → Part
 partFront s is = rawPart (commonFront s) is

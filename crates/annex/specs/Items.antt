@@ -5,7 +5,7 @@ use mathlib.Core.List.{List, [], _∷_}
 use lib.Dec.{eqb}
 use lib.ListN.{length, getD, drop}
 use Rattle.annex.specs.Units.{countedBy}
-use Rattle.annex.specs.Heads.{added-calling-number, transfer-data, formOf}
+use Rattle.annex.specs.Heads.{added-calling-number, sequence, transfer-data, formOf}
 use Rattle.annex.specs.declared.Form.{Form}
 use Rattle.annex.specs.declared.Marks.{Marks}
 use Rattle.annex.specs.declared.Marks.the-variants.{Unmarked, Notified, Verified, Typed}
@@ -29,10 +29,12 @@ pub record Item : Type 0 where
   pub screening : ℕ
   pub values : List ℕ
 
--- a common parameter: the octet of 01, 04 and 06, the number of 82 and 83, the parameters of C5; what it does not have is 0, or none
+-- a common parameter: the octet of 01 and 06, the number of 82, 83 and 04, the more-data mark of 04, the parameters of C5; what it does not
+-- have is 0, or none
 pub record Part : Type 0 where
   pub header : ℕ
   pub value : ℕ
+  pub moreData : ℕ
   pub items : List Item
 
 -- ---- constructors: only these name the fields of a parameter one by one
@@ -67,19 +69,29 @@ fieldsItem h t c p r s vs = item h 0 0 0 t c p r s vs
 abbrev pub numberItem : ℕ → ℕ → ℕ → List ℕ → Item
 numberItem h x y vs = fieldsItem h (x % 128) (y / 128) (y / 16 % 8) (y / 4 % 4) (y % 4) vs
 
--- header, value, transfer parameters
-abbrev pub part : ℕ → ℕ → List Item → Part
-part h v is = record { header = h; value = v; items = is }
+-- header, value, more-data mark, transfer parameters
+abbrev pub part : ℕ → ℕ → ℕ → List Item → Part
+part h v m is = record { header = h; value = v; moreData = m; items = is }
 
 -- one with a value alone, the transfer data, and one with other transfer parameters
 abbrev pub valuePart : ℕ → ℕ → Part
-valuePart h v = part h v []
+valuePart h v = part h v 0 []
 
 abbrev pub dataPart : List Item → Part
-dataPart is = part transfer-data 0 is
+dataPart is = part transfer-data 0 0 is
 
 abbrev pub partWith : List Item → Part → Part
-partWith is p = part (p .header) (p .value) is
+partWith is p = part (p .header) (p .value) (p .moreData) is
+
+-- what the octet x of 01, 04 or 06 says: request d: of 04, bits 6-0 are the number and bit 7 is the more-data mark
+abbrev pub valueIn : ℕ → ℕ → ℕ
+valueIn h x = cond (eqb h sequence) (x % 128) x
+
+abbrev pub moreDataIn : ℕ → ℕ → ℕ
+moreDataIn h x = cond (eqb h sequence) (x / 128) 0
+
+abbrev pub octetPart : ℕ → ℕ → Part
+octetPart h x = part h (valueIn h x) (moreDataIn h x) []
 
 -- ---- how the values are held
 

@@ -1,11 +1,11 @@
 -- A record laid out to octets: document 01, "Common part" and "Transfer data".
-use Prim.Native.Nat.{ℕ, _/_, _%_}
+use Prim.Native.Nat.{ℕ, _+_, _*_, _/_, _%_}
 use mathlib.Core.Bool.{cond}
 use mathlib.Core.List.{List, [], _∷_, _++_}
 use lib.Dec.{eqb}
 use lib.ListN.{length}
 use Rattle.annex.specs.Units.{extentOf}
-use Rattle.annex.specs.Heads.{end-mark, transfer-data, isCall}
+use Rattle.annex.specs.Heads.{end-mark, sequence, transfer-data, isCall}
 use Rattle.annex.specs.Items.{Item, Part, contentsOf}
 use Rattle.annex.specs.declared.Extent.{Extent}
 use Rattle.annex.specs.declared.Extent.the-variants.{Fixed, Counted}
@@ -29,6 +29,10 @@ layoutItems (i ∷ is) = layoutItem i ++ layoutItems is
 abbrev pub callOctets : ℕ → List ℕ
 callOctets v = v % 256 ∷ v / 256 % 256 ∷ v / 65536 % 256 ∷ []
 
+-- the octet of 01, 04 or 06: request d: of 04, the more-data mark stands above the number
+abbrev pub octetOf : Part → ℕ
+octetOf p = cond (eqb (p .header) sequence) (128 * p .moreData + p .value) (p .value)
+
 -- Common part: transfer data behind its length octet
 abbrev pub dataOctets : List ℕ → List ℕ
 dataOctets t = length t ∷ t
@@ -39,7 +43,7 @@ layoutPart p =
     p .header ∷
     cond (eqb (p .header) transfer-data) (dataOctets (layoutItems (p .items)))
     (cond (isCall (p .header)) (callOctets (p .value))
-    (p .value ∷ []))
+    (octetOf p ∷ []))
 
 -- Common part: the parameters in order, and the end mark behind them (house)
 unfoldable pub layout : List Part → List ℕ

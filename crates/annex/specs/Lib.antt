@@ -26,6 +26,7 @@ pub mod Promises
 pub mod Bench
 pub mod Tariffs
 pub mod Circles
+pub mod Sequences
 -- And what the functions give that serve these: no rules of the documents, and no promise of the product rests on them.
 pub mod Walking
 pub mod Ordering

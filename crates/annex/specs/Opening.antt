@@ -10,7 +10,7 @@ use lib.Seq.{sets}
 use Rattle.annex.specs.Heads.{transfer-data, isCall}
 use Rattle.annex.specs.Items.{Item, itemOf}
 use Rattle.annex.specs.Reading.{callNumber}
-use Rattle.annex.specs.Records.{headOf, noTransfer, valueHead, dataHead}
+use Rattle.annex.specs.Records.{headOf, noTransfer, valueHead, octetHead, dataHead}
 use Rattle.annex.specs.Memory.{valuesFit}
 use Rattle.annex.specs.declared.Common.{Common}
 use Rattle.annex.specs.declared.Transfer.{Transfer}
@@ -36,4 +36,4 @@ openedValues h s used vs = valuesWith (itemOf h s) used vs
 -- the head of the common parameter with the header h and these octets behind it; a C5's has n transfer parameters
 abbrev pub partHead : ℕ → List ℕ → ℕ → Common
 partHead h own n =
-    cond (eqb h transfer-data) (dataHead n) (cond (isCall h) (valueHead h (callNumber own)) (valueHead h (getD own 0 0)))
+    cond (eqb h transfer-data) (dataHead n) (cond (isCall h) (valueHead h (callNumber own)) (octetHead h (getD own 0 0)))

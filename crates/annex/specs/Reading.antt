@@ -27,10 +27,9 @@ use Rattle.annex.specs.Answers.{
 }
 use Rattle.annex.specs.Units.{nameOf, afterOf, leadOf, extentOf, commonExtentOf, contentsIn}
 use Rattle.annex.specs.Heads.{
-  advanced-telephony,
   among,
   listedHeaders,
-  signalKinds,
+  valueAllowed,
   end-mark,
   user-class,
   signal-kind,
@@ -42,16 +41,16 @@ use Rattle.annex.specs.Heads.{
   oftenOf,
 }
 use Rattle.annex.specs.Contents.{Rule, faultOf}
-use Rattle.annex.specs.Items.{Item, Part, part, valuePart, itemOf}
+use Rattle.annex.specs.Items.{Item, Part, part, valuePart, valueIn, octetPart, itemOf}
 use Rattle.annex.specs.Walk.{Seen, unseen, timesSeen, Par, Step, walk, judging, listing}
 use Rattle.annex.specs.declared.Answer.{Answer}
 use Rattle.annex.specs.declared.Answer.the-variants.{Accepted}
 
 -- ---- the common part, but for what C5 holds
 
--- 5: the octet right after 01 or 06
-unfoldable pub octetAllowed : ℕ → ℕ → Bool
-octetAllowed h x = cond (eqb h user-class) (eqb x advanced-telephony) (cond (eqb h signal-kind) (among x signalKinds) true)
+-- 5: what the octet right after the header says
+abbrev pub octetAllowed : ℕ → ℕ → Bool
+octetAllowed h x = valueAllowed h (valueIn h x)
 
 -- 2 to 5
 unfoldable pub commonForm : ℕ → ℕ → List ℕ → Answer
@@ -144,9 +143,9 @@ module _ (rule : Rule) where
 
   unfoldable pub openCommonBy : Par → Part
   openCommonBy q =
-      cond (eqb (q .head) transfer-data) (part (q .head) 0 (map openTransfer (transfersBy (dataIn q))))
+      cond (eqb (q .head) transfer-data) (part (q .head) 0 0 (map openTransfer (transfersBy (dataIn q))))
       (cond (isCall (q .head)) (valuePart (q .head) (callNumber (q .own)))
-      (valuePart (q .head) (getD (q .own) 0 0)))
+      (octetPart (q .head) (getD (q .own) 0 0)))
 
   unfoldable pub recordBy : List ℕ → List Part
   recordBy m = map openCommonBy (withoutEnd (commonsBy m))

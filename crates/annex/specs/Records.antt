@@ -6,7 +6,7 @@ use mathlib.Core.List.{List, [], _∷_, _++_, map}
 use lib.Dec.{eqb, leb}
 use lib.ListN.{length, take, drop, replicate}
 use Rattle.annex.specs.Heads.{transfer-data, most-commons, most-transfers, most-values}
-use Rattle.annex.specs.Items.{Item, Part, item, part, ownOf}
+use Rattle.annex.specs.Items.{Item, Part, item, part, valueIn, moreDataIn, ownOf}
 use Rattle.annex.specs.Allowed.{itemsIn, ownPart}
 use Rattle.annex.specs.Reading.{verdictOf, recordOf}
 use Rattle.annex.specs.declared.Common.{Common}
@@ -18,16 +18,19 @@ use Rattle.annex.specs.declared.Answer.the-variants.{Accepted, Refused}
 
 -- ---- the parts of the struct
 
--- header, value, how many transfer parameters; only this names the fields one by one
-abbrev pub commonHead : ℕ → ℕ → ℕ → Common
-commonHead h v n = record { header = h; value = v; transfers = n }
+-- header, value, more-data mark, how many transfer parameters; only this names the fields one by one
+abbrev pub commonHead : ℕ → ℕ → ℕ → ℕ → Common
+commonHead h v m n = record { header = h; value = v; «more_data» = m; transfers = n }
 
--- a common parameter with one value: an octet, or a call number
+-- a common parameter with one value, and one of the octet x: 01, 04 or 06
 abbrev pub valueHead : ℕ → ℕ → Common
-valueHead h v = commonHead h v 0
+valueHead h v = commonHead h v 0 0
+
+abbrev pub octetHead : ℕ → ℕ → Common
+octetHead h x = commonHead h (valueIn h x) (moreDataIn h x) 0
 
 abbrev pub dataHead : ℕ → Common
-dataHead n = commonHead transfer-data 0 n
+dataHead n = commonHead transfer-data 0 0 n
 
 abbrev pub noCommon : Common
 noCommon = valueHead 0 0
@@ -72,7 +75,7 @@ headOf i =
     (i .screening) (length (i .values))
 
 abbrev pub commonHeadOf : Part → Common
-commonHeadOf p = commonHead (p .header) (p .value) (length (p .items))
+commonHeadOf p = commonHead (p .header) (p .value) (p .moreData) (length (p .items))
 
 unfoldable pub valuesOf : List Item → List ℕ
 valuesOf [] = []
@@ -95,7 +98,7 @@ rawItem t vs =
     (t .screening) vs
 
 abbrev pub rawPart : Common → List Item → Part
-rawPart c is = part (c .header) (c .value) is
+rawPart c is = part (c .header) (c .value) (c .«more_data») is
 
 -- the transfer parameter with this head and these values; what a parameter does not have is no part of it
 abbrev pub itemFrom : Transfer → List ℕ → Item

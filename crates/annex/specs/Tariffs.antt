@@ -5,7 +5,7 @@ use mathlib.Core.Path.{_≡_, refl}
 use mathlib.Core.List.{List, [], _∷_, _++_, map}
 use lib.ListN.{length, replicate}
 use Rattle.annex.specs.Units.{afterOf, leadOf, commonExtentOf, extentOf}
-use Rattle.annex.specs.Heads.{nameUsed, pliRight, oftenOf, zeroesOf, formOf}
+use Rattle.annex.specs.Heads.{valueAllowed, nameUsed, pliRight, oftenOf, zeroesOf, formOf}
 use Rattle.annex.specs.Rates.{
   isKind,
   fieldsOf,
@@ -20,10 +20,9 @@ use Rattle.annex.specs.Rates.{
 use Rattle.annex.specs.Contents.{chargingFault, faultOf}
 use Rattle.annex.specs.Items.{Part, plainItem, valuePart, dataPart, holdingOf, itemOf, contentsOf}
 use Rattle.annex.specs.Layout.{layoutItem, layoutItems, layoutPart, layout}
-use Rattle.annex.specs.Allowed.{lengthRight, faultIn, valueRight, valueFits}
+use Rattle.annex.specs.Allowed.{lengthRight, faultIn, valueFits}
 use Rattle.annex.specs.Walk.{walk}
 use Rattle.annex.specs.Reading.{
-  octetAllowed,
   commonForm,
   endOf,
   transferBy,
@@ -192,7 +191,7 @@ cases =
 pub tariffs : map asDefined cases ≡ cases
 unfolding afterOf leadOf commonExtentOf extentOf nameUsed pliRight oftenOf zeroesOf formOf isKind fieldsOf numbersDrawn drawnFault
     checkRight decimal fieldIn chargesOf chargingFault faultOf holdingOf itemOf contentsOf layoutItem layoutItems layoutPart layout
-    lengthRight faultIn valueRight valueFits walk transferBy transfersVerdictBy octetAllowed commonForm endOf dataBy commonBy
+    lengthRight faultIn valueFits walk transferBy transfersVerdictBy valueAllowed commonForm endOf dataBy commonBy
     messageVerdictBy verdictBy commonsBy transfersBy openCommonBy recordBy itemWriting itemsWriting dataWriting partWriting partsWriting
     overLimits recordWriting transferIn transferAmong transferFound editRefusal instead editedItems edited recordEditing editingOf
     bufferOf chargingOf octetCharging octetCharged

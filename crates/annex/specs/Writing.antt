@@ -73,8 +73,8 @@ unfoldable pub dataWriting : ℕ → List Item → Answer
 dataWriting p is =
     andThen (itemsWriting unseen (p + 2) is) (λ q. refuse (ltb most-transfer-octets (q - (p + 2))) transfer-over p (Accepted q))
 
--- a common parameter whose name stood so many times before, its header at the place p: 2, 3, 5, a number too large for its bits 12, and
--- for C5 its parameters; or the place behind it
+-- a common parameter whose name stood so many times before, its header at the place p: 2, 3, 5, a mark or number too large for its bits 12,
+-- and for C5 its parameters; or the place behind it
 unfoldable pub partWriting : ℕ → ℕ → Part → Answer
 partWriting times p q =
     refuse (not (among (q .header) commonHeaders)) unlisted p

@@ -3,7 +3,7 @@
 ghost use Rattle.annex.specs.Promises.{Gives};
 ghost use Rattle.annex.specs.Answers.{formed};
 ghost use Rattle.annex.specs.Units.{countedBy, wholeCount, octetsOf, halvesIn};
-ghost use Rattle.annex.specs.Records.{valueHead, dataHead, carriedHead, dialledHead, numberHead, noCommon, noTransfer};
+ghost use Rattle.annex.specs.Records.{valueHead, octetHead, dataHead, carriedHead, dialledHead, numberHead, noCommon, noTransfer};
 
 // What a call answers: accepted, with a count, or refused, with a number and a place.
 pub enum Answer {
@@ -172,10 +172,12 @@ impl Message {
     pub const MOST_ROWS: usize = Common::MOST + 1 + Transfer::MOST;
 }
 
-// A common parameter. value: the octet of 01, 04 and 06, the number of 82 and 83. transfers: how many parameters a C5 holds.
+// A common parameter. value: the octet of 01 and 06, the number of 82, 83 and 04. more_data: the mark of 04. transfers: how many parameters
+// a C5 holds.
 pub struct Common {
     pub header: u8,
     pub value: u32,
+    pub more_data: u8,
     pub transfers: u8,
 }
 
@@ -197,6 +199,9 @@ impl Common {
     // the one user class that is not spare
     pub const ADVANCED_TELEPHONY: u8 = 0x01;
 
+    // the one number of a sequence that is allowed
+    pub const SEQUENCE_NUMBER: u8 = 1;
+
     pub const MOST: usize = 6;
 
     pub const CALL_NUMBER_BELOW: u32 = 0x1000000;
@@ -208,17 +213,27 @@ impl Common {
         Common {
             header: 0,
             value: 0,
+            more_data: 0,
             transfers: 0,
         }
     }
 
-    // A parameter of one octet: 01, 04 or 06.
+    // A parameter of one octet: 01, 06, or 04, of which bit 7 is the more-data mark and bits 6-0 are the number.
     pub fn octet(header: u8, octet: u8) -> Common
-        ensures { λ r. ⌜ Gives (valueHead header octet) r ⌝ }
+        ensures { λ r. ⌜ Gives (octetHead header octet) r ⌝ }
     {
+        if header == Common::SEQUENCE {
+            return Common {
+                header: header,
+                value: (octet % 128) as u32,
+                more_data: octet / 128,
+                transfers: 0,
+            };
+        }
         Common {
             header: header,
             value: octet as u32,
+            more_data: 0,
             transfers: 0,
         }
     }
@@ -230,6 +245,7 @@ impl Common {
         Common {
             header: header,
             value: number,
+            more_data: 0,
             transfers: 0,
         }
     }
@@ -241,6 +257,7 @@ impl Common {
         Common {
             header: Common::TRANSFER_DATA,
             value: 0,
+            more_data: 0,
             transfers: transfers,
         }
     }
@@ -507,7 +524,7 @@ pub struct Imaged {
 
 impl Imaged {
     // the octets of a common parameter before its transfer parameters, and of a transfer parameter before its values
-    pub const COMMON_HEAD: usize = 6;
+    pub const COMMON_HEAD: usize = 7;
 
     pub const TRANSFER_HEAD: usize = 11;
 

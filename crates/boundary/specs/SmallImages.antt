@@ -11,7 +11,7 @@ use Rattle.annex.specs.Answers.{over-limits, missing, transfer-over, no-room, n
 use Rattle.annex.specs.Units.{extentOf}
 use Rattle.annex.specs.Heads.{among, commonHeaders, transfer-data, isCall, most-commons, most-transfers, most-transfer-octets}
 use Rattle.annex.specs.Items.{Item, Part}
-use Rattle.annex.specs.Layout.{callOctets, dataOctets, layoutItem, layoutItems, layoutPart, layout}
+use Rattle.annex.specs.Layout.{callOctets, octetOf, dataOctets, layoutItem, layoutItems, layoutPart, layout}
 use Rattle.annex.specs.Allowed.{every, isOctet, valueRight, valueFits, itemsIn, contentsSum}
 use Rattle.annex.specs.Walk.{Seen, unseen, timesSeen, counted}
 use Rattle.annex.specs.Reading.{wholeIn, verdictOf, recordOf}
@@ -44,7 +44,7 @@ use Rattle.boundary.specs.Small.{Upto, farthest, upto-more, upto-refuse,
 -- ---- read to an image
 
 -- the number of most-image that a program is compiled with
-pub image-max : most-image ≡ 1119
+pub image-max : most-image ≡ 1125
 image-max = refl
 
 -- with so much room, reading to an image is refused for what is wrong with the message alone, never for want of room
@@ -113,7 +113,7 @@ part-upto times p q =
     (upto-refuse (ltb 0 times) _ p n _ (omega arith)
     (upto-refuse (not (valueRight q)) _ p n _ (omega arith)
     (upto-refuse (not (valueFits q)) _ p n late (omega arith)
-    (go (eqb (q .header) transfer-data) (cond (isCall (q .header)) (callOctets (q .value)) (q .value ∷ []))))))
+    (go (eqb (q .header) transfer-data) (cond (isCall (q .header)) (callOctets (q .value)) (octetOf q ∷ []))))))
   where
     go : (b : Bool) (other : List ℕ)
         → Upto (p + length (q .header ∷ cond b (dataOctets (layoutItems (q .items))) other))
@@ -146,8 +146,8 @@ unfolding layoutPart
 part-few p = go (eqb (p .header) transfer-data) (isCall (p .header))
   where
     go : (b c : Bool)
-        → length (p .header ∷ cond b (dataOctets (layoutItems (p .items))) (cond c (callOctets (p .value)) (p .value ∷ []))) ≤ 4 + length
-        (layoutItems (p .items))
+        → length (p .header ∷ cond b (dataOctets (layoutItems (p .items))) (cond c (callOctets (p .value)) (octetOf p ∷ [])))
+        ≤ 4 + length (layoutItems (p .items))
     go true c = omega arith
     go false true = omega arith
     go false false = omega arith

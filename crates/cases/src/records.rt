@@ -28,6 +28,7 @@ fn changed(held: Record, what: u8, to: usize) -> Record {
         let d = Common {
             header: c.header,
             value: c.value,
+            more_data: c.more_data,
             transfers: (to % 256) as u8,
         };
         q.common[0] = d;

@@ -6,7 +6,7 @@ use octets::octet_at;
 use units::common_extent_of;
 use units::octets_after;
 ghost use Rattle.annex.specs.Promises.{Gives};
-ghost use Rattle.annex.specs.Heads.{among, listedHeaders, signalKinds};
+ghost use Rattle.annex.specs.Heads.{among, listedHeaders, signalKinds, valueAllowed};
 ghost use Rattle.annex.specs.Reading.{octetAllowed, commonForm, endOf};
 
 // Whether the header is one of a message's.
@@ -48,15 +48,34 @@ fn signal_listed(kind: Signal) -> bool
     }
 }
 
-// Whether the octet right after the header is allowed: of 01 the user class, of 06 a signal kind, of any other header every octet.
-pub fn octet_allowed(header: u8, octet: u8) -> bool
-    ensures { λ r. ⌜ Gives (octetAllowed header octet) r ⌝ }
+// Whether the value is a signal kind: none is over an octet.
+fn is_kind(value: u32) -> bool
+    ensures { λ r. ⌜ Gives (among value signalKinds) r ⌝ }
+{
+    if value < 256 {
+        return signal_listed(Signal(value as u8));
+    }
+    false
+}
+
+// Whether the value that stands with the header is allowed: of 01 the user class, of 06 a signal kind, of 04 the number of a sequence, of
+// any other header every value.
+pub fn value_allowed(header: u8, value: u32) -> bool
+    ensures { λ r. ⌜ Gives (valueAllowed header value) r ⌝ }
 {
     match header {
-        Common::USER_CLASS => octet == Common::ADVANCED_TELEPHONY,
-        Common::SIGNAL_KIND => signal_listed(Signal(octet)),
+        Common::USER_CLASS => value == Common::ADVANCED_TELEPHONY as u32,
+        Common::SIGNAL_KIND => is_kind(value),
+        Common::SEQUENCE => value == Common::SEQUENCE_NUMBER as u32,
         _ => true,
     }
+}
+
+// Whether what the octet right after the header says is allowed.
+fn octet_allowed(header: u8, octet: u8) -> bool
+    ensures { λ r. ⌜ Gives (octetAllowed header octet) r ⌝ }
+{
+    value_allowed(header, Common::octet(header, octet).value)
 }
 
 // 2 to 5 of a common parameter whose name stood so many times before, or how many of the octets xs after its header are its own.

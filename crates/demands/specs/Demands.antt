@@ -3,7 +3,7 @@
 --
 -- A function answers `r`; `now` is what it leaves in the memory it was lent. A slice of octets is a list of numbers, each below 256
 -- (`Octetwise`), and a struct has arrays of their lengths, with numbers that fit their fields (`FitsStruct`): that is what the types say.
-use Prim.Native.Nat.{ℕ, _+_, _/_, _≤_, _<_}
+use Prim.Native.Nat.{ℕ, _+_, _*_, _/_, _≤_, _<_}
 use mathlib.Core.Path.{_≡_}
 use mathlib.Core.Bool.{Bool, true, false}
 use mathlib.Core.List.{List, [], _∷_, _++_}
@@ -11,7 +11,7 @@ use mathlib.Core.Logic.{_↔_}
 use lib.ListN.{length, getD, take, drop}
 use Rattle.annex.specs.Answers.{absent, numberOf, classNumberOf}
 use Rattle.annex.specs.Units.{nameOf}
-use Rattle.annex.specs.Heads.{among, end-mark, charging-information, connection-order}
+use Rattle.annex.specs.Heads.{among, end-mark, sequence, sequence-number, charging-information, connection-order}
 use Rattle.annex.specs.Rates.{chargesOf, chargedContents, Chargeable}
 use Rattle.annex.specs.Orders.{OpenedOrder, layOrder, orderRight}
 use Rattle.annex.specs.Contents.{faultOf}
@@ -206,6 +206,10 @@ pub record Demand2 : Type 0 where
       → (part : List ℕ) → FindCommonPromise m h part → part ≡ []
   pub transfer-empty : (m : List ℕ) (x k p : ℕ) → FindTransferAnswerPromise m x (Refused k p)
       → (part : List ℕ) → FindTransferPromise m x part → part ≡ []
+  -- Of its sequence nothing is carried unread (document 02, request d): the number is 1, and the mark above it is told by both.
+  pub sequenced : (s : List Part) → Allowed s → (ahead : List Part) (q : Part) (behind : List Part) → s ≡ ahead ++ (q ∷ behind)
+      → q .header ≡ sequence → (part : List ℕ) → FindCommonPromise (layout s) sequence part
+      → (q .value ≡ sequence-number) × (q .moreData ≤ 1) × (part ≡ (128 * q .moreData + sequence-number) ∷ [])
   -- And the charging answer tells what the contents of its first F7 say (document 02, request a). It is given exactly if there is one. What
   -- is told may be said, and F7's contents are drawn from it; and what F7 was drawn from is told.
   pub charged : (s : List Part) → Allowed s → (front : List Item) (one : Item) (back : List Item) → itemsIn s ≡ front ++ (one ∷ back)

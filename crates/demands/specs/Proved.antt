@@ -104,7 +104,7 @@ use Rattle.theorems.specs.Buffers.{buffer-edited, buffer-refused}
 use Rattle.theorems.specs.InPlace.{in-place}
 use Rattle.theorems.specs.Places.{isFound, found-at, name-there, common-is}
 use Rattle.theorems.specs.Listings.{partRows, rows-of-record, rows-counted}
-use Rattle.theorems.specs.Finds.{transfer-contents, common-contents}
+use Rattle.theorems.specs.Finds.{transfer-contents, common-contents, sequence-said}
 use Rattle.tight.specs.Told.{
   verdict-told,
   find-told,
@@ -462,6 +462,10 @@ demand-2 =
       transfer-there = transfer-so;
       common-empty = λ m h k p a part q. q ∙ empty-so m (commonFound h m) k p a;
       transfer-empty = λ m x k p a part q. q ∙ empty-so m (transferFound x 0 m) k p a;
+      sequenced = λ s a ahead q behind w h part p.
+          let e = sequence-said s a ahead q behind w h in
+          let there = ap (λ (x : ℕ). findPart (layout s) (commonFound x (layout s))) (sym h) in
+          (e .number, e .mark, p ∙ there ∙ common-contents s a ahead q behind w ∙ e .contents);
       charged = λ s a front one back w h b r p.
           let i = item-allowed s a front one back w in
           let d = item-charged one i h in

@@ -49,16 +49,19 @@ pub fn common_head(s: &[u8]) -> Common
     let third = octet_at(s, 3) as u32;
     let fourth = octet_at(s, 4) as u32;
     let value = first + 256 * second + 65536 * third + 16777216 * fourth;
+    let more_data = octet_at(s, 5);
     if header == Common::TRANSFER_DATA {
         return Common {
             header: header,
             value: value,
-            transfers: octet_at(s, 5),
+            more_data: more_data,
+            transfers: octet_at(s, 6),
         };
     }
     Common {
         header: header,
         value: value,
+        more_data: more_data,
         transfers: 0,
     }
 }

@@ -101,7 +101,8 @@ fn put_common(c: Common, at: usize, out: &mut [u8])
     out[at + 2] = (value / 256 % 256) as u8;
     out[at + 3] = (value / 65536 % 256) as u8;
     out[at + 4] = (value / 16777216 % 256) as u8;
-    out[at + 5] = c.transfers;
+    out[at + 5] = c.more_data;
+    out[at + 6] = c.transfers;
 }
 
 // Writes a common parameter from `at` on, the parameters of a C5 behind the place of its head and then the head: where it ends.

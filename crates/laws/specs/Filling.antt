@@ -10,11 +10,11 @@ use borrow.Author.Tests.{eqb-true}
 use lib.ListN.{length, getD, drop, set, replicate, length-map, length-replicate}
 use lib.Seq.{sets, sets-eq}
 use Rattle.annex.specs.Heads.{transfer-data, isCall, most-transfers, most-commons, most-values}
-use Rattle.annex.specs.Items.{Item, Part, part, valuePart}
+use Rattle.annex.specs.Items.{Item, Part, part, valuePart, octetPart}
 use Rattle.annex.specs.Allowed.{itemsIn}
 use Rattle.annex.specs.Walk.{Par}
 use Rattle.annex.specs.Reading.{callNumber, openTransfer, dataIn, openCommon, transfersOf, openCommonBy}
-use Rattle.annex.specs.Records.{valueHead, dataHead, noCommon, noTransfer, pad, headOf, commonHeadOf, valuesOf, pack, commonHead}
+use Rattle.annex.specs.Records.{valueHead, octetHead, dataHead, noCommon, noTransfer, pad, headOf, commonHeadOf, valuesOf, pack, commonHead}
 use Rattle.annex.specs.Opening.{partHead}
 use Rattle.annex.specs.declared.Common.{Common}
 use Rattle.annex.specs.declared.Record.{Record}
@@ -161,7 +161,7 @@ parts-turn q p ps k used =
 -- ---- a common parameter opened
 
 items-of : (a b : Bool) (h v w : ℕ) (is : List Item)
-    → cond {A = Part} a (part h 0 is) (cond b (valuePart h v) (valuePart h w)) .items ≡ cond a is []
+    → cond {A = Part} a (part h 0 0 is) (cond b (valuePart h v) (octetPart h w)) .items ≡ cond a is []
 items-of true b h v w is = refl
 items-of false true h v w is = refl
 items-of false false h v w is = refl
@@ -182,14 +182,14 @@ head-opened q = by (eqb (q .head) transfer-data) refl (isCall (q .head))
 
     by : (a : Bool) → eqb (q .head) transfer-data ≡ a → (b : Bool)
         → commonHeadOf
-        (cond a (part (q .head) 0 is) (cond b (valuePart (q .head) (callNumber (q .own))) (valuePart (q .head) (getD (q .own) 0 0))))
+        (cond a (part (q .head) 0 0 is) (cond b (valuePart (q .head) (callNumber (q .own))) (octetPart (q .head) (getD (q .own) 0 0))))
         ≡ cond a
         (dataHead
         (length
-        (cond {A = Part} a (part (q .head) 0 is)
-        (cond b (valuePart (q .head) (callNumber (q .own))) (valuePart (q .head) (getD (q .own) 0 0))) .items)))
-        (cond b (valueHead (q .head) (callNumber (q .own))) (valueHead (q .head) (getD (q .own) 0 0)))
-    by true e b = ap (λ (h : ℕ). commonHead h 0 (length is)) (eqb-true (q .head) transfer-data e)
+        (cond {A = Part} a (part (q .head) 0 0 is)
+        (cond b (valuePart (q .head) (callNumber (q .own))) (octetPart (q .head) (getD (q .own) 0 0))) .items)))
+        (cond b (valueHead (q .head) (callNumber (q .own))) (octetHead (q .head) (getD (q .own) 0 0)))
+    by true e b = ap (λ (h : ℕ). commonHead h 0 0 (length is)) (eqb-true (q .head) transfer-data e)
     by false e true = refl
     by false e false = refl
 

@@ -1,15 +1,16 @@
 -- The octets of a common parameter, as the code lays it out: by its head alone, or a C5 with its transfer parameters.
-use Prim.Native.Nat.{ℕ, suc, _≤_}
+use Prim.Native.Nat.{ℕ, suc, _+_, _*_, _≤_}
 use native.Mathlib.Omega.{arith}
-use mathlib.Core.Path.{_≡_, refl}
+use mathlib.Core.Path.{_≡_, refl, ap}
 use mathlib.Core.Bool.{Bool, true, false, cond}
 use mathlib.Core.List.{List, [], _∷_}
 use borrow.Author.Tests.{eqb-true, ne-eqb}
 use lib.Dec.{eqb}
 use lib.ListN.{length}
-use Rattle.annex.specs.Heads.{transfer-data, isCall}
-use Rattle.annex.specs.Items.{Item}
-use Rattle.annex.specs.Layout.{layoutItems, callOctets, dataOctets, layoutPart}
+use Rattle.annex.specs.Heads.{sequence, transfer-data, isCall}
+use Rattle.annex.specs.Items.{Item, part}
+use Rattle.annex.specs.Layout.{layoutItems, callOctets, octetOf, dataOctets, layoutPart}
+use Rattle.annex.specs.Allowed.{ownMark}
 use Rattle.annex.specs.Records.{rawPart}
 use Rattle.annex.specs.declared.Common.{Common}
 use Rattle.limits.specs.Along.{partFrom}
@@ -35,15 +36,25 @@ unfolding layoutPart layoutItems
 head-laid c = go (eqb (c .header) transfer-data) refl (isCall (c .header)) refl
   where
     go : (a : Bool) → eqb (c .header) transfer-data ≡ a → (b : Bool) → isCall (c .header) ≡ b
-        → suc (length (cond a (dataOctets (layoutItems [])) (cond b (callOctets (c .value)) (c .value ∷ [])))) ≡ headLength (c .header)
+        → suc (length (cond a (dataOctets (layoutItems [])) (cond b (callOctets (c .value)) (octetOf (rawPart c []) ∷ []))))
+        ≡ headLength (c .header)
     go true e b f = rw (eqb-true (c .header) transfer-data e)
     go false e true f = rw f
     go false e false f = rw f
 
 module _ (c : Common) (is : List Item) where
-  -- one that is no C5
+  -- one that is no C5: a more-data mark that is not its own is not laid out
   pub plain-laid : (c .header ≡ transfer-data → ⊥) → layoutPart (partFrom c is) ≡ layoutPart (rawPart c [])
-  plain-laid u = rw (ne-eqb (c .header) transfer-data u)
+  unfolding layoutPart
+  plain-laid u =
+      let h = c .header in
+      let e = ne-eqb h transfer-data u in
+      let own : partFrom c is ≡ part h (c .value) (ownMark h (c .«more_data»)) [] = rw e in
+      rw own (rw e (ap (λ (x : ℕ). h ∷ cond (isCall h) (callOctets (c .value)) (x ∷ [])) (go (eqb h sequence))))
+    where
+      go : (b : Bool) → cond b (128 * cond b (c .«more_data») 0 + c .value) (c .value) ≡ cond b (128 * c .«more_data» + c .value) (c .value)
+      go true = refl
+      go false = refl
 
   pub data-laid : c .header ≡ transfer-data → layoutPart (partFrom c is) ≡ dataLaid is
   unfolding layoutPart

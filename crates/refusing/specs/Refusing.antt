@@ -6,29 +6,27 @@ use mathlib.Core.Path.{_≡_, refl, sym, ap, _∙_}
 use mathlib.Core.Bool.{Bool, true, false, cond, not}
 use mathlib.Core.List.{List, [], _∷_}
 use borrow.Author.Tests.{ltb-true, ltb-false, eq-eqb, ne-eqb, eqb-true, eqb-false}
-use lib.Dec.{eqb, ltb}
+use lib.Dec.{eqb, leb, ltb}
 use lib.ListN.{length, length-append}
 use Rattle.annex.specs.Answers.{unlisted, repeated, not-allowed, missing, bad-form, transfer-over, refuse, andThen}
 use Rattle.annex.specs.Heads.{
   among,
   commonHeaders,
-  user-class,
-  signal-kind,
-  signalKinds,
+  valueAllowed,
+  sequence,
   transfer-data,
   most-transfer-octets,
 }
 use Rattle.annex.specs.Items.{Item, Part}
 use Rattle.annex.specs.Layout.{layoutItems, layoutPart}
-use Rattle.annex.specs.Allowed.{every, isOctet, valueRight, valueFits}
+use Rattle.annex.specs.Allowed.{valueRight, valueFits}
 use Rattle.annex.specs.Walk.{Seen, unseen, timesSeen, counted}
-use Rattle.annex.specs.Reading.{octetAllowed, wholeIn}
+use Rattle.annex.specs.Reading.{wholeIn}
 use Rattle.annex.specs.Records.{rawPart}
 use Rattle.annex.specs.Writing.{itemWriting, itemsWriting, dataWriting, partWriting, endWriting, partsWriting}
 use Rattle.annex.specs.declared.Answer.{Answer}
 use Rattle.annex.specs.declared.Answer.the-variants.{Accepted, Refused}
 use Rattle.annex.specs.declared.Common.{Common}
-use Rattle.laws.specs.Bools.{and-left, and-right}
 use Rattle.laws.specs.Steps.{passed, then-passed, refuse-then}
 use Rattle.laws.specs.Places.{toldAt, refuse-told, item-told}
 use Rattle.theorems.specs.Writings.{item-written}
@@ -68,25 +66,6 @@ items-behind (i ∷ is) seen p n e =
 
 -- ---- a common parameter
 
--- what is no octet is neither the user class nor a signal kind
-among-over : (ks : List ℕ) → every isOctet ks ≡ true → (v : ℕ) → 256 ≤ v → among v ks ≡ false
-among-over [] o v h = refl
-among-over (k ∷ ks) o v h =
-    let small = ltb-true k 256 (and-left (isOctet k) _ o) in
-    rw (ne-eqb v k (λ e. omega arith)) (among-over ks (and-right (isOctet k) _ o) v h)
-
-pub class-over : (v : ℕ) → 256 ≤ v → octetAllowed user-class v ≡ false
-unfolding octetAllowed
-class-over v h = ne-eqb v 0x01 (λ e. omega arith)
-
-pub octet-over : (h v : ℕ) → 256 ≤ v → (h ≡ user-class → ⊥) → octetAllowed h v ≡ not (eqb h signal-kind)
-unfolding octetAllowed
-octet-over h v o u = rw (ne-eqb h user-class u, among-over signalKinds refl v o) (go (eqb h signal-kind))
-  where
-    go : (b : Bool) → cond b false true ≡ not b
-    go true = refl
-    go false = refl
-
 module _ (c : Common) (is : List Item) where
   part-header : partFrom c is .header ≡ c .header
   part-header = go (eqb (c .header) transfer-data) refl
@@ -96,13 +75,18 @@ module _ (c : Common) (is : List Item) where
       go false e = rw e
 
   -- C5 has no value
-  part-right : valueRight (partFrom c is) ≡ octetAllowed (c .header) (c .value)
-  unfolding valueRight octetAllowed
+  part-right : valueRight (partFrom c is) ≡ valueAllowed (c .header) (c .value)
+  unfolding valueAllowed
   part-right = go (eqb (c .header) transfer-data) refl
     where
-      go : (b : Bool) → eqb (c .header) transfer-data ≡ b → valueRight (partFrom c is) ≡ octetAllowed (c .header) (c .value)
+      go : (b : Bool) → eqb (c .header) transfer-data ≡ b → valueRight (partFrom c is) ≡ valueAllowed (c .header) (c .value)
       go true e = rw (e, eqb-true (c .header) transfer-data e)
       go false e = rw e
+
+  -- only the mark of 04 is looked at
+  marked : (b : Bool) (a : Bool) → cond b (leb (cond b (c .«more_data») 0) 1) a ≡ cond b (leb (c .«more_data») 1) a
+  marked true a = refl
+  marked false a = refl
 
   part-fits : valueFits (partFrom c is) ≡ valueFits (rawPart c [])
   unfolding valueFits
@@ -110,20 +94,20 @@ module _ (c : Common) (is : List Item) where
     where
       go : (b : Bool) → eqb (c .header) transfer-data ≡ b → valueFits (partFrom c is) ≡ valueFits (rawPart c [])
       go true e = rw (e, eqb-true (c .header) transfer-data e)
-      go false e = rw e
+      go false e = rw e (marked (eqb (c .header) sequence) _)
 
 -- the tests of a common parameter, 2, 3, 5 and 12, before what then follows
 abbrev pub headThen : ℕ → ℕ → Common → Answer → Answer
 headThen times p c a =
     refuse (not (among (c .header) commonHeaders)) unlisted p
     (refuse (ltb 0 times) repeated p
-    (refuse (not (octetAllowed (c .header) (c .value))) not-allowed p
+    (refuse (not (valueAllowed (c .header) (c .value))) not-allowed p
     (refuse (not (valueFits (rawPart c []))) bad-form p
     a)))
 
 -- at the place 0, its transfer parameters aside: refused, or how many octets it takes
 pub head-checked : (times : ℕ) (c : Common) → partWriting times 0 (rawPart c []) ≡ headThen times 0 c (Accepted (headLength (c .header)))
-unfolding partWriting dataWriting itemsWriting valueRight octetAllowed
+unfolding partWriting dataWriting itemsWriting
 head-checked times c = ap (headThen times 0 c) (go (eqb (c .header) transfer-data) refl)
   where
     go : (b : Bool) → eqb (c .header) transfer-data ≡ b
@@ -136,7 +120,7 @@ head-told : (times p n : ℕ) (c : Common) → headThen times p c (Accepted (p +
 head-told times p n c =
     refuse-told p (not (among (c .header) commonHeaders)) unlisted _ _
     (refuse-told p (ltb 0 times) repeated _ _
-    (refuse-told p (not (octetAllowed (c .header) (c .value))) not-allowed _ _
+    (refuse-told p (not (valueAllowed (c .header) (c .value))) not-allowed _ _
     (refuse-told p (not (valueFits (rawPart c []))) bad-form _ (Accepted n)
     refl)))
 
@@ -172,7 +156,7 @@ pub part-head-passed : (times : ℕ) (c : Common) (n : ℕ) → partWriting time
 part-head-passed times c n e =
     let e₁ = passed (not (among (c .header) commonHeaders)) _ 0 n _ (sym (head-checked times c) ∙ e) in
     let e₂ = passed (ltb 0 times) _ 0 n _ (e₁ .1) in
-    let e₃ = passed (not (octetAllowed (c .header) (c .value))) _ 0 n _ (e₂ .1) in
+    let e₃ = passed (not (valueAllowed (c .header) (c .value))) _ 0 n _ (e₂ .1) in
     let e₄ = passed (not (valueFits (rawPart c []))) _ 0 n (Accepted (headLength (c .header))) (e₃ .1) in
     let end : Accepted (headLength (c .header)) ≡ Accepted n = e₄ .1 in
     let same : headLength (c .header) ≡ n = cc in

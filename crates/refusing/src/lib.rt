@@ -6,7 +6,7 @@ use annex::Record;
 use annex::Transfer;
 use common::call::is_call;
 use common::form::listed;
-use common::form::octet_allowed;
+use common::form::value_allowed;
 use layout::refusal;
 use limits::over_limits;
 use limits::values_before;
@@ -21,7 +21,6 @@ ghost use Rattle.annex.specs.Promises.{Gives, RecordRefusalPromise};
 ghost use Rattle.annex.specs.Items.{valuePart};
 ghost use Rattle.annex.specs.Layout.{layoutPart};
 ghost use Rattle.annex.specs.Allowed.{valueFits};
-ghost use Rattle.annex.specs.Reading.{octetAllowed};
 ghost use Rattle.annex.specs.Records.{rawPart, view};
 ghost use Rattle.annex.specs.Walk.{unseen};
 ghost use Rattle.annex.specs.Writing.{itemsWriting, dataWriting, partWriting, endWriting, partsWriting};
@@ -83,28 +82,13 @@ fn data_refusal(q: Record, first: usize, n: usize, at: usize) -> Answer
     Answer::Accepted(end)
 }
 
-// Whether the value of 01 is the user class, and that of 06 a signal kind.
-fn value_right(c: Common) -> bool
-    ensures { λ r. ⌜ r ≡ octetAllowed (c .header) (c .value) ⌝ }
-{
-    let header = c.header;
-    let value = c.value;
-    if value < 256 {
-        return octet_allowed(header, value as u8);
-    }
-    if header == Common::USER_CLASS {
-        return false;
-    }
-    header != Common::SIGNAL_KIND
-}
-
-// Whether the value of 04 is an octet, and a call number has 24 bits.
+// Whether the more-data mark of 04 has one bit, and a call number 24.
 fn value_fits(c: Common) -> bool
     ensures { λ r. ⌜ r ≡ valueFits (rawPart c []) ⌝ }
 {
     let value = c.value;
     if c.header == Common::SEQUENCE {
-        return value < 256;
+        return c.more_data <= 1;
     }
     if is_call(c.header) {
         return value < Common::CALL_NUMBER_BELOW;
@@ -119,8 +103,8 @@ pub fn head_len(header: u8) -> usize
     if is_call(header) { 4 } else { 2 }
 }
 
-// A common parameter, its transfer parameters aside, whose name stood so many times before: 2, 3, 5, a number too large for its bits 12, at
-// place 0, or accepted with how many octets it takes.
+// A common parameter, its transfer parameters aside, whose name stood so many times before: 2, 3, 5, a mark or number too large for its
+// bits 12, at place 0, or accepted with how many octets it takes.
 pub fn head_refusal(times: u8, c: Common) -> Answer
     ensures { λ r. ⌜ Gives (partWriting times 0 (rawPart c [])) r ⌝ }
 {
@@ -134,7 +118,7 @@ pub fn head_refusal(times: u8, c: Common) -> Answer
     if 0 < times {
         return Answer::Refused(Answer::REPEATED, 0);
     }
-    if !value_right(c) {
+    if !value_allowed(header, c.value) {
         return Answer::Refused(Answer::NOT_ALLOWED, 0);
     }
     if !value_fits(c) {

@@ -3,13 +3,16 @@
 use Prim.Native.Nat.{ℕ, suc, _+_, _*_, _/_, _%_, _≤_, _<_}
 use native.Mathlib.Omega.{arith}
 use mathlib.Core.Path.{_≡_, refl, ap}
-use mathlib.Core.Bool.{Bool, true, false, cond}
+use mathlib.Core.Bool.{true, false}
 use mathlib.Core.List.{List, [], _∷_, map}
-use borrow.Author.Tests.{ltb-true, lt-ltb, leb-true, eqb-true}
+use borrow.Author.Tests.{ltb-true, lt-ltb, leb-true, le-leb, eqb-true}
 use lib.Dec.{eqb}
 use lib.ListN.{length, getD, drop}
 use Rattle.annex.specs.Units.{nameOf, afterOf, leadOf, commonExtentOf, contentsIn}
 use Rattle.annex.specs.Heads.{
+  advanced-telephony,
+  sequence-number,
+  valueAllowed,
   among,
   user-class,
   partners-call,
@@ -23,11 +26,11 @@ use Rattle.annex.specs.Heads.{
   call-number-below,
   most-transfer-octets,
 }
-use Rattle.annex.specs.Items.{Item, Part, valuePart, dataPart}
-use Rattle.annex.specs.Layout.{layoutItems, layoutPart, callOctets, dataOctets}
+use Rattle.annex.specs.Items.{Item, Part, valuePart, dataPart, valueIn, octetPart}
+use Rattle.annex.specs.Layout.{layoutItems, layoutPart, callOctets, octetOf, dataOctets}
 use Rattle.annex.specs.Allowed.{every, isOctet, HeldItem, HeldPart, valueRight, valueFits}
 use Rattle.annex.specs.Walk.{Par}
-use Rattle.annex.specs.Reading.{transfersOf, octetAllowed, openTransfer, openCommon, callNumber, openCommonBy}
+use Rattle.annex.specs.Reading.{transfersOf, openTransfer, openCommon, callNumber, openCommonBy}
 use Rattle.annex.specs.declared.Extent.the-variants.{Fixed, Counted}
 use Rattle.annex.specs.declared.CountingUnit.the-variants.{Octet}
 use Rattle.laws.specs.Bools.{and-left, and-right, and-both}
@@ -36,19 +39,29 @@ use Rattle.theorems.specs.Lengths.{cut}
 use Rattle.theorems.specs.Steps.{CommonOwn}
 use Rattle.theorems.specs.Transfers.{AllowedItem, AllowedItems, transfers-read, transfers-built}
 
--- ---- the three kinds
+-- ---- the four kinds
 
 -- the most octets of a common parameter, by its name; with the end mark they come to 272
 abbrev pub mostOf : ℕ → ℕ
 mostOf x = getD (1 ∷ 2 ∷ 4 ∷ 4 ∷ 2 ∷ 257 ∷ 2 ∷ []) x 0
 
--- 01, 04 and 06: one octet, which the rules keep an octet in a record too
+-- 01 and 06: one octet, which the rules keep an octet in a record too
 pub record OneOctet (h : ℕ) : Type 0 where
   pub plain : eqb h transfer-data ≡ false
   pub uncalled : isCall h ≡ false
+  pub unsequenced : eqb h sequence ≡ false
   pub extent : commonExtentOf h ≡ Fixed 1
   pub most : mostOf (nameOf h) ≡ 2
-  pub small : (v : ℕ) → octetAllowed h v ≡ true → cond (eqb h sequence) (isOctet v) true ≡ true → v < 256
+  pub small : (v : ℕ) → valueAllowed h v ≡ true → v < 256
+
+-- 04: one octet, a number and a mark above it
+pub record SequenceKind (h : ℕ) : Type 0 where
+  pub plain : eqb h transfer-data ≡ false
+  pub uncalled : isCall h ≡ false
+  pub isSequence : eqb h sequence ≡ true
+  pub extent : commonExtentOf h ≡ Fixed 1
+  pub most : mostOf (nameOf h) ≡ 2
+  pub one : (v : ℕ) → valueAllowed h v ≡ true → v ≡ sequence-number
 
 -- 82 and 83: three octets, of which none is refused
 pub record CallNumber (h : ℕ) : Type 0 where
@@ -57,55 +70,66 @@ pub record CallNumber (h : ℕ) : Type 0 where
   pub unsequenced : eqb h sequence ≡ false
   pub extent : commonExtentOf h ≡ Fixed 3
   pub most : mostOf (nameOf h) ≡ 4
-  pub free : (v : ℕ) → octetAllowed h v ≡ true
+  pub free : (v : ℕ) → valueAllowed h v ≡ true
 
 -- C5: a length octet and its parameters
 pub record DataKind (h : ℕ) : Type 0 where
   pub isData : eqb h transfer-data ≡ true
   pub extent : commonExtentOf h ≡ Counted Octet
   pub most : mostOf (nameOf h) ≡ 257
-  pub free : (v : ℕ) → octetAllowed h v ≡ true
+  pub free : (v : ℕ) → valueAllowed h v ≡ true
 
 pub data Kind (h : ℕ) : Type 0 where
   octet : OneOctet h → Kind h
+  marked : SequenceKind h → Kind h
   call : CallNumber h → Kind h
   many : DataKind h → Kind h
 
 class-octet : OneOctet user-class
-unfolding commonExtentOf octetAllowed
-class-octet = record { plain = refl; uncalled = refl; extent = refl; most = refl; small = λ v e f. omega (arith, eqb-true v 1 e) }
+unfolding commonExtentOf valueAllowed
+class-octet =
+    record {
+      plain = refl;
+      uncalled = refl;
+      unsequenced = refl;
+      extent = refl;
+      most = refl;
+      small = λ v e. omega (arith, eqb-true v advanced-telephony e);
+    }
 
-sequence-octet : OneOctet sequence
-unfolding commonExtentOf octetAllowed
-sequence-octet = record { plain = refl; uncalled = refl; extent = refl; most = refl; small = λ v e f. ltb-true v 256 f }
+sequence-kind : SequenceKind sequence
+unfolding commonExtentOf valueAllowed
+sequence-kind =
+    record { plain = refl; uncalled = refl; isSequence = refl; extent = refl; most = refl; one = λ v e. eqb-true v sequence-number e }
 
 kind-octet : OneOctet signal-kind
-unfolding commonExtentOf octetAllowed
+unfolding commonExtentOf valueAllowed
 kind-octet =
     record {
       plain = refl;
       uncalled = refl;
+      unsequenced = refl;
       extent = refl;
       most = refl;
-      small = λ v e f. among-each (λ k. k < 256) signalKinds (omega arith) v e;
+      small = λ v e. among-each (λ k. k < 256) signalKinds (omega arith) v e;
     }
 
 partners-number : CallNumber partners-call
-unfolding commonExtentOf octetAllowed
+unfolding commonExtentOf valueAllowed
 partners-number = record { plain = refl; called = refl; unsequenced = refl; extent = refl; most = refl; free = λ v. refl }
 
 own-number : CallNumber own-call
-unfolding commonExtentOf octetAllowed
+unfolding commonExtentOf valueAllowed
 own-number = record { plain = refl; called = refl; unsequenced = refl; extent = refl; most = refl; free = λ v. refl }
 
 data-kind : DataKind transfer-data
-unfolding commonExtentOf octetAllowed
+unfolding commonExtentOf valueAllowed
 data-kind = record { isData = refl; extent = refl; most = refl; free = λ v. refl }
 
 pub kind : (h : ℕ) → among h commonHeaders ≡ true → Kind h
 kind h e =
     among-each Kind commonHeaders
-    (octet class-octet, (call partners-number, (call own-number, (octet sequence-octet, (octet kind-octet, (many data-kind, tt))))))
+    (octet class-octet, (call partners-number, (call own-number, (marked sequence-kind, (octet kind-octet, (many data-kind, tt))))))
     h e
 
 -- one allowed common parameter
@@ -121,7 +145,7 @@ unfolding layoutItems
 no-items = record { each = tt; often = λ u. omega arith; few-octets = omega arith }
 
 pub data-allowed : (is : List Item) → AllowedItems is → AllowedPart (dataPart is)
-unfolding valueRight valueFits
+unfolding valueAllowed valueFits
 data-allowed is a =
     record {
       held = record { octet = omega arith; own = refl; each = each-so AllowedItem HeldItem (λ i b. b .held) is (a .each) };
@@ -140,27 +164,44 @@ pub record PartRead (h : ℕ) (own : List ℕ) (p : Part) : Type 0 where
   pub allowed : AllowedPart p
 
 octet-read : (times h : ℕ) (own : List ℕ) → h < 256 → every isOctet own ≡ true → OneOctet h → CommonOwn times h own → length own ≡ 1
-    → PartRead h own (valuePart h (getD own 0 0))
-unfolding layoutPart valueRight valueFits octetAllowed
+    → PartRead h own (octetPart h (getD own 0 0))
+unfolding layoutPart valueFits
 octet-read times h [] s o k c l = absurd (omega arith)
 octet-read times h (x ∷ y ∷ own) s o k c l = absurd (omega arith)
 octet-read times h (x ∷ []) s o k c l =
     record {
       header = refl;
-      laid = rw (k .plain, k .uncalled);
+      laid = rw (k .plain, k .uncalled, k .unsequenced);
       allowed =
           record {
-            held = record { octet = s; own = rw (k .plain); each = tt };
+            held = record { octet = s; own = rw (k .plain, k .unsequenced); each = tt };
             listed = c .listed;
             right = c .allowed;
-            fits = rw (k .uncalled, and-left (isOctet x) _ o) (either (eqb h sequence));
+            fits = rw (k .uncalled, k .unsequenced);
             items = no-items;
           };
     }
-  where
-    either : (b : Bool) → cond b true true ≡ true
-    either true = refl
-    either false = refl
+
+sequence-read : (times h : ℕ) (own : List ℕ) → h < 256 → every isOctet own ≡ true → SequenceKind h → CommonOwn times h own
+    → length own ≡ 1 → PartRead h own (octetPart h (getD own 0 0))
+unfolding layoutPart valueFits
+sequence-read times h [] s o k c l = absurd (omega arith)
+sequence-read times h (x ∷ y ∷ own) s o k c l = absurd (omega arith)
+sequence-read times h (x ∷ []) s o k c l =
+    let x< = ltb-true x 256 (and-left (isOctet x) _ o) in
+    let again : 128 * (x / 128) + x % 128 ≡ x = omega arith in
+    record {
+      header = refl;
+      laid = rw (k .plain, k .uncalled, k .isSequence, again);
+      allowed =
+          record {
+            held = record { octet = s; own = rw (k .plain, k .isSequence); each = tt };
+            listed = c .listed;
+            right = c .allowed;
+            fits = rw (k .isSequence) (le-leb (x / 128) 1 (omega arith));
+            items = no-items;
+          };
+    }
 
 -- the octets of a call number, least first
 low-octet : (x n : ℕ) → x < 256 → (x + 256 * n) % 256 ≡ x
@@ -174,7 +215,7 @@ last-octet w z h g = let e : (w + 65536 * z) / 65536 ≡ z = omega arith in rw e
 
 call-read : (times h : ℕ) (own : List ℕ) → h < 256 → every isOctet own ≡ true → CallNumber h → CommonOwn times h own → length own ≡ 3
     → PartRead h own (valuePart h (callNumber own))
-unfolding layoutPart valueRight valueFits octetAllowed
+unfolding layoutPart valueFits
 call-read times h [] s o k c l = absurd (omega arith)
 call-read times h (x ∷ []) s o k c l = absurd (omega arith)
 call-read times h (x ∷ y ∷ []) s o k c l = absurd (omega arith)
@@ -194,7 +235,7 @@ call-read times h (x ∷ y ∷ z ∷ []) s o k c l =
       laid = rw (k .plain, k .called, ex, ey, ez);
       allowed =
           record {
-            held = record { octet = s; own = rw (k .plain); each = tt };
+            held = record { octet = s; own = rw (k .plain, k .unsequenced); each = tt };
             listed = c .listed;
             right = k .free v;
             fits = rw (k .unsequenced, k .called) (lt-ltb v call-number-below (omega arith));
@@ -224,6 +265,7 @@ part-read q times s o c = go (kind (q .head) (c .listed))
   where
     go : Kind (q .head) → PartRead (q .head) (q .own) (openCommon q)
     go (octet k) = rw (k .plain, k .uncalled) (octet-read times (q .head) (q .own) s o k c (rw (k .extent) at (c .long)))
+    go (marked k) = rw (k .plain, k .uncalled) (sequence-read times (q .head) (q .own) s o k c (rw (k .extent) at (c .long)))
     go (call k) = rw (k .plain, k .called) (call-read times (q .head) (q .own) s o k c (rw (k .extent) at (c .long)))
     go (many k) =
         let e = eqb-true (q .head) transfer-data (k .isData) in
@@ -242,12 +284,10 @@ pub record PartBuilt (p : Part) (own : List ℕ) : Type 0 where
   pub octets : every isOctet own ≡ true
   pub most : suc (length own) ≤ mostOf (nameOf (p .header))
 
-octet-built : (p : Part) → AllowedPart p → OneOctet (p .header) → PartBuilt p (p .value ∷ [])
-unfolding layoutPart openCommonBy afterOf valueRight valueFits octetAllowed
+octet-built : (p : Part) → AllowedPart p → OneOctet (p .header) → PartBuilt p (octetOf p ∷ [])
+unfolding layoutPart openCommonBy afterOf
 octet-built p a k =
-    let h = p .header in
     let v = p .value in
-    let small = k .small v (a .right) (rw (k .uncalled) at (a .fits)) in
     record {
       laid = rw (k .plain, k .uncalled);
       accepted =
@@ -255,11 +295,35 @@ octet-built p a k =
             listed = a .listed;
             new = refl;
             long = rw (k .extent);
-            allowed = a .right;
+            allowed = rw (k .unsequenced) (a .right);
             inner = λ e. absurd (let z : _≡_ {A = ℕ} 0 1 = cc (k .plain) in omega arith);
           };
-      opens = λ at. rw (k .plain, k .uncalled) (rw (k .plain) at (a .held .own));
-      octets = and-both (isOctet v) true (lt-ltb v 256 small) refl;
+      opens = λ at. rw (k .plain, k .uncalled, k .unsequenced) (rw (k .plain, k .unsequenced) at (a .held .own));
+      octets = rw (k .unsequenced) (and-both (isOctet v) true (lt-ltb v 256 (k .small v (a .right))) refl);
+      most = omega (arith, k .most);
+    }
+
+sequence-built : (p : Part) → AllowedPart p → SequenceKind (p .header) → PartBuilt p (octetOf p ∷ [])
+unfolding layoutPart openCommonBy afterOf valueFits
+sequence-built p a k =
+    let v = p .value in
+    let m = p .moreData in
+    let one = k .one v (a .right) in
+    let bit = leb-true m 1 (rw (k .isSequence) at (a .fits)) in
+    let number : (128 * m + v) % 128 ≡ v = omega arith in
+    let mark : (128 * m + v) / 128 ≡ m = omega arith in
+    record {
+      laid = rw (k .plain, k .uncalled);
+      accepted =
+          record {
+            listed = a .listed;
+            new = refl;
+            long = rw (k .extent);
+            allowed = rw (k .isSequence, number) (a .right);
+            inner = λ e. absurd (let z : _≡_ {A = ℕ} 0 1 = cc (k .plain) in omega arith);
+          };
+      opens = λ at. rw (k .plain, k .uncalled, k .isSequence, number, mark) (rw (k .plain, k .isSequence) at (a .held .own));
+      octets = rw (k .isSequence) (and-both (isOctet (128 * m + v)) true (lt-ltb (128 * m + v) 256 (omega arith)) refl);
       most = omega (arith, k .most);
     }
 
@@ -280,10 +344,10 @@ call-built p a k =
             listed = a .listed;
             new = refl;
             long = rw (k .extent);
-            allowed = k .free (v % 256);
+            allowed = k .free (valueIn h (v % 256));
             inner = λ e. absurd (let z : _≡_ {A = ℕ} 0 1 = cc (k .plain) in omega arith);
           };
-      opens = λ at. rw (k .plain, k .called, whole) (rw (k .plain) at (a .held .own));
+      opens = λ at. rw (k .plain, k .called, whole) (rw (k .plain, k .unsequenced) at (a .held .own));
       octets = rw (octet-of v, octet-of (v / 256), octet-of (v / 65536));
       most = omega (arith, k .most);
     }
@@ -301,7 +365,7 @@ data-built p a k =
             listed = a .listed;
             new = refl;
             long = rw (k .extent) (omega arith);
-            allowed = k .free (length t);
+            allowed = k .free (valueIn (p .header) (length t));
             inner = λ e. (length t, b .verdict);
           };
       opens = λ at. rw (k .isData, b .opens) (rw (k .isData) at (a .held .own));
@@ -315,5 +379,6 @@ part-built p a = go (kind (p .header) (a .listed))
   where
     go : Kind (p .header) → PartBuilt p (drop 1 (layoutPart p))
     go (octet k) = rw (k .plain, k .uncalled) (octet-built p a k)
+    go (marked k) = rw (k .plain, k .uncalled) (sequence-built p a k)
     go (call k) = rw (k .plain, k .called) (call-built p a k)
     go (many k) = rw (k .isData) (data-built p a k)

@@ -1,17 +1,18 @@
 -- What finding finds in an allowed record, laid out, are the contents of its parameters. Demand 3: finding a replaced or appended parameter
 -- afterwards gives the new contents. In the edited record it stands behind as many of its name as the edit says.
-use Prim.Native.Nat.{ℕ, _+_, _<_}
+use Prim.Native.Nat.{ℕ, _+_, _*_, _≤_, _<_}
 use native.Mathlib.Omega.{arith}
 use mathlib.Core.Path.{_≡_, refl, sym, ap, _∙_}
 use mathlib.Core.Bool.{Bool, true, false}
 use mathlib.Core.List.{List, [], _∷_, _++_, append-assoc}
+use borrow.Author.Tests.{leb-true, eqb-true}
 use lib.ListN.{length, take, drop, length-append}
 use lib.Seq.{take-append-add, take-append-seam, drop-append-add, drop-drop}
 use Rattle.annex.specs.Units.{nameOf, leadOf, extentOf, commonExtentOf, contentsIn}
-use Rattle.annex.specs.Heads.{among, transfer-data, oftenOf}
+use Rattle.annex.specs.Heads.{among, sequence, sequence-number, transfer-data, valueAllowed, oftenOf}
 use Rattle.annex.specs.Items.{Item, Part, contentsOf}
 use Rattle.annex.specs.Layout.{ledBy, layoutItem, layoutItems, layoutPart, layout}
-use Rattle.annex.specs.Allowed.{every, timesIn, isOctet, itemsIn, headersOf, namesOf, Allowed}
+use Rattle.annex.specs.Allowed.{every, timesIn, isOctet, valueFits, itemsIn, headersOf, namesOf, Allowed}
 use Rattle.annex.specs.Reading.{recordOf}
 use Rattle.annex.specs.Finding.{commonFound, transferFound, foundPart, findPart}
 use Rattle.annex.specs.Editing.{Edit, newHeader, newAfter, newItem, editedItems, edited, editingOf, bufferOf}
@@ -103,6 +104,24 @@ common-contents r a ahead q behind w =
     ≡ foundPart (layout r) (At (length b + (1 + lead)) (length b + length (layoutPart q))) =
     rw (laid-then-read r a .0, common-found r a ahead q behind w, start) in
     found ∙ rw (w, layout-ahead ahead q behind) (stretch b (layoutPart q) (layout behind) (1 + lead)) ∙ part-contents q part
+
+-- of 04 they are one octet, of which nothing is carried unread: the number is 1, and above it stands the mark
+pub record SequenceSaid (q : Part) : Type 0 where
+  pub number : q .value ≡ sequence-number
+  pub mark : q .moreData ≤ 1
+  pub contents : partContents q ≡ (128 * q .moreData + sequence-number) ∷ []
+
+pub sequence-said : (r : List Part) → Allowed r → (ahead : List Part) (q : Part) (behind : List Part) → r ≡ ahead ++ (q ∷ behind)
+    → q .header ≡ sequence → SequenceSaid q
+unfolding valueAllowed valueFits
+sequence-said r a ahead q behind w h =
+    let part = each-right AllowedPart ahead (q ∷ behind) (rw w at (allowed-parts r a)) .0 in
+    let number = eqb-true (q .value) sequence-number (rw h at (part .right)) in
+    record {
+      number = number;
+      mark = leb-true (q .moreData) 1 (rw h at (part .fits));
+      contents = rw (h, number);
+    }
 
 -- ---- after an edit
 

@@ -11,8 +11,8 @@ use lib.ListN.{length, take, drop, length-append}
 use lib.Seq.{take-append-seam, drop-append-seam}
 use Rattle.annex.specs.Heads.{transfer-data, call-number-below, most-values}
 use Rattle.annex.specs.Items.{Item, Part, markedItem, part, valuePart, dataPart}
-use Rattle.annex.specs.Allowed.{Each, every, isOctet, itemsIn, valueRight, valueFits, Allowed}
-use Rattle.annex.specs.Reading.{octetAllowed, verdictOf, recordOf}
+use Rattle.annex.specs.Allowed.{Each, every, isOctet, itemsIn, valueFits, Allowed}
+use Rattle.annex.specs.Reading.{verdictOf, recordOf}
 use Rattle.annex.specs.Records.{valuesOf, pack, view, readingOf}
 use Rattle.annex.specs.Image.{
   imageItem,
@@ -37,7 +37,7 @@ use Rattle.annex.specs.Image.Front.{Taken}
 use Rattle.annex.specs.declared.Answer.the-variants.{Accepted}
 use Rattle.theorems.specs.Lists.{each-left, each-right, each-so}
 use Rattle.theorems.specs.Commons.{Kind, kind, AllowedPart}
-use Rattle.theorems.specs.Commons.Kind.{octet, call, many}
+use Rattle.theorems.specs.Commons.Kind.{octet, marked, call, many}
 use Rattle.theorems.specs.Records.{OnlyData, plain-items, allowed-parts, Within, allowed-within, values-within}
 use Rattle.theorems.specs.Views.{view-pack, within-told}
 use Rattle.theorems.specs.Messages.{read-then-laid}
@@ -101,17 +101,17 @@ four-back v l =
 
 -- read from the front of octets
 record PartBack (p : Part) (t : List ℕ) : Type 0 where
-  long : leb 6 (length (imagePart p ++ t)) ≡ true
-  items : itemsFront (commonFront (imagePart p ++ t) .transfers) (drop 6 (imagePart p ++ t))
+  long : leb common-head (length (imagePart p ++ t)) ≡ true
+  items : itemsFront (commonFront (imagePart p ++ t) .transfers) (drop common-head (imagePart p ++ t))
       ≡ Taken (p .items) (length (imageItems (p .items)))
   back : partFront (imagePart p ++ t) (p .items) ≡ p
-  size : 6 + length (imageItems (p .items)) ≡ length (imagePart p)
+  size : common-head + length (imageItems (p .items)) ≡ length (imagePart p)
 
 part-back : (p : Part) (t : List ℕ) → Imageable p → Each Few (p .items) → PartBack p t
 unfolding imagePart
 part-back p t h f =
     record {
-      long = le-leb 6 (length (imagePart p ++ t)) (omega arith);
+      long = le-leb common-head (length (imagePart p ++ t)) (omega arith);
       items = rw (told (eqb (p .header) transfer-data) refl) (items-back (p .items) t f);
       back = rw (four-back (p .value) (h .small));
       size = omega arith;
@@ -164,11 +164,12 @@ image-back r w h =
 -- ---- an allowed record
 
 value-small : (p : Part) → AllowedPart p → Kind (p .header) → p .value < 4294967296
-unfolding valueRight valueFits octetAllowed
-value-small p a (octet k) = omega (arith, k .small (p .value) (a .right) (rw (k .uncalled) at (a .fits)))
+unfolding valueFits
+value-small p a (octet k) = omega (arith, k .small (p .value) (a .right))
+value-small p a (marked k) = omega (arith, k .one (p .value) (a .right))
 value-small p a (call k) = omega (arith, ltb-true (p .value) call-number-below (rw (k .unsequenced, k .called) at (a .fits)))
 value-small p a (many k) =
-    let e : part (p .header) 0 (p .items) ≡ p = rw (k .isData) at (a .held .own) in
+    let e : part (p .header) 0 0 (p .items) ≡ p = rw (k .isData) at (a .held .own) in
     omega (arith, ap (λ (q : Part). q .value) e)
 
 imageable : (p : Part) → AllowedPart p → Imageable p
@@ -228,21 +229,23 @@ image-most m o n e =
     let values = values-within (itemsIn r) in
     omega (arith, parts-long r, items-long (itemsIn r), a .few-commons, a .few-transfers, a .few-contents)
 
--- ---- an example: user class 1, own call number 12345, transfer data with the originating area 1203
+-- ---- an example: user class 1, own call number 12345, sequence 1 with more data, transfer data with the originating area 1203
 
 abbrev example : List Part
 example =
     valuePart 0x01 1 ∷
     valuePart 0x83 12345 ∷
+    part 0x04 1 1 [] ∷
     dataPart (markedItem 0x90 0 0 0 (1 ∷ 2 ∷ 0 ∷ 3 ∷ []) ∷ []) ∷
     []
 
 abbrev octets : List ℕ
 octets =
-    3 ∷
-    0x01 ∷ 1 ∷ 0 ∷ 0 ∷ 0 ∷ 0 ∷
-    0x83 ∷ 0x39 ∷ 0x30 ∷ 0 ∷ 0 ∷ 0 ∷
-    0xC5 ∷ 0 ∷ 0 ∷ 0 ∷ 0 ∷ 1 ∷
+    4 ∷
+    0x01 ∷ 1 ∷ 0 ∷ 0 ∷ 0 ∷ 0 ∷ 0 ∷
+    0x83 ∷ 0x39 ∷ 0x30 ∷ 0 ∷ 0 ∷ 0 ∷ 0 ∷
+    0x04 ∷ 1 ∷ 0 ∷ 0 ∷ 0 ∷ 1 ∷ 0 ∷
+    0xC5 ∷ 0 ∷ 0 ∷ 0 ∷ 0 ∷ 0 ∷ 1 ∷
     0x90 ∷ 0 ∷ 0 ∷ 0 ∷ 0 ∷ 0 ∷ 0 ∷ 0 ∷ 0 ∷ 4 ∷ 0 ∷ 1 ∷ 2 ∷ 0 ∷ 3 ∷
     []
 
@@ -250,7 +253,7 @@ pub example-image : imageOf example ≡ octets
 unfolding imageItem imageItems imagePart imageParts imageOf
 example-image = refl
 
-pub example-back : imagedOf octets ≡ record { answer = Accepted 3; held = pack example }
+pub example-back : imagedOf octets ≡ record { answer = Accepted 4; held = pack example }
 unfolding itemsFront partsFront isWithin imagedOf valuesOf
 example-back = refl
 
@@ -259,6 +262,6 @@ pub example-over : imagedOf (octets ++ 0 ∷ []) ≡ noImage
 unfolding itemsFront partsFront isWithin imagedOf
 example-over = refl
 
-pub example-cut : imagedOf (take 33 octets) ≡ noImage
+pub example-cut : imagedOf (take 43 octets) ≡ noImage
 unfolding itemsFront partsFront isWithin imagedOf
 example-cut = refl

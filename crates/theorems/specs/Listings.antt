@@ -13,7 +13,7 @@ use lib.ListN.{length, drop, length-append, length-drop}
 use Rattle.annex.specs.Units.{leadOf, extentOf, commonExtentOf}
 use Rattle.annex.specs.Heads.{among, end-mark, transfer-data, commonHeaders, isCall}
 use Rattle.annex.specs.Items.{Item, Part, contentsOf}
-use Rattle.annex.specs.Layout.{callOctets, dataOctets, layoutItem, layoutItems, layoutPart, layout}
+use Rattle.annex.specs.Layout.{callOctets, octetOf, dataOctets, layoutItem, layoutItems, layoutPart, layout}
 use Rattle.annex.specs.Allowed.{every, Each, isOctet, itemsIn, Allowed}
 use Rattle.annex.specs.Reading.{verdictOf, recordOf}
 use Rattle.annex.specs.Spans.{transferRows, innerRows, commonRows, rowsOf, commonRowsBy, rowsBy}
@@ -41,7 +41,7 @@ itemRows p (i ∷ is) = rowAt p (i .header) (contentsOf i) ∷ itemRows (p + len
 -- the contents of a common parameter: those of C5 are its transfer parameters, laid out
 abbrev pub partContents : Part → List ℕ
 partContents q =
-    cond (eqb (q .header) transfer-data) (layoutItems (q .items)) (cond (isCall (q .header)) (callOctets (q .value)) (q .value ∷ []))
+    cond (eqb (q .header) transfer-data) (layoutItems (q .items)) (cond (isCall (q .header)) (callOctets (q .value)) (octetOf q ∷ []))
 
 -- of common parameters: behind the row of a C5 those of its transfer parameters, and behind all the end mark's
 unfoldable pub partRows : ℕ → List Part → List Row
@@ -71,8 +71,8 @@ unfolding layoutPart
 length-part q a = rw (leads (q .header) (a .listed)) (go (eqb (q .header) transfer-data) (isCall (q .header)))
   where
     go : (b c : Bool)
-        → length (q .header ∷ cond b (dataOctets (layoutItems (q .items))) (cond c (callOctets (q .value)) (q .value ∷ [])))
-        ≡ 1 + cond b 1 0 + length (cond b (layoutItems (q .items)) (cond c (callOctets (q .value)) (q .value ∷ [])))
+        → length (q .header ∷ cond b (dataOctets (layoutItems (q .items))) (cond c (callOctets (q .value)) (octetOf q ∷ [])))
+        ≡ 1 + cond b 1 0 + length (cond b (layoutItems (q .items)) (cond c (callOctets (q .value)) (octetOf q ∷ [])))
     go true c = omega arith
     go false true = omega arith
     go false false = omega arith
@@ -84,8 +84,8 @@ part-contents q a = rw (leads (q .header) (a .listed)) (go (eqb (q .header) tran
   where
     go : (b c : Bool)
         → drop (1 + cond b 1 0)
-        (q .header ∷ cond b (dataOctets (layoutItems (q .items))) (cond c (callOctets (q .value)) (q .value ∷ [])))
-        ≡ cond b (layoutItems (q .items)) (cond c (callOctets (q .value)) (q .value ∷ []))
+        (q .header ∷ cond b (dataOctets (layoutItems (q .items))) (cond c (callOctets (q .value)) (octetOf q ∷ [])))
+        ≡ cond b (layoutItems (q .items)) (cond c (callOctets (q .value)) (octetOf q ∷ []))
     go true c = refl
     go false true = refl
     go false false = refl
@@ -157,7 +157,7 @@ inner-short q a = go (eqb (q .header) transfer-data) refl (isCall (q .header))
   where
     go : (b : Bool) → eqb (q .header) transfer-data ≡ b → (c : Bool)
         → 2 + length (layoutItems (q .items))
-        ≤ length (q .header ∷ cond b (dataOctets (layoutItems (q .items))) (cond c (callOctets (q .value)) (q .value ∷ [])))
+        ≤ length (q .header ∷ cond b (dataOctets (layoutItems (q .items))) (cond c (callOctets (q .value)) (octetOf q ∷ [])))
     go true e c = omega arith
     go false e true = rw (plain-items q (a .held) e) (omega arith)
     go false e false = rw (plain-items q (a .held) e) (omega arith)

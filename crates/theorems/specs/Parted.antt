@@ -46,7 +46,7 @@ parted (p ∷ r) h o m = go (eqb (p .header) transfer-data) refl (parted r (h .1
         let x = nameOf transfer-data in
         let names = partNamesOf r in
         let five = eqb-true (p .header) transfer-data e in
-        let own : part (p .header) 0 (p .items) ≡ p = rw e at (h .0 .own) in
+        let own : part (p .header) 0 0 (p .items) ≡ p = rw e at (h .0 .own) in
         let same : dataPart (p .items) ≡ p = cc in
         let plain = unnamed-plain r (omega (arith, times-here x names, rw five at (o x))) in
         record {

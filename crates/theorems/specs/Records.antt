@@ -28,13 +28,14 @@ use Rattle.annex.specs.Heads.{
   oftenOf,
   most-values,
 }
-use Rattle.annex.specs.Items.{Item, Part, contentsOf, contentsBy, heldAs, valuePart}
+use Rattle.annex.specs.Items.{Item, Part, contentsOf, contentsBy, heldAs, part}
 use Rattle.annex.specs.declared.Holding.{Holding}
 use Rattle.annex.specs.Answers.{isSound}
 use Rattle.annex.specs.declared.Holding.the-variants.{AsContents, AsDigits, AsNumber, AsGeneric}
 use Rattle.annex.specs.Digits.{codeOf, joined, packed}
 use Rattle.annex.specs.Layout.{layoutItem, layoutItems}
 use Rattle.annex.specs.Allowed.{
+  ownMark,
   every,
   Each,
   timesIn,
@@ -88,7 +89,7 @@ OnlyData p = eqb (p .header) transfer-data ≡ false → p .items ≡ []
 
 pub plain-items : (p : Part) → HeldPart p → OnlyData p
 plain-items p h e =
-    let own : valuePart (p .header) (p .value) ≡ p = rw e at (h .own) in
+    let own : part (p .header) (p .value) (ownMark (p .header) (p .moreData)) [] ≡ p = rw e at (h .own) in
     sym (ap (λ (q : Part). q .items) own)
 
 -- this one is no C5

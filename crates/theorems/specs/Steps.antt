@@ -10,7 +10,7 @@ use lib.ListN.{length, getD, take, length-append}
 use lib.Seq.{take-append-seam}
 use Rattle.annex.specs.Answers.{missing, left-over, andThen, shifted}
 use Rattle.annex.specs.Units.{nameOf, afterOf, extentOf, commonExtentOf, contentsIn}
-use Rattle.annex.specs.Heads.{among, commonHeaders, end-mark, transfer-data, nameUsed, pliRight, oftenOf}
+use Rattle.annex.specs.Heads.{valueAllowed, among, commonHeaders, end-mark, transfer-data, nameUsed, pliRight, oftenOf}
 use Rattle.annex.specs.Contents.{faultOf}
 use Rattle.annex.specs.Reading.{
   transferOf,
@@ -182,5 +182,5 @@ common-accepts times whole h own rest c =
     go false e = refl
 
 pub end-accepts : commonOf 0 true end-mark [] ≡ Accepted 0
-unfolding commonBy commonForm octetAllowed afterOf commonExtentOf endOf
+unfolding commonBy commonForm valueAllowed afterOf commonExtentOf endOf
 end-accepts = refl

@@ -25,7 +25,7 @@ use Rattle.annex.specs.Answers.{
   formed,
 }
 use Rattle.annex.specs.Units.{countedBy, wholeCount, octetsOf, halvesIn, afterOf, leadOf, commonExtentOf, extentOf}
-use Rattle.annex.specs.Heads.{among, listedHeaders, isCall, nameUsed, pliRight, oftenOf, zeroesOf, formOf}
+use Rattle.annex.specs.Heads.{valueAllowed, among, listedHeaders, isCall, nameUsed, pliRight, oftenOf, zeroesOf, formOf}
 use Rattle.annex.specs.Digits.{
   halves,
   joined,
@@ -58,11 +58,10 @@ use Rattle.annex.specs.Orders.{
 use Rattle.annex.specs.Contents.{dialledFault, chargingFault, faultUnder, faultOf}
 use Rattle.annex.specs.Items.{Item, valuePart, holdingBy, holdingOf, openBy, itemOf, contentsOf, ownOf}
 use Rattle.annex.specs.Layout.{layoutItem, layoutPart, callOctets}
-use Rattle.annex.specs.Allowed.{every, lengthRight, faultIn, valueRight, valueFits}
+use Rattle.annex.specs.Allowed.{every, lengthRight, faultIn, valueFits}
 use Rattle.annex.specs.Walk.{walk, pars}
 use Rattle.annex.specs.Reading.{
   transferOf,
-  octetAllowed,
   commonForm,
   endOf,
   transferBy,
@@ -75,6 +74,7 @@ use Rattle.annex.specs.Reading.{
 use Rattle.annex.specs.Finding.{commonIn, commonFound, findAnswer, findPart, foundBy}
 use Rattle.annex.specs.Records.{
   valueHead,
+  octetHead,
   dataHead,
   carriedHead,
   dialledHead,
@@ -255,7 +255,8 @@ rows =
     gives HalfOctets (λ n. n .0) (countedBy 0x42) (countedBy 0x43) ∷  -- HalfOctets::counted_by
     gives HalfOctets (λ n. n .0) (halvesIn (0x21 ∷ [])) (halvesIn []) ∷  -- HalfOctets::of
     gives Octets (λ n. n .0) (octetsOf (countedBy 3)) (octetsOf (countedBy 5)) ∷  -- HalfOctets::octets
-    commons (λ c. c .value) (valueHead 0x06 0x11) (valueHead 0x06 0x12) ∷  -- Common::octet, Common::call_number
+    commons (λ c. c .«more_data») (octetHead 0x04 0x01) (octetHead 0x04 0x81) ∷  -- Common::octet
+    commons (λ c. c .value) (valueHead 0x82 1) (valueHead 0x82 2) ∷  -- Common::call_number
     commons (λ c. c .transfers) (dataHead 1) (dataHead 2) ∷  -- Common::transfer_data
     transfers (λ t. t .len) (carriedHead 0xCC 1) (carriedHead 0xCC 2) ∷  -- Transfer::carried
     transfers (λ t. t .notification) (dialledHead 0x91 1 0 0 2) (dialledHead 0x91 0 1 0 2) ∷  -- Transfer::dialled
@@ -315,7 +316,7 @@ rows =
     lists (laidCarried 0 (lent 2)) (laidCarried 1 (lent 2)) ∷  -- lay, room
     stores (laying (carriedHead 0x41 1) (1 ∷ []) (lent 2)) (laying (carriedHead 0x41 1) (1 ∷ []) (lent 1)) ∷  -- put
     tests (among 0xC5 listedHeaders) (among 0x44 listedHeaders) ∷  -- listed
-    tests (octetAllowed 0x01 0x01) (octetAllowed 0x01 0x02) ∷  -- octet_allowed
+    tests (valueAllowed 0x04 1) (valueAllowed 0x04 2) ∷  -- value_allowed
     answers (commonForm 0 0x01 (0x01 ∷ [])) (commonForm 1 0x01 (0x01 ∷ [])) ∷  -- common_form
     answers (endOf true []) (endOf false []) ∷  -- end_mark
     tests (isCall 0x83) (isCall 0x04) ∷  -- is_call
@@ -353,7 +354,7 @@ rows-differ : allDiffer rows ≡ true
 unfolding afterOf extentOf commonExtentOf leadOf nameUsed pliRight oftenOf zeroesOf formOf halves joined digitOf codeOf isCode halvesFault
     digitsFault digitsOf packed numberFaultIn outsideFault isKind fieldsOf numbersDrawn drawnFault checkRight decimal fieldIn chargesOf
     chargingFault formsOf layoutOf orderAfter layoutFault ownFault parameterFault parametersFault orderFault dialledFault faultOf
-    holdingOf itemOf contentsOf ownOf layoutItem lengthRight faultIn valueRight valueFits walk transferBy octetAllowed commonForm endOf
+    holdingOf itemOf contentsOf ownOf layoutItem lengthRight faultIn valueFits walk transferBy valueAllowed commonForm endOf
     commonBy messageVerdictBy verdictBy commonsBy commonIn commonFound pad valuesOf pack lengthsOf transfersSum isWhole viewItems
     viewParts view overLimits itemWriting partWriting layoutPart pars soughtIn stretchAt stretchHere rowHere nextOf orderListing takenOf
     orderRowsFrom orderNext put spliced

@@ -10,15 +10,14 @@ use mathlib.Core.List.{List, [], _∷_, _++_}
 use lib.ListN.{length, getD, replicate}
 use Rattle.annex.specs.Answers.{numberOf, placeOf, givenOf}
 use Rattle.annex.specs.Units.{afterOf, leadOf, commonExtentOf, extentOf}
-use Rattle.annex.specs.Heads.{among, nameUsed, pliRight, oftenOf, zeroesOf, formOf}
+use Rattle.annex.specs.Heads.{valueAllowed, among, nameUsed, pliRight, oftenOf, zeroesOf, formOf}
 use Rattle.annex.specs.Digits.{halves, joined, digitOf, codeOf, isCode, halvesFault, digitsFault, digitsOf, packed, numberFaultIn}
 use Rattle.annex.specs.Contents.{callingFault, genericFault, dialledFault, twoFault, faultOf}
 use Rattle.annex.specs.Items.{holdingOf, itemOf, contentsOf, ownOf}
 use Rattle.annex.specs.Layout.{layoutItem, layoutItems, layoutPart, layout}
-use Rattle.annex.specs.Allowed.{lengthRight, faultIn, valueRight, valueFits}
+use Rattle.annex.specs.Allowed.{lengthRight, faultIn, valueFits}
 use Rattle.annex.specs.Walk.{walk}
 use Rattle.annex.specs.Reading.{
-  octetAllowed,
   commonForm,
   endOf,
   verdictOf,
@@ -109,7 +108,7 @@ pub record Said : Type 0 where
 pub said : Said
 unfolding afterOf leadOf commonExtentOf extentOf nameUsed pliRight oftenOf zeroesOf formOf halves joined digitOf codeOf isCode halvesFault
     digitsFault digitsOf packed numberFaultIn callingFault genericFault dialledFault twoFault faultOf holdingOf itemOf contentsOf ownOf
-    layoutItem layoutItems layoutPart layout lengthRight faultIn valueRight valueFits walk transferBy transfersVerdictBy octetAllowed
+    layoutItem layoutItems layoutPart layout lengthRight faultIn valueFits walk transferBy transfersVerdictBy valueAllowed
     commonForm endOf dataBy commonBy messageVerdictBy verdictBy commonsBy transfersBy openCommonBy recordBy pad valuesOf pack viewItems
     lengthsOf transfersSum viewParts isWhole view readingOf itemWriting itemsWriting dataWriting partWriting partsWriting overLimits
     recordWriting structWriting writingOf writtenOf commonIn commonFound transferIn transferAmong transferFound transferRows commonRowsBy

@@ -6,7 +6,7 @@ use mathlib.Core.List.{List, [], _∷_, _++_}
 use lib.ListN.{getD, replicate}
 use Rattle.annex.specs.Answers.{numberOf, givenOf}
 use Rattle.annex.specs.Units.{afterOf, leadOf, commonExtentOf, extentOf}
-use Rattle.annex.specs.Heads.{nameUsed, pliRight, oftenOf, zeroesOf, formOf}
+use Rattle.annex.specs.Heads.{valueAllowed, nameUsed, pliRight, oftenOf, zeroesOf, formOf}
 use Rattle.annex.specs.Digits.{halves, isCode, halvesFault, digitsFault}
 use Rattle.annex.specs.Orders.{
   formsOf,
@@ -22,7 +22,6 @@ use Rattle.annex.specs.Contents.{faultOf}
 use Rattle.annex.specs.Walk.{walk, pars}
 use Rattle.annex.specs.Walking.{noRow}
 use Rattle.annex.specs.Reading.{
-  octetAllowed,
   commonForm,
   endOf,
   transferBy,
@@ -78,7 +77,7 @@ record SaidOrders : Type 0 where
 said-orders : SaidOrders
 unfolding afterOf leadOf commonExtentOf extentOf nameUsed pliRight oftenOf zeroesOf formOf halves isCode halvesFault digitsFault formsOf
     layoutOf orderAfter layoutFault ownFault parameterFault parametersFault orderFault faultOf walk pars transferBy transfersVerdictBy
-    octetAllowed commonForm endOf dataBy commonBy messageVerdictBy verdictBy commonsBy transfersBy transferIn transferAmong transferFound
+    valueAllowed commonForm endOf dataBy commonBy messageVerdictBy verdictBy commonsBy transfersBy transferIn transferAmong transferFound
     orderListing orderRowsOf orderAnswer orderTable rowsOctets octetOrderTable
 said-orders =
     record {

@@ -7,13 +7,12 @@ use mathlib.Core.List.{List, [], _∷_, _++_}
 use lib.ListN.{getD, replicate}
 use Rattle.annex.specs.Answers.{numberOf, givenOf}
 use Rattle.annex.specs.Units.{afterOf, leadOf, commonExtentOf}
-use Rattle.annex.specs.Heads.{zeroesOf}
+use Rattle.annex.specs.Heads.{valueAllowed, zeroesOf}
 use Rattle.annex.specs.Items.{ownOf}
 use Rattle.annex.specs.Layout.{layoutItem, layoutItems, layoutPart, layout}
-use Rattle.annex.specs.Allowed.{valueRight, valueFits}
+use Rattle.annex.specs.Allowed.{valueFits}
 use Rattle.annex.specs.Walk.{walk}
 use Rattle.annex.specs.Reading.{
-  octetAllowed,
   commonForm,
   endOf,
   dataBy,
@@ -76,14 +75,14 @@ use Rattle.tight.specs.Wrong.{short, shorter, another, roomy, said, repl
 
 -- the image of case 2's record, and with an octet left over
 abbrev imageOfK : List ℕ
-imageOfK = 2 ∷ 0x01 ∷ 0x01 ∷ 0 ∷ 0 ∷ 0 ∷ 0 ∷ 0x06 ∷ 0x11 ∷ 0 ∷ 0 ∷ 0 ∷ 0 ∷ []
+imageOfK = 2 ∷ 0x01 ∷ 0x01 ∷ 0 ∷ 0 ∷ 0 ∷ 0 ∷ 0 ∷ 0x06 ∷ 0x11 ∷ 0 ∷ 0 ∷ 0 ∷ 0 ∷ 0 ∷ []
 
 abbrev over : List ℕ
 over = imageOfK ++ (0 ∷ [])
 
 -- one whose record has no signal kind
 abbrev lacking : List ℕ
-lacking = 1 ∷ 0x01 ∷ 0x01 ∷ 0 ∷ 0 ∷ 0 ∷ 0 ∷ []
+lacking = 1 ∷ 0x01 ∷ 0x01 ∷ 0 ∷ 0 ∷ 0 ∷ 0 ∷ 0 ∷ []
 
 -- lent memory before a call
 abbrev pub lent : ℕ → List ℕ
@@ -93,9 +92,9 @@ lent n = replicate n 0xEE
 record SaidPacked : Type 0 where
   back-K : imagedOf imageOfK .answer ≡ Accepted 2
   back-over : imagedOf over .answer ≡ Refused 1 0
-  reading-K : imageReading short 13 ≡ Accepted 13
-  read-K : imageRead short (lent 13) ≡ imageOfK
-  read-short : imageRead short (lent 12) ≡ lent 12
+  reading-K : imageReading short 15 ≡ Accepted 15
+  read-K : imageRead short (lent 15) ≡ imageOfK
+  read-short : imageRead short (lent 14) ≡ lent 14
   writing-K : imageWriting imageOfK 6 ≡ Accepted 5
   written-K : imageWritten imageOfK (lent 6) ≡ short ++ (0xEE ∷ [])
   writing-over : imageWriting over 6 ≡ Refused 1 0
@@ -106,7 +105,7 @@ record SaidPacked : Type 0 where
   no-list : classOf 0x01 1 ≡ classes.Refused 17 0
 
 said-packed : SaidPacked
-unfolding afterOf leadOf commonExtentOf zeroesOf ownOf layoutItem layoutItems layoutPart layout valueRight valueFits walk octetAllowed
+unfolding afterOf leadOf commonExtentOf zeroesOf ownOf layoutItem layoutItems layoutPart layout valueFits walk valueAllowed
     commonForm endOf dataBy commonBy messageVerdictBy verdictBy commonsBy openCommonBy recordBy pad valuesOf pack viewItems lengthsOf
     transfersSum viewParts isWhole view partWriting partsWriting overLimits recordWriting structWriting writingOf imageItem imageItems
     imagePart imageParts imageOf itemsFront partsFront isWithin imagedOf commonRowsBy rowsBy spansBy classOf imageReading
@@ -134,10 +133,10 @@ at i l = getD l i 0
 
 -- ---- read_image: one that answers the length and writes nothing; one that writes as much as there is room for
 
-pub images-nothing : (a : Answer) → ImageReadPromise short (lent 13) a (lent 13) → ⊥
+pub images-nothing : (a : Answer) → ImageReadPromise short (lent 15) a (lent 15) → ⊥
 images-nothing a p = let z : _≡_ {A = ℕ} 0xEE 2 = ap (at 0) (p .1 ∙ said-packed .read-K) in omega arith
 
-pub images-a-part : (a : Answer) (rest : List ℕ) → ImageReadPromise short (lent 12) a (2 ∷ rest) → ⊥
+pub images-a-part : (a : Answer) (rest : List ℕ) → ImageReadPromise short (lent 14) a (2 ∷ rest) → ⊥
 images-a-part a rest p = let z : _≡_ {A = ℕ} 2 0xEE = ap (at 0) (p .1 ∙ said-packed .read-short) in omega arith
 
 -- ---- from_image: one that refuses everything; one that leaves octets over
@@ -154,12 +153,12 @@ leaves-octets-over n q e =
 
 -- ---- tk_read: one that answers the length and writes nothing; one that gives the length as the place
 
-pub tk-reads-nothing : (r : ℕ) → TkReadPromise short (lent 13) r (lent 13) → ⊥
+pub tk-reads-nothing : (r : ℕ) → TkReadPromise short (lent 15) r (lent 15) → ⊥
 tk-reads-nothing r p = let z : _≡_ {A = ℕ} 0xEE 2 = ap (at 0) (p .1 ∙ said-packed .read-K) in omega arith
 
-pub tk-length-as-place : (now : List ℕ) → TkReadPromise short (lent 13) (13 * 65536) now → ⊥
+pub tk-length-as-place : (now : List ℕ) → TkReadPromise short (lent 15) (15 * 65536) now → ⊥
 tk-length-as-place now p =
-    let z : _≡_ {A = ℕ} (13 * 65536) 13 = p .0 ∙ ap packedAnswer (said-packed .reading-K) in
+    let z : _≡_ {A = ℕ} (15 * 65536) 15 = p .0 ∙ ap packedAnswer (said-packed .reading-K) in
     omega arith
 
 -- ---- tk_write: one that leaves octets over; one that answers the length and writes nothing

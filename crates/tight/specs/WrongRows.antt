@@ -9,12 +9,12 @@ use lib.ListN.{length, getD, drop}
 use borrow.Author.Tests.{le-ltb}
 use Rattle.annex.specs.Answers.{no-room, numberOf, givenOf, refuse}
 use Rattle.annex.specs.Units.{afterOf, leadOf, commonExtentOf}
+use Rattle.annex.specs.Heads.{valueAllowed}
 use Rattle.annex.specs.Allowed.{every, isOctet, itemsIn}
 use Rattle.annex.specs.Walk.{walk}
 use Rattle.annex.specs.Reading.{
   verdictOf,
   recordOf,
-  octetAllowed,
   commonForm,
   endOf,
   dataBy,
@@ -42,7 +42,7 @@ abbrev pub shortRows : List Row
 shortRows = rowFor 0 0x01 1 ∷ rowFor 2 0x06 1 ∷ rowFor 4 0x00 0 ∷ []
 
 pub short-listed : (room : ℕ) → (rowsOf short ≡ shortRows) × (spansOf short room ≡ refuse (ltb room 3) no-room 0 (Accepted 3))
-unfolding afterOf leadOf commonExtentOf walk octetAllowed commonForm endOf dataBy commonBy messageVerdictBy verdictBy commonsBy commonRowsBy
+unfolding afterOf leadOf commonExtentOf walk valueAllowed commonForm endOf dataBy commonBy messageVerdictBy verdictBy commonsBy commonRowsBy
     rowsBy spansBy
 short-listed room = (refl, refl)
 

@@ -24,7 +24,7 @@ fn put_common(record: &Record, parameter: &Common, image: &mut Draft<'_>) -> Opt
     };
     let [a, b, c, d] = parameter.value.to_le_bytes();
     let count = u8::try_from(transfers.len()).ok()?;
-    image.put(&[parameter.header, a, b, c, d, count])?;
+    image.put(&[parameter.header, a, b, c, d, parameter.more_data, count])?;
     for parameter in transfers {
         put_transfer(parameter, record.values_of(parameter), image)?;
     }
@@ -55,7 +55,7 @@ pub(crate) fn record_of(image: &[u8]) -> Record {
 }
 
 fn common_of(rest: &mut Rest<'_>) -> Common {
-    let [header, value @ .., count] = rest.array::<6>();
+    let [header, value @ .., more_data, count] = rest.array::<7>();
     let transfers = match header {
         TRANSFER_DATA => (0..count).map(|_| transfer_of(rest)).collect(),
         _ => Vec::new(),
@@ -63,6 +63,7 @@ fn common_of(rest: &mut Rest<'_>) -> Common {
     Common {
         header,
         value: u32::from_le_bytes(value),
+        more_data,
         transfers,
     }
 }
@@ -104,11 +105,12 @@ mod tests {
     use super::*;
 
     #[rustfmt::skip]
-    const IMAGE: [u8; 31] = [
-        3,
-        0x01, 1, 0, 0, 0, 0,
-        0x83, 0x39, 0x30, 0, 0, 0,
-        0xC5, 0, 0, 0, 0, 1,
+    const IMAGE: [u8; 41] = [
+        4,
+        0x01, 1, 0, 0, 0, 0, 0,
+        0x83, 0x39, 0x30, 0, 0, 0, 0,
+        0x04, 1, 0, 0, 0, 1, 0,
+        0xC5, 0, 0, 0, 0, 0, 1,
         0xD7, 1, 2, 3, 4, 5, 6, 7, 8, 1, 0, 9,
     ];
 
@@ -118,6 +120,7 @@ mod tests {
         let mut record = Record::default();
         record.push_common(0x01, 1);
         record.push_common(0x83, 12345);
+        record.push_sequence(true);
         record.push_transfer(number, &[9]);
         record
     }
@@ -134,10 +137,12 @@ mod tests {
     #[test]
     fn an_image_that_is_cut_is_read_with_zeros() {
         assert_eq!(record_of(&[]), Record::default());
-        let cut = record_of(&IMAGE[..30]);
-        assert_eq!(cut.values_of(&cut.common[2].transfers[0]), []);
-        let cut = record_of(&IMAGE[..29]);
-        assert_eq!(cut.common[2].transfers[0].header, 0);
+        let cut = record_of(&IMAGE[..40]);
+        assert_eq!(cut.values_of(&cut.common[3].transfers[0]), []);
+        let cut = record_of(&IMAGE[..39]);
+        assert_eq!(cut.common[3].transfers[0].header, 0);
+        let cut = record_of(&IMAGE[..21]);
+        assert_eq!((cut.common[2].header, cut.common[2].more_data), (0, 0));
     }
 
     /// Whether a record with so many common parameters, and with a C5 of so many
@@ -155,13 +160,13 @@ mod tests {
 
     #[test]
     fn what_is_longer_than_any_image() {
-        assert!(has_image(186, 0, 0));
-        assert!(!has_image(187, 0, 0));
+        assert!(has_image(160, 0, 0));
+        assert!(!has_image(161, 0, 0));
         assert!(has_image(0, 101, 0));
         assert!(!has_image(0, 102, 0));
-        assert!(has_image(0, 1, IMAGE_MAX - 18));
-        assert!(!has_image(0, 1, IMAGE_MAX - 17));
-        assert!(!has_image(1, 1, IMAGE_MAX - 18));
+        assert!(has_image(0, 1, IMAGE_MAX - 19));
+        assert!(!has_image(0, 1, IMAGE_MAX - 18));
+        assert!(!has_image(1, 1, IMAGE_MAX - 19));
     }
 
     #[test]

@@ -54,7 +54,7 @@ pub const ROWS_MAX: usize = 59;
 /// The most octets of the image of a record within its limits, and so of one
 /// that is read: the count, 6 common and 52 transfer parameters, and two values
 /// for each of the 255 octets that their contents can have together.
-pub const IMAGE_MAX: usize = 1 + 6 * 6 + 52 * 11 + 2 * 255;
+pub const IMAGE_MAX: usize = 1 + 6 * 7 + 52 * 11 + 2 * 255;
 /// Octets of the charging information as the static library gives it: the kind,
 /// and eleven numbers of two octets.
 pub const CHARGING_LEN: usize = 1 + 11 * 2;

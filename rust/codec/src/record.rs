@@ -10,6 +10,10 @@ use std::fmt;
 use std::hash::{Hash, Hasher};
 use std::iter;
 
+/// Header of the sequence.
+const SEQUENCE: u8 = 0x04;
+/// The number of every sequence.
+const SEQUENCE_NUMBER: u32 = 1;
 /// Header of the transfer data.
 pub(crate) const TRANSFER_DATA: u8 = 0xC5;
 
@@ -23,10 +27,13 @@ pub(crate) const TRANSFER_DATA: u8 = 0xC5;
 ///
 /// let mut record = Record::default();
 /// record.push_common(0x01, 1);
+/// record.push_sequence(true);
 /// record.push_common(0x06, 0x11);
 /// let dialled = Transfer { dialling: 1, ..Transfer::new(0x98) };
 /// record.push_transfer(dialled, &[1, 2]);
-/// let message = [0x01, 0x01, 0x06, 0x11, 0xC5, 0x03, 0x98, 0x42, 0x21, 0x00];
+/// let message = [
+///     0x01, 0x01, 0x04, 0x81, 0x06, 0x11, 0xC5, 0x03, 0x98, 0x42, 0x21, 0x00,
+/// ];
 /// assert_eq!(codec::write_to_vec(&record)?, message);
 /// assert_eq!(codec::read(&message)?, record);
 /// # Ok::<(), codec::Refusal>(())
@@ -45,9 +52,12 @@ pub struct Record {
 pub struct Common {
     /// The header.
     pub header: u8,
-    /// The call number of 82 and 83, the octet of 01, 04 and 06. C5 has none:
-    /// 0 where read, not looked at in writing.
+    /// The call number of 82 and 83, the number of 04, which is 1, the octet of
+    /// 01 and 06. C5 has none: 0 where read, not looked at in writing.
     pub value: u32,
+    /// The more-data mark of 04, one bit. The others have none: 0 where read, not
+    /// looked at in writing.
+    pub more_data: u8,
     /// The transfer parameters of C5, in their order. The others have none:
     /// empty where read, not looked at in writing.
     pub transfers: Vec<Transfer>,
@@ -123,9 +133,15 @@ impl Record {
         self.octets.get(start..end).unwrap_or_else(no_values)
     }
 
-    /// Adds a common parameter, without transfer parameters.
+    /// Adds a common parameter with the more-data mark 0, without transfer
+    /// parameters.
     pub fn push_common(&mut self, header: u8, value: u32) {
         self.common.push(Common::new(header, value));
+    }
+
+    /// Adds a sequence, 04, with this more-data mark.
+    pub fn push_sequence(&mut self, more_data: bool) {
+        self.common.push(Common::sequence(more_data));
     }
 
     /// Adds a transfer parameter with these values to the last C5; where there
@@ -159,6 +175,7 @@ impl Record {
             let head = Part::Common {
                 header: common.header,
                 value: common.value,
+                more_data: common.more_data,
             };
             let transfers = common.transfers.iter().map(|t| Part::Transfer {
                 header: t.header,
@@ -184,6 +201,7 @@ enum Part<'r> {
     Common {
         header: u8,
         value: u32,
+        more_data: u8,
     },
     Transfer {
         header: u8,
@@ -213,13 +231,21 @@ impl fmt::Debug for Record {
 }
 
 impl Common {
-    /// A common parameter without transfer parameters.
+    /// A common parameter with the more-data mark 0, without transfer parameters.
     pub fn new(header: u8, value: u32) -> Self {
-        let transfers = Vec::new();
         Common {
             header,
             value,
-            transfers,
+            ..Common::default()
+        }
+    }
+
+    /// A sequence, 04, with the number 1, the only one that it can have, and this
+    /// more-data mark.
+    pub fn sequence(more_data: bool) -> Self {
+        Common {
+            more_data: more_data.into(),
+            ..Common::new(SEQUENCE, SEQUENCE_NUMBER)
         }
     }
 }
@@ -328,9 +354,10 @@ mod tests {
 
     #[test]
     fn all_else_makes_one() {
-        let changes: [fn(&mut Record); 8] = [
+        let changes: [fn(&mut Record); 9] = [
             |record| record.common[0].header = 0x04,
             |record| record.common[1].value = 1,
+            |record| record.common[0].more_data = 1,
             |record| record.common[1].transfers[0].header = 0x91,
             |record| record.common[1].transfers[0].screening = 1,
             |record| record.common[1].transfers.swap(0, 1),
@@ -344,6 +371,22 @@ mod tests {
             assert_ne!(other, record());
         }
         assert_ne!(Record::default(), record());
+    }
+
+    #[test]
+    fn a_sequence_has_its_number_and_its_mark() {
+        for (more_data, mark) in [(false, 0), (true, 1)] {
+            let mut record = Record::default();
+            record.push_sequence(more_data);
+            let Common {
+                header,
+                value,
+                more_data,
+                ref transfers,
+            } = record.common[0];
+            assert_eq!((header, value, more_data), (0x04, 1, mark));
+            assert!(transfers.is_empty());
+        }
     }
 
     #[test]

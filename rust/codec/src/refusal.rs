@@ -22,7 +22,8 @@ impl Refusal {
     pub const REPEATED: u8 = 3;
     /// 4: no end mark, or a common parameter that runs past the message's end.
     pub const CUT_SHORT: u8 = 4;
-    /// 5: a user class or a signal kind that is not among those allowed.
+    /// 5: a user class or a signal kind that is not among those allowed, or a
+    /// sequence with another number than 1.
     pub const NOT_ALLOWED: u8 = 5;
     /// 6: an end mark without user class or signal kind before it.
     pub const MISSING: u8 = 6;
@@ -69,7 +70,7 @@ impl Refusal {
             Self::UNLISTED => "unlisted common header",
             Self::REPEATED => "repeated common parameter",
             Self::CUT_SHORT => "the message is cut short",
-            Self::NOT_ALLOWED => "user class or signal kind not allowed",
+            Self::NOT_ALLOWED => "user class, signal kind or sequence number not allowed",
             Self::MISSING => "user class or signal kind missing",
             Self::LEFT_OVER => "octets left over after the end mark",
             Self::UNUSED_NAME => "unused transfer name",

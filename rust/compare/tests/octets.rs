@@ -79,7 +79,7 @@ fn room_beyond_any_message() {
 
     let mut image = vec![0x5A; 70_000];
     let len = boundary::read(&message, &mut image) as usize;
-    assert_eq!(len, 1 + 3 * 6);
+    assert_eq!(len, 1 + 3 * 7);
     assert_eq!(boundary::write(&image[..len], &mut buffer), 7);
     assert_eq!(buffer[..7], message);
     assert_eq!(boundary::rows(&message, &mut image), 4);
@@ -87,6 +87,6 @@ fn room_beyond_any_message() {
     assert_eq!(boundary::order(&order, &mut buffer), 1);
     assert_eq!(buffer[..7], [0x08, 0x00, 0x28, 0x00, 0x00, 0x00, 0x00]);
     for memory in [image, buffer] {
-        assert!(memory[20..].iter().all(|&octet| octet == 0x5A));
+        assert!(memory[len..].iter().all(|&octet| octet == 0x5A));
     }
 }

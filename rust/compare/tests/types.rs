@@ -148,9 +148,12 @@ fn held_by(image: &[u8]) -> Option<Record> {
     let mut record = Record::default();
     let (&count, mut rest) = image.split_first()?;
     for _ in 0..count {
-        let (&[header, a, b, c, d, transfers], after) = rest.split_first_chunk()?;
+        let (&[header, a, b, c, d, more_data, transfers], after) = rest.split_first_chunk()?;
         rest = after;
-        record.push_common(header, u32::from_le_bytes([a, b, c, d]));
+        record.common.push(Common {
+            more_data,
+            ..Common::new(header, u32::from_le_bytes([a, b, c, d]))
+        });
         if header == 0xC5 {
             for _ in 0..transfers {
                 rest = push_transfer(&mut record, rest)?;
@@ -251,14 +254,14 @@ fn records_over_their_limits() {
 /// with this header, and the first of those so many values.
 fn image(commons: u8, transfers: u8, header: u8, values: u16) -> Vec<u8> {
     let [low, high] = values.to_le_bytes();
-    let mut image = vec![commons, 0xC5, 0, 0, 0, 0, transfers];
+    let mut image = vec![commons, 0xC5, 0, 0, 0, 0, 0, transfers];
     image.extend([header, 0, 0, 0, 0, 0, 0, 0, 0, low, high]);
     image.extend(vec![0; values.into()]);
     for _ in 1..transfers {
         image.extend([header, 0, 0, 0, 0, 0, 0, 0, 0, 0, 0]);
     }
     for _ in 1..commons {
-        image.extend([0xC5, 0, 0, 0, 0, 0]);
+        image.extend([0xC5, 0, 0, 0, 0, 0, 0]);
     }
     image
 }
@@ -269,7 +272,7 @@ fn image(commons: u8, transfers: u8, header: u8, values: u16) -> Vec<u8> {
 fn images_of_any_length() {
     let headers = [0x30, 0xB0, 0x41, 0x90, 0xCC, 0xD7, 0xDA, 0x08];
     let values = [
-        0, 1, 2, 63, 255, 256, 506, 510, 511, 512, 1101, 1102, 65_535,
+        0, 1, 2, 63, 255, 256, 506, 510, 511, 512, 1106, 1107, 65_535,
     ];
     for (commons, transfers) in [(1, 1), (1, 52), (1, 53), (6, 1), (6, 52), (6, 53), (7, 1)] {
         for (header, values) in headers.into_iter().flat_map(|h| values.map(|v| (h, v))) {
@@ -299,9 +302,52 @@ fn what_a_parameter_does_not_have_is_not_looked_at() {
     };
     record.common[0].transfers = vec![stray; 300];
     record.common[2].value = 9;
+    for parameter in &mut record.common {
+        parameter.more_data = 9;
+    }
     let message = [0x01, 0x01, 0x06, 0x11, 0xC5, 0x03, 0x90, 0x02, 0x21, 0x00];
     let written = codec::write_to_vec(&record);
     assert_eq!(written.as_deref(), Ok(&message[..]));
+}
+
+/// A message with this octet for its sequence.
+fn with_sequence(octet: u8) -> [u8; 7] {
+    [0x01, 0x01, 0x06, 0x11, 0x04, octet, 0x00]
+}
+
+#[test]
+fn a_sequence_is_its_number_and_its_mark() {
+    let records = [(0x01, false), (0x81, true)].map(|(octet, more_data)| {
+        let mut record = sound();
+        record.push_sequence(more_data);
+        let message = with_sequence(octet);
+        assert_eq!(codec::read(&message).as_ref(), Ok(&record));
+        assert_eq!(codec::write_to_vec(&record).as_deref(), Ok(&message[..]));
+        record
+    });
+    assert_ne!(records[0], records[1]);
+    let refused = Err(Refusal::new(Refusal::NOT_ALLOWED, 4));
+    assert_eq!(codec::read(&with_sequence(0x02)), refused);
+}
+
+#[test]
+fn a_sequence_out_of_range() {
+    let written = |value, more_data| {
+        let mut record = sound();
+        record.common.push(Common {
+            more_data,
+            ..Common::new(0x04, value)
+        });
+        codec::write_to_vec(&record).map_err(|refusal| (refusal.number, refusal.place))
+    };
+    for number in [0, 2, 127, 128, 129, 255, 256, 257, u32::MAX] {
+        for mark in [0, 1, 2, 255] {
+            assert_eq!(written(number, mark), Err((Refusal::NOT_ALLOWED, 4)));
+        }
+    }
+    for mark in [2, 3, 128, 255] {
+        assert_eq!(written(1, mark), Err((Refusal::BAD_FORM, 4)));
+    }
 }
 
 #[test]

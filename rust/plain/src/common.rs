@@ -8,7 +8,7 @@ pub const USER_CLASS: u8 = 0x01;
 pub const PARTNER_CALL: u8 = 0x82;
 /// Header of the own call number.
 pub const OWN_CALL: u8 = 0x83;
-/// Header of the sequence octet.
+/// Header of the sequence: a number and a more-data mark in one octet.
 pub const SEQUENCE: u8 = 0x04;
 /// Header of the signal kind.
 pub const SIGNAL_KIND: u8 = 0x06;
@@ -23,6 +23,8 @@ pub const MESSAGE_LIMIT: usize = 272;
 pub const COMMON_LIMIT: usize = 6;
 /// The highest call number: 24 bits.
 pub const CALL_LIMIT: u32 = 0x00FF_FFFF;
+/// The number of a sequence, the only one that it may have.
+pub const SEQUENCE_NUMBER: u32 = 1;
 
 /// Whether `header` is a listed common parameter's; the end mark is not meant.
 pub const fn is_listed(header: u8) -> bool {
@@ -40,12 +42,25 @@ pub const fn is_signal_kind(octet: u8) -> bool {
     )
 }
 
-/// Whether the parameter `header` may hold `octet`; asked of 01, 04 and 06.
-pub(crate) const fn allows(header: u8, octet: u8) -> bool {
+/// Whether the parameter `header` may hold `value`: of 04 the number, of 01 and
+/// 06 the octet.
+pub(crate) fn allows(header: u8, value: u32) -> bool {
     match header {
-        USER_CLASS => octet == 0x01,
-        SIGNAL_KIND => is_signal_kind(octet),
+        USER_CLASS => value == 0x01,
+        SEQUENCE => value == SEQUENCE_NUMBER,
+        SIGNAL_KIND => u8::try_from(value).is_ok_and(is_signal_kind),
         _ => true,
+    }
+}
+
+/// The value and the more-data mark of a common parameter with these contents, 0
+/// where it has none.
+pub(crate) fn held_in(header: u8, contents: &[u8]) -> (u32, u8) {
+    match (header, contents) {
+        (TRANSFER_DATA, _) => (0, 0),
+        (SEQUENCE, octets) => (u32::from(octets[0] & 0x7F), octets[0] >> 7),
+        (_, &[low, middle, high]) => (u32::from_le_bytes([low, middle, high, 0]), 0),
+        (_, octets) => (u32::from(octets[0]), 0),
     }
 }
 

@@ -1,9 +1,9 @@
 //! The record's image: its values as one row of octets.
 //!
 //! An image is the count of common parameters, then each of them as header,
-//! value (4 octets, least first) and count of transfer parameters, and right
-//! after a C5 its transfer parameters, each as header, its eight fields, count
-//! of values (2 octets, least first), values.
+//! value (4 octets, least first), more-data mark and count of transfer
+//! parameters, and right after a C5 its transfer parameters, each as header, its
+//! eight fields, count of values (2 octets, least first), values.
 
 use crate::common::{COMMON_LIMIT, TRANSFER_DATA};
 use crate::record::{Common, Record, Transfer};
@@ -11,7 +11,7 @@ use crate::refusal::Refusal;
 use crate::transfer::{Held, NAME_COUNT};
 
 /// Octets of a common parameter in an image, without its transfer parameters.
-const COMMON_LEN: usize = 6;
+const COMMON_LEN: usize = 7;
 /// Octets of a transfer parameter in an image, without its values.
 const TRANSFER_LEN: usize = 11;
 
@@ -53,14 +53,11 @@ fn image_len(common: &[Common]) -> usize {
 }
 
 fn put_common(record: &Record, parameter: &Common, octets: &mut Vec<u8>) {
-    let value = match parameter.header {
-        TRANSFER_DATA => 0,
-        _ => parameter.value,
-    };
+    let (value, more_data) = parameter.own();
     let transfers = transfers_of(parameter);
     octets.push(parameter.header);
     octets.extend_from_slice(&value.to_le_bytes());
-    octets.push(transfers.len() as u8);
+    octets.extend([more_data, transfers.len() as u8]);
     for transfer in transfers {
         put_transfer(record, transfer, octets);
     }
@@ -125,19 +122,23 @@ fn parse(image: &[u8]) -> Option<Record> {
 fn parse_common(rest: &mut Rest<'_>, record: &mut Record) -> Option<()> {
     let header = rest.octet()?;
     let value = u32::from_le_bytes(rest.array()?);
-    let count = usize::from(rest.octet()?);
-    if header != TRANSFER_DATA {
-        record.push_common(header, value);
-        return Some(());
-    }
+    let [more_data, count] = rest.array()?;
+    let count = match header {
+        TRANSFER_DATA => usize::from(count),
+        _ => 0,
+    };
     if count > NAME_COUNT {
         return None;
     }
-    record.common.push(Common {
+    let mut parameter = Common {
         header,
-        value: 0,
+        value,
+        more_data,
         transfers: Vec::with_capacity(count),
-    });
+    };
+    // Only what it has stays.
+    (parameter.value, parameter.more_data) = parameter.own();
+    record.common.push(parameter);
     for _ in 0..count {
         parse_transfer(rest, record)?;
     }
@@ -168,22 +169,24 @@ mod tests {
 
     #[test]
     fn not_whole_or_left_over() {
-        let image = [1, 0x01, 1, 0, 0, 0, 0];
+        let image = [1, 0x01, 1, 0, 0, 0, 0, 0];
         assert!(from_image(&image).is_ok());
         for end in 0..image.len() {
             assert_eq!(from_image(&image[..end]), Err(OVER));
         }
-        assert_eq!(from_image(&[1, 0x01, 1, 0, 0, 0, 0, 0]), Err(OVER));
+        assert_eq!(from_image(&[1, 0x01, 1, 0, 0, 0, 0, 0, 0]), Err(OVER));
         assert_eq!(from_image(&[0]), Ok(Record::default()));
     }
 
     #[test]
     fn what_a_parameter_does_not_have_is_not_looked_at() {
         let bare = [
-            2, 0x01, 1, 0, 0, 0, 0, 0xC5, 0, 0, 0, 0, 1, 0x90, 1, 0, 0, 0, 0, 0, 0, 0, 1, 0, 5,
+            3, 0x01, 1, 0, 0, 0, 0, 0, 0x04, 9, 0, 0, 0, 9, 0, 0xC5, 0, 0, 0, 0, 0, 1, 0x90, 1, 0,
+            0, 0, 0, 0, 0, 0, 1, 0, 5,
         ];
         let noisy = [
-            2, 0x01, 1, 0, 0, 0, 9, 0xC5, 9, 9, 9, 9, 1, 0x90, 1, 9, 9, 9, 9, 9, 9, 9, 1, 0, 5,
+            3, 0x01, 1, 0, 0, 0, 9, 9, 0x04, 9, 0, 0, 0, 9, 9, 0xC5, 9, 9, 9, 9, 9, 1, 0x90, 1, 9,
+            9, 9, 9, 9, 9, 9, 1, 0, 5,
         ];
         let record = from_image(&noisy).unwrap();
         assert_eq!(image(&record), bare);

@@ -94,7 +94,8 @@ fn walk_common<V: Visitor>(
         visitor.common(parameter);
         walk_transfer_data(parameter, visitor)?;
     } else {
-        if !common::allows(header, parameter.contents[0]) {
+        let (value, _) = common::held_in(header, parameter.contents);
+        if !common::allows(header, value) {
             return Err(refusal(Refusal::NOT_ALLOWED));
         }
         visitor.common(parameter);
@@ -173,14 +174,15 @@ pub fn read(message: &[u8]) -> Result<Record, Refusal> {
 
 /// A common parameter as the record holds it; C5 without its parameters yet.
 fn hold_common(parameter: Parameter<'_>) -> Common {
-    let (value, expected) = match (parameter.header, parameter.contents) {
-        (TRANSFER_DATA, data) => (0, NAME_COUNT.min(data.len() / 2)),
-        (_, &[low, middle, high]) => (u32::from_le_bytes([low, middle, high, 0]), 0),
-        (_, octets) => (u32::from(octets[0]), 0),
+    let (value, more_data) = common::held_in(parameter.header, parameter.contents);
+    let expected = match parameter.header {
+        TRANSFER_DATA => NAME_COUNT.min(parameter.contents.len() / 2),
+        _ => 0,
     };
     Common {
         header: parameter.header,
         value,
+        more_data,
         transfers: Vec::with_capacity(expected),
     }
 }

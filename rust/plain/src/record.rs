@@ -1,6 +1,6 @@
 //! The record: a message as a sequence of values.
 
-use crate::common::{COMMON_LIMIT, TRANSFER_DATA};
+use crate::common::{COMMON_LIMIT, SEQUENCE, TRANSFER_DATA};
 use crate::digits::octets_for;
 use crate::transfer::{Held, DATA_LIMIT, NAME_COUNT};
 use std::ops::Range;
@@ -23,9 +23,12 @@ pub struct Record {
 pub struct Common {
     /// The header octet.
     pub header: u8,
-    /// The call number of 82 and 83, the octet of 01, 04 and 06; C5 has none:
-    /// it is not looked at, and 0 where a record is handed out.
+    /// The call number of 82 and 83, the number of 04, the octet of 01 and 06;
+    /// C5 has none: it is not looked at, and 0 where a record is handed out.
     pub value: u32,
+    /// The more-data mark of 04: 0 or 1; the others have none: it is not looked
+    /// at, and 0 where a record is handed out.
+    pub more_data: u8,
     /// The transfer parameters of C5, in their order; the others have none.
     pub transfers: Vec<Transfer>,
 }
@@ -72,12 +75,13 @@ impl Record {
             .unwrap_or_default()
     }
 
-    /// Adds a common parameter without transfer parameters.
+    /// Adds a common parameter with the more-data mark 0, without transfer
+    /// parameters.
     pub fn push_common(&mut self, header: u8, value: u32) {
         self.common.push(Common {
             header,
             value,
-            transfers: Vec::new(),
+            ..Common::default()
         });
     }
 
@@ -139,6 +143,17 @@ pub fn contents_len(header: u8, values: &[u8]) -> usize {
         Held::Digits => 1 + octets_for(count),
         Held::Number => 2 + octets_for(count),
         Held::Generic => 3 + octets_for(count - 1),
+    }
+}
+
+impl Common {
+    /// The value and the more-data mark, with 0 for one that it does not have.
+    pub(crate) fn own(&self) -> (u32, u8) {
+        match self.header {
+            TRANSFER_DATA => (0, 0),
+            SEQUENCE => (self.value, self.more_data),
+            _ => (self.value, 0),
+        }
     }
 }
 

@@ -18,7 +18,8 @@ impl Refusal {
     pub const COMMON_REPEATED: u8 = 3;
     /// 4: the message ends inside a parameter, or with no end mark.
     pub const MESSAGE_CUT: u8 = 4;
-    /// 5: the user class or the signal kind is not allowed.
+    /// 5: the user class, the signal kind or the number of the sequence is not
+    /// allowed.
     pub const NOT_ALLOWED: u8 = 5;
     /// 6: the user class or the signal kind is missing at the end mark.
     pub const MISSING: u8 = 6;

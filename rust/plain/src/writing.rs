@@ -1,8 +1,6 @@
 //! Writing: a record laid out as a message.
 
-use crate::common::{
-    self, Seen, CALL_LIMIT, END_MARK, OWN_CALL, PARTNER_CALL, SEQUENCE, TRANSFER_DATA,
-};
+use crate::common::{self, Seen, CALL_LIMIT, END_MARK, OWN_CALL, PARTNER_CALL, TRANSFER_DATA};
 use crate::digits::{all_digits, octets_for, DIALLED};
 use crate::number;
 use crate::record::{Common, Record, Transfer};
@@ -88,20 +86,23 @@ fn lay_common(
             Ok(())
         }
         _ => {
-            let octet = held_octet(header, value).map_err(refusal)?;
+            let octet = held_octet(parameter).map_err(refusal)?;
             draft.put(&[header, octet]);
             Ok(())
         }
     }
 }
 
-/// The octet of 01, 04 or 06.
-fn held_octet(header: u8, value: u32) -> Result<u8, u8> {
-    match u8::try_from(value) {
-        Ok(octet) if common::allows(header, octet) => Ok(octet),
-        Err(_) if header == SEQUENCE => Err(Refusal::BAD_FORM),
-        _ => Err(Refusal::NOT_ALLOWED),
+/// The octet of 01, 04 or 06. Refused are 5, then 12 if the mark of 04 is too
+/// large for its bit.
+fn held_octet(parameter: &Common) -> Result<u8, u8> {
+    if !common::allows(parameter.header, parameter.value) {
+        return Err(Refusal::NOT_ALLOWED);
     }
+    let (value, more_data) = parameter.own();
+    formed(more_data <= 1)?;
+    // An allowed value is below 128.
+    Ok(more_data << 7 | value as u8)
 }
 
 /// Lays C5 with its length and its parameters.

@@ -2,7 +2,7 @@
 
 use plain::common::MESSAGE_LIMIT;
 use plain::transfer::Layout;
-use trial::messages::{damage, scratch, sound_draft, Size};
+use trial::messages::{damage, scratch, sequence, sound_draft, Size};
 use trial::parameters::{names_with, sound};
 use trial::Rng;
 
@@ -11,7 +11,7 @@ use trial::Rng;
 pub enum Class {
     /// Sound, of at most 24 octets.
     Short,
-    /// As M of the bench table, with other numbers and digits.
+    /// As M of the bench table, with other call numbers, marks and digits.
     MLike,
     /// Sound, of 272 octets.
     Full,
@@ -111,9 +111,10 @@ fn full(rng: &mut Rng) -> Vec<u8> {
 
 fn m_like(rng: &mut Rng) -> Vec<u8> {
     let mut message = M.to_vec();
-    for at in [3, 4, 7] {
+    for at in [3, 4] {
         message[at] = rng.octet();
     }
+    message[7] = sequence(rng);
     let mut digit = || rng.between(1, 10) as u8;
     for at in [14, 15, 20] {
         message[at] = digit() | digit() << 4;
@@ -129,7 +130,7 @@ fn around(rng: &mut Rng, len: usize, data: fn(&mut Rng, usize, &mut Vec<u8>)) ->
     for header in [0x82, 0x83] {
         message.extend([header, rng.octet(), rng.octet(), rng.octet()]);
     }
-    message.extend([0x04, rng.octet(), 0x06, 0x11]);
+    message.extend([0x04, sequence(rng), 0x06, 0x11]);
     // C5, its length octet and the end mark are still to come.
     let left = len - message.len() - 3;
     message.extend([0xC5, left as u8]);

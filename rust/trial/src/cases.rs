@@ -148,14 +148,24 @@ fn image(text: &str) -> Option<Vec<u8>> {
             data.transfers.push(transfer(head, values)?);
             continue;
         }
-        let (header, value) = word.split_once('=').unwrap_or((word, "0"));
-        record.common.push(Common {
-            header: u8::from_str_radix(header, 16).ok()?,
-            value: u32::from_str_radix(value, 16).ok()?,
-            transfers: Vec::new(),
-        });
+        record.common.push(common(word)?);
     }
     Some(record.image())
+}
+
+/// `HEADER`, `HEADER=VALUE` or `HEADER(more-data=MARK)=VALUE`.
+fn common(word: &str) -> Option<Common> {
+    let (head, value) = match word.split_once(")=") {
+        Some(marked) => marked,
+        None => word.split_once('=').unwrap_or((word, "0")),
+    };
+    let (header, more_data) = head.split_once("(more-data=").unwrap_or((head, "0"));
+    Some(Common {
+        header: u8::from_str_radix(header, 16).ok()?,
+        value: u32::from_str_radix(value, 16).ok()?,
+        more_data: u8::from_str_radix(more_data, 16).ok()?,
+        transfers: Vec::new(),
+    })
 }
 
 fn transfer(head: &str, values: &str) -> Option<Transfer> {

@@ -113,6 +113,7 @@ pub fn sound_draft(rng: &mut Rng, size: Size) -> Draft {
 fn common(rng: &mut Rng, header: u8) -> Vec<u8> {
     let contents = match header {
         0x01 => vec![0x01],
+        0x04 => vec![sequence(rng)],
         0x06 => vec![signal_kind(rng)],
         _ if header >> 6 == 3 => {
             let len = rng.below(4);
@@ -123,6 +124,11 @@ fn common(rng: &mut Rng, header: u8) -> Vec<u8> {
         _ => rng.octets(usize::from(header >> 6) + 1),
     };
     [&[header], &contents[..]].concat()
+}
+
+/// The octet of a sound sequence: the number 1, and any mark.
+pub fn sequence(rng: &mut Rng) -> u8 {
+    rng.pick(&[0x01, 0x81])
 }
 
 fn signal_kind(rng: &mut Rng) -> u8 {

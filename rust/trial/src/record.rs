@@ -17,6 +17,8 @@ pub struct Common {
     pub header: u8,
     /// The value of any but C5.
     pub value: u32,
+    /// The more-data mark of 04.
+    pub more_data: u8,
     /// The transfer parameters of C5.
     pub transfers: Vec<Transfer>,
 }
@@ -102,7 +104,7 @@ impl Common {
     pub(crate) fn put(&self, octets: &mut Vec<u8>, count: u8) {
         octets.push(self.header);
         octets.extend(self.value.to_le_bytes());
-        octets.push(count);
+        octets.extend([self.more_data, count]);
         if self.header == 0xC5 {
             for transfer in &self.transfers {
                 transfer.put(octets);
@@ -144,6 +146,7 @@ impl From<plain::Record> for Record {
         let common = |parameter: &plain::Common| Common {
             header: parameter.header,
             value: parameter.value,
+            more_data: parameter.more_data,
             transfers: parameter.transfers.iter().map(transfer).collect(),
         };
         Record {

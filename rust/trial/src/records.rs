@@ -102,8 +102,8 @@ fn split_data(rng: &mut Rng, record: &mut Record) {
     let to = rng.between(0, record.common.len());
     let second = Common {
         header: 0xC5,
-        value: 0,
         transfers,
+        ..Common::default()
     };
     record.common.insert(to, second);
 }

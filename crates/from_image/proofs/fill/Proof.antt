@@ -155,7 +155,7 @@ next-is c =
 
 -- the place for the head
 place-here : (c : tie.After-q Inv-loop μ-loop)
-    → c .before .before .before .before .before .before .before .before .before .before .before .loop .q .commons < common-head
+    → c .before .before .before .before .before .before .before .before .before .before .before .loop .q .commons < most-commons
 place-here c = c .before .before .before .before .before .before .before .before .before .if1 .left
 
 mul-c : tie.Need-mul-c Inv-loop μ-loop

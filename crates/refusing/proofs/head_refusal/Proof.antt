@@ -5,9 +5,8 @@ use mathlib.Core.List.{[]}
 use borrow.Author.Needs.{needs}
 use borrow.Author.Tests.{ne-eqb, lt-ltb, le-ltb, not-true, not-false}
 use Rattle.annex.specs.Answers.{refuse, not-allowed, bad-form}
-use Rattle.annex.specs.Heads.{among, commonHeaders}
+use Rattle.annex.specs.Heads.{among, commonHeaders, valueAllowed}
 use Rattle.annex.specs.Allowed.{valueFits}
-use Rattle.annex.specs.Reading.{octetAllowed}
 use Rattle.annex.specs.Records.{valueHead, rawPart}
 use Rattle.annex.specs.Writing.{partWriting}
 use Rattle.annex.specs.declared.Answer.the-variants.{Accepted}
@@ -39,7 +38,7 @@ returns-3 c = rw (head-checked _ (c .before .before .before .before .args .c), c
 past-3 : (c : tie.Else3) →
     let a = c .before .before .before .before .args in
     partWriting (a .times) 0 (rawPart (a .c) [])
-    ≡ refuse (not (octetAllowed (a .c .header) (a .c .value))) not-allowed 0
+    ≡ refuse (not (valueAllowed (a .c .header) (a .c .value))) not-allowed 0
     (refuse (not (valueFits (rawPart (a .c) []))) bad-form 0 (Accepted (headLength (a .c .header))))
 past-3 c =
     let a = c .before .before .before .before .args in
@@ -48,7 +47,7 @@ past-3 c =
 returns-4 : tie.Need-returns-4
 returns-4 c =
     let r = c .before in
-    rw (past-3 (r .before), ← r .value-right .ensures, not-true (r .value-right .result) (c .if4 .taken))
+    rw (past-3 (r .before), ← r .value-allowed .ensures, not-true (r .value-allowed .result) (c .if4 .taken))
 
 returns-5 : tie.Need-returns-5
 returns-5 c =
@@ -56,8 +55,8 @@ returns-5 c =
     let r = f .before .before in
     rw (
       past-3 (r .before),
-      ← r .value-right .ensures,
-      not-false (r .value-right .result) (f .before .if4 .left),
+      ← r .value-allowed .ensures,
+      not-false (r .value-allowed .result) (f .before .if4 .left),
       ← f .value-fits .ensures,
       not-true (f .value-fits .result) (c .if5 .taken),
     )
@@ -68,8 +67,8 @@ returns-6 c =
     let r = f .before .before in
     rw (
       past-3 (r .before),
-      ← r .value-right .ensures,
-      not-false (r .value-right .result) (f .before .if4 .left),
+      ← r .value-allowed .ensures,
+      not-false (r .value-allowed .result) (f .before .if4 .left),
       ← f .value-fits .ensures,
       not-false (f .value-fits .result) (c .before .if5 .left),
       c .head-len .ensures,

@@ -7,7 +7,7 @@ use Rattle.refusing.proofs.value_fits.Tie as tie
 
 returns : tie.Need-returns
 unfolding valueFits
-returns c = rw (eq-eqb _ _ (c .if1 .taken))
+returns c = rw (eq-eqb _ _ (c .before .if1 .taken))
 
 returns-2 : tie.Need-returns-2
 unfolding valueFits

@@ -20,6 +20,7 @@ fn image(header: u8, contents: &[u8]) -> Vec<u8> {
         header,
         value,
         transfers,
+        ..Common::default()
     };
     let opened = Transfer {
         header,

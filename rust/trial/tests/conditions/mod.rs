@@ -261,7 +261,7 @@ impl Written {
             transfers: Vec::new(),
         };
         for _ in 0..common {
-            let (&[header, _, _, _, _, count], behind) = rest.split_first_chunk()?;
+            let (&[header, _, _, _, _, _, count], behind) = rest.split_first_chunk()?;
             rest = behind;
             if header == 0xC5 {
                 written.data += 1;

@@ -7,7 +7,7 @@ use mathlib.Core.List.{List, [], _∷_}
 use borrow.Author.Needs.{needs}
 use borrow.Author.Tests.{ne-eqb}
 use Rattle.annex.specs.Heads.{transfer-data, isCall}
-use Rattle.annex.specs.Layout.{layoutItems, callOctets, layoutPart}
+use Rattle.annex.specs.Layout.{layoutItems, callOctets, octetOf, layoutPart}
 use Rattle.annex.specs.Memory.{lowOctets, copying, layingHead}
 use Rattle.annex.specs.Promises.{Keeps}
 use Rattle.annex.specs.Records.{rawPart}
@@ -35,7 +35,7 @@ module _ (c : Common) (octet : c .header < 256) where
         let d : v / 65536 % 256 % 256 ≡ v / 65536 % 256 = omega arith in
         rw (ne-eqb (c .header) transfer-data other, e, same, a, b, d)
 
-    low-plain : isCall (c .header) ≡ false → c .header ∷ c .value % 256 ∷ [] ≡ lowOctets (layoutPart (rawPart c []))
+    low-plain : isCall (c .header) ≡ false → c .header ∷ octetOf (rawPart c []) % 256 ∷ [] ≡ lowOctets (layoutPart (rawPart c []))
     unfolding layoutPart
     low-plain e = rw (ne-eqb (c .header) transfer-data other, e, same)
 
@@ -71,13 +71,14 @@ returns-2 c =
 returns-3 : tie.Need-returns-3
 returns-3 c =
     let p = c .before .before in
-    let n = p .before .before .before in
+    let o = p .before .before .before in
+    let n = o .before in
     let i = n .before in
     let e = i .before in
     let st = e .before .before in
     let a = st .args in
     laid (a .c) (a .room .now) _ _ (a .at) _
-    (low-plain (a .c) (octet-is st) (e .if1 .left) (sym (i .is-call .ensures) ∙ n .if2 .left))
+    (rw (o .own-octet .ensures) (low-plain (a .c) (octet-is st) (e .if1 .left) (sym (i .is-call .ensures) ∙ n .if2 .left)))
     (p .copy-in3 .ensures)
 
 pub lay-head-spec : {M : Type 1} → statement M
@@ -97,7 +98,7 @@ lay-head-spec =
     (λ c κs. search needs)
     (λ c. search needs)
     returns-2
-    (λ c. search needs)
+    (λ c κs. search needs)
     (λ c. search needs)
     (λ c κs. search needs)
     (λ c. search needs)

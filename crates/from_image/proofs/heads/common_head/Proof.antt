@@ -8,12 +8,14 @@ use Rattle.from_image.proofs.heads.common_head.Tie as tie
 returns : tie.Need-returns
 returns c =
     let t = c .before in
-    let c₅ = t .before in
+    let c₆ = t .before in
+    let c₅ = c₆ .before in
     let c₄ = c₅ .before in
     let c₃ = c₄ .before in
     let c₂ = c₃ .before in
     rw (
-      ← c .octet-at6 .ensures,
+      ← c .octet-at7 .ensures,
+      ← c₆ .octet-at6 .ensures,
       ← c₅ .octet-at5 .ensures,
       ← c₄ .octet-at4 .ensures,
       ← c₃ .octet-at3 .ensures,
@@ -24,11 +26,13 @@ returns c =
 
 returns-2 : tie.Need-returns-2
 returns-2 c =
-    let c₅ = c .before in
+    let c₆ = c .before in
+    let c₅ = c₆ .before in
     let c₄ = c₅ .before in
     let c₃ = c₄ .before in
     let c₂ = c₃ .before in
     rw (
+      ← c₆ .octet-at6 .ensures,
       ← c₅ .octet-at5 .ensures,
       ← c₄ .octet-at4 .ensures,
       ← c₃ .octet-at3 .ensures,
@@ -56,6 +60,7 @@ common-head-spec =
     (λ c. search needs)
     (λ c. search needs)
     (λ c. search needs)
+    (λ c κs. search needs)
     (λ c κs. search needs)
     returns
     returns-2)
