@@ -131,6 +131,22 @@ pub fn sequence(rng: &mut Rng) -> u8 {
     rng.pick(&[0x01, 0x81])
 }
 
+/// Octets of a sequence with another number: those next to 1 and the last, with
+/// both marks, and 1 where the bits are taken in another order.
+const OTHER_SEQUENCES: [u8; 12] = [
+    0x00, 0x02, 0x03, 0x40, 0x41, 0x7F, 0x80, 0x82, 0x83, 0xC0, 0xC1, 0xFF,
+];
+
+/// Gives a common parameter of one octet another one, as a rule not allowed.
+fn spoil(rng: &mut Rng, parameter: &mut [u8]) {
+    if let [header, octet] = parameter {
+        *octet = match header {
+            0x04 => rng.pick(&OTHER_SEQUENCES),
+            _ => rng.octet(),
+        };
+    }
+}
+
 fn signal_kind(rng: &mut Rng) -> u8 {
     let kinds: Vec<u8> = (0..=255).filter(|&octet| is_signal_kind(octet)).collect();
     rng.pick(&kinds)
@@ -264,7 +280,7 @@ pub fn damage(rng: &mut Rng, draft: &mut Draft) {
 
 /// Damages the common part.
 fn damage_common(rng: &mut Rng, draft: &mut Draft) {
-    match rng.below(12) {
+    match rng.below(13) {
         0..=3 => add_common(rng, draft),
         4 | 5 => {
             let header = rng.pick(&[0x01, 0x06]);
@@ -272,22 +288,21 @@ fn damage_common(rng: &mut Rng, draft: &mut Draft) {
                 |part| !matches!(part, Part::Common(octets) if octets.first() == Some(&header)),
             );
         }
-        6 => {
-            let value = rng.octet();
-            let header = rng.pick(&[0x01, 0x06]);
-            if let Some([_, octet]) = draft.common(header).map(Vec::as_mut_slice) {
-                *octet = value;
+        6 | 7 => {
+            let header = rng.pick(&[0x01, 0x06, 0x04, 0x04]);
+            if let Some(parameter) = draft.common(header) {
+                spoil(rng, parameter);
             }
         }
-        7 => {
+        8 => {
             let header = rng.pick(&[0x01, 0x06, 0x82, 0x83, 0x04]);
             if let Some(octets) = draft.common(header) {
                 octets.pop();
             }
         }
-        8 => draft.insert(rng, Part::Common(vec![0x00])),
-        9 => draft.end.clear(),
-        10 => {
+        9 => draft.insert(rng, Part::Common(vec![0x00])),
+        10 => draft.end.clear(),
+        11 => {
             let len = rng.between(1, 3);
             let mut more = rng.octets(len);
             if rng.one_in(3) {
@@ -305,7 +320,7 @@ fn damage_common(rng: &mut Rng, draft: &mut Draft) {
 
 /// Adds a common parameter: one that is there, one of a listed header, or any.
 fn add_common(rng: &mut Rng, draft: &mut Draft) {
-    let added = match rng.below(4) {
+    let mut added = match rng.below(4) {
         0 | 1 if !draft.parts.is_empty() => draft.parts[rng.below(draft.parts.len())].clone(),
         2 => {
             let header = rng.pick(&[0x01, 0x06, 0x82, 0x83, 0x04, 0xC5]);
@@ -316,6 +331,9 @@ fn add_common(rng: &mut Rng, draft: &mut Draft) {
             Part::Common(common(rng, header))
         }
     };
+    if let (Part::Common(parameter), true) = (&mut added, rng.one_in(2)) {
+        spoil(rng, parameter);
+    }
     draft.insert(rng, added);
 }
 

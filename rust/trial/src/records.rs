@@ -127,7 +127,7 @@ fn damage_common(rng: &mut Rng, record: &mut Record) {
         return;
     }
     let at = rng.below(record.common.len());
-    match rng.below(11) {
+    match rng.below(13) {
         0 => record.common[at].header = rng.octet(),
         1 => record.common[at].header = rng.pick(&[0x00, 0x01, 0x06, 0x82, 0x83, 0x04, 0xC5]),
         2..=4 => {
@@ -150,9 +150,52 @@ fn damage_common(rng: &mut Rng, record: &mut Record) {
         }
         8 => record.common.retain(|c| !matches!(c.header, 0x01 | 0x06)),
         9 => split_data(rng, record),
+        10 | 11 => damage_sequence(rng, record),
         _ => {
             let more = record.common.clone();
             record.common.extend(more);
+        }
+    }
+}
+
+/// Numbers that a 04 may not have: next to 1, at the limits of its bits, of an
+/// octet and of what a record can hold, and 1 with one more bit set.
+const OTHER_NUMBERS: [u32; 12] = [
+    0,
+    2,
+    127,
+    128,
+    129,
+    255,
+    256,
+    257,
+    0x8001,
+    0x1_0001,
+    0x100_0001,
+    u32::MAX,
+];
+
+/// Gives a 04, one that is there or one more, another number than 1, a mark that
+/// is too large, or both.
+fn damage_sequence(rng: &mut Rng, record: &mut Record) {
+    let number = rng.pick(&OTHER_NUMBERS);
+    let mark = rng.pick(&[2, 3, 127, 128, 129, 255]);
+    let (value, more_data) = match rng.below(4) {
+        0 | 1 => (number, rng.below(2) as u8),
+        2 => (1, mark),
+        _ => (number, mark),
+    };
+    let sequence = Common {
+        header: 0x04,
+        value,
+        more_data,
+        transfers: Vec::new(),
+    };
+    match record.common.iter_mut().find(|c| c.header == 0x04) {
+        Some(found) if rng.below(4) > 0 => *found = sequence,
+        _ => {
+            let to = rng.between(0, record.common.len());
+            record.common.insert(to, sequence);
         }
     }
 }
@@ -352,6 +395,9 @@ fn noisy_image(rng: &mut Rng, record: &Record) -> Vec<u8> {
     let mut octets = vec![record.common.len() as u8];
     for parameter in &record.common {
         let mut parameter = parameter.clone();
+        if parameter.header != 0x04 {
+            parameter.more_data = rng.octet();
+        }
         let count = if parameter.header == 0xC5 {
             parameter.value = rng.number() as u32;
             for transfer in &mut parameter.transfers {

@@ -1,13 +1,14 @@
 //! Over many inputs every answer occurs that a call can have, and no other;
 //! every name meets every refusal that its layout can give; every field is met
-//! at its limit and one above, and so are every rate kind of the charging
-//! information and every form and header of the connection order; and every
-//! condition of a list occurs.
+//! at its limit and one above, and so are the number and the mark of the
+//! sequence, every rate kind of the charging information and every form and
+//! header of the connection order; and every condition of a list occurs.
 
 mod charging;
 mod conditions;
 mod contents;
 mod order;
+mod sequence;
 
 use conditions::CONDITIONS;
 use contents::contents_in;
@@ -89,6 +90,27 @@ fn every_condition_occurs() {
     }
     let missing: Vec<&str> = missing.into_iter().map(|(name, _)| name).collect();
     panic!("did not occur: {missing:?}");
+}
+
+#[test]
+fn every_number_and_mark_of_a_sequence_occurs() {
+    let [mut read, mut written, mut edited] = [(); 3].map(|()| sequence::Sights::new());
+    for (input, outcome) in calls() {
+        let seen = match input.kind() {
+            Kind::Write => &mut written,
+            Kind::Replace | Kind::Append | Kind::Remove => &mut edited,
+            _ => &mut read,
+        };
+        seen.extend(sequence::sights(&input, &outcome));
+    }
+    for (call, all, seen) in [
+        ("read", sequence::all_read(), read),
+        ("written", sequence::all_written(), written),
+        ("edited", sequence::all_read(), edited),
+    ] {
+        let missing: Vec<_> = all.difference(&seen).copied().collect();
+        assert_eq!(missing, [], "{call}");
+    }
 }
 
 #[test]

@@ -40,6 +40,11 @@ pub const CONDITIONS: &[Condition] = &[
             w.within() == [false, true, true] && w.common == 7
         })
     }),
+    ("marks of all but 04 that are too large", |i, o| {
+        writes(i, o, 0, |w| {
+            w.other_marks.len() == 5 && w.other_marks.iter().all(|&m| m > 1)
+        })
+    }),
     ("contents of 255 in one C5", |i, o| {
         writes(i, o, 14, |w| w.data == 1 && w.contents_len() == 255)
     }),
@@ -247,6 +252,8 @@ struct Written {
     common: usize,
     /// How many of the common parameters are C5.
     data: usize,
+    /// The more-data marks of the common parameters that have none, all but 04.
+    other_marks: Vec<u8>,
     /// The headers and values of the transfer parameters, of all C5 together.
     transfers: Vec<Transfer>,
 }
@@ -258,11 +265,15 @@ impl Written {
         let mut written = Written {
             common: common.into(),
             data: 0,
+            other_marks: Vec::new(),
             transfers: Vec::new(),
         };
         for _ in 0..common {
-            let (&[header, _, _, _, _, _, count], behind) = rest.split_first_chunk()?;
+            let (&[header, _, _, _, _, more_data, count], behind) = rest.split_first_chunk()?;
             rest = behind;
+            if header != 0x04 {
+                written.other_marks.push(more_data);
+            }
             if header == 0xC5 {
                 written.data += 1;
                 for _ in 0..count {
