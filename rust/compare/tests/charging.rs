@@ -1,9 +1,11 @@
 //! The charging information with every octet in every place, and of every kind
 //! and length, put to both codecs in every call that reads or writes it.
 
+mod calls;
 mod opened;
 
-use opened::{lent, parameter, readings, same, same_in_all, writings};
+use calls::{lent, readings, same, same_in_all};
+use opened::{parameter, writings};
 use plain::transfer::CHARGING;
 use trial::messages::with_alone;
 use trial::outcome::CHARGING_LEN;

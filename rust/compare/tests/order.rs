@@ -2,9 +2,11 @@
 //! every octet in every place, put to both codecs in every call that reads or
 //! writes it.
 
+mod calls;
 mod opened;
 
-use opened::{lent, parameter, readings, same, same_in_all, EMPTY};
+use calls::{lent, readings, same, same_in_all};
+use opened::{parameter, EMPTY};
 use plain::order::ORDER_ROW_LIMIT;
 use plain::transfer::ORDER;
 use trial::messages::with_alone;
