@@ -83,7 +83,7 @@ dataPart is = part transfer-data 0 0 is
 abbrev pub partWith : List Item → Part → Part
 partWith is p = part (p .header) (p .value) (p .moreData) is
 
--- what the octet x of 01, 04 or 06 says: request d: of 04, bits 6-0 are the number and bit 7 is the more-data mark
+-- what the octet x of 01, 04 or 06 says. Request d: of 04, bits 6-0 are the number, and bit 7 is the more-data mark
 abbrev pub valueIn : ℕ → ℕ → ℕ
 valueIn h x = cond (eqb h sequence) (x % 128) x
 

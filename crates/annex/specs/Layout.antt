@@ -29,7 +29,7 @@ layoutItems (i ∷ is) = layoutItem i ++ layoutItems is
 abbrev pub callOctets : ℕ → List ℕ
 callOctets v = v % 256 ∷ v / 256 % 256 ∷ v / 65536 % 256 ∷ []
 
--- the octet of 01, 04 or 06: request d: of 04, the more-data mark stands above the number
+-- the octet of 01, 04 or 06. Request d: of 04, the more-data mark stands above the number
 abbrev pub octetOf : Part → ℕ
 octetOf p = cond (eqb (p .header) sequence) (128 * p .moreData + p .value) (p .value)
 

@@ -28,13 +28,12 @@ pub fn lay_head(c: Common, room: &mut [u8], at: usize) -> bool
     ensures { λ r. ⌜ Keeps (layingHead c (now (room .entry)) at) r (now (room .exit)) ⌝ }
 {
     let header = c.header;
-    let value = c.value;
     if header == Common::TRANSFER_DATA {
         let octets = [header, 0];
         return copy_in(room, at, &octets);
     }
     if is_call(header) {
-        let own = call_octets(value);
+        let own = call_octets(c.value);
         let octets = [header, own[0], own[1], own[2]];
         return copy_in(room, at, &octets);
     }
