@@ -26,9 +26,9 @@ use Rattle.annex.specs.Heads.{
   call-number-below,
   most-transfer-octets,
 }
-use Rattle.annex.specs.Items.{Item, Part, valuePart, dataPart, valueIn, octetPart}
+use Rattle.annex.specs.Items.{Item, Part, part, valuePart, dataPart, valueIn, moreDataIn, octetPart}
 use Rattle.annex.specs.Layout.{layoutItems, layoutPart, callOctets, octetOf, dataOctets}
-use Rattle.annex.specs.Allowed.{every, isOctet, HeldItem, HeldPart, valueRight, valueFits}
+use Rattle.annex.specs.Allowed.{every, isOctet, HeldItem, HeldPart, ownMark, valueRight, valueFits}
 use Rattle.annex.specs.Walk.{Par}
 use Rattle.annex.specs.Reading.{transfersOf, openTransfer, openCommon, callNumber, openCommonBy}
 use Rattle.annex.specs.declared.Extent.the-variants.{Fixed, Counted}
@@ -39,29 +39,33 @@ use Rattle.theorems.specs.Lengths.{cut}
 use Rattle.theorems.specs.Steps.{CommonOwn}
 use Rattle.theorems.specs.Transfers.{AllowedItem, AllowedItems, transfers-read, transfers-built}
 
--- ---- the four kinds
+-- ---- the three kinds
 
 -- the most octets of a common parameter, by its name; with the end mark they come to 272
 abbrev pub mostOf : ℕ → ℕ
 mostOf x = getD (1 ∷ 2 ∷ 4 ∷ 4 ∷ 2 ∷ 257 ∷ 2 ∷ []) x 0
 
--- 01 and 06: one octet, which the rules keep an octet in a record too
+-- what an octet says is laid out to it again, is the header's own and fits its bits
+record OctetRead (p : Part) (x : ℕ) : Type 0 where
+  laid : octetOf p ≡ x
+  own : ownMark (p .header) (p .moreData) ≡ p .moreData
+  fits : valueFits p ≡ true
+
+-- and an allowed value is laid out, with its mark, to an octet that says them
+pub record OctetBuilt (h v m : ℕ) : Type 0 where
+  pub small : v < 256
+  octet : octetOf (part h v m []) < 256
+  value : valueIn h (octetOf (part h v m [])) ≡ v
+  mark : moreDataIn h (octetOf (part h v m [])) ≡ ownMark h m
+
+-- 01, 04 and 06: one octet
 pub record OneOctet (h : ℕ) : Type 0 where
   pub plain : eqb h transfer-data ≡ false
   pub uncalled : isCall h ≡ false
-  pub unsequenced : eqb h sequence ≡ false
   pub extent : commonExtentOf h ≡ Fixed 1
   pub most : mostOf (nameOf h) ≡ 2
-  pub small : (v : ℕ) → valueAllowed h v ≡ true → v < 256
-
--- 04: one octet, a number and a mark above it
-pub record SequenceKind (h : ℕ) : Type 0 where
-  pub plain : eqb h transfer-data ≡ false
-  pub uncalled : isCall h ≡ false
-  pub isSequence : eqb h sequence ≡ true
-  pub extent : commonExtentOf h ≡ Fixed 1
-  pub most : mostOf (nameOf h) ≡ 2
-  pub one : (v : ℕ) → valueAllowed h v ≡ true → v ≡ sequence-number
+  read : (x : ℕ) → x < 256 → OctetRead (octetPart h x) x
+  pub built : (v m : ℕ) → valueAllowed h v ≡ true → valueFits (part h v m []) ≡ true → OctetBuilt h v m
 
 -- 82 and 83: three octets, of which none is refused
 pub record CallNumber (h : ℕ) : Type 0 where
@@ -81,37 +85,60 @@ pub record DataKind (h : ℕ) : Type 0 where
 
 pub data Kind (h : ℕ) : Type 0 where
   octet : OneOctet h → Kind h
-  marked : SequenceKind h → Kind h
   call : CallNumber h → Kind h
   many : DataKind h → Kind h
+
+-- one without a mark: its value is the octet
+module _ (h : ℕ) (unmarked : eqb h sequence ≡ false) (uncalled : isCall h ≡ false)
+    (small : (v : ℕ) → valueAllowed h v ≡ true → v < 256) where
+  unmarked-read : (x : ℕ) → x < 256 → OctetRead (octetPart h x) x
+  unfolding valueFits
+  unmarked-read x l = record { laid = rw unmarked; own = rw unmarked; fits = rw (unmarked, uncalled) }
+
+  unmarked-built : (v m : ℕ) → valueAllowed h v ≡ true → valueFits (part h v m []) ≡ true → OctetBuilt h v m
+  unmarked-built v m a f =
+      record { small = small v a; octet = rw unmarked (small v a); value = rw unmarked; mark = rw unmarked }
 
 class-octet : OneOctet user-class
 unfolding commonExtentOf valueAllowed
 class-octet =
+    let small : (v : ℕ) → valueAllowed user-class v ≡ true → v < 256 = λ v e. omega (arith, eqb-true v advanced-telephony e) in
     record {
       plain = refl;
       uncalled = refl;
-      unsequenced = refl;
       extent = refl;
       most = refl;
-      small = λ v e. omega (arith, eqb-true v advanced-telephony e);
+      read = unmarked-read user-class refl refl small;
+      built = unmarked-built user-class refl refl small;
     }
-
-sequence-kind : SequenceKind sequence
-unfolding commonExtentOf valueAllowed
-sequence-kind =
-    record { plain = refl; uncalled = refl; isSequence = refl; extent = refl; most = refl; one = λ v e. eqb-true v sequence-number e }
 
 kind-octet : OneOctet signal-kind
 unfolding commonExtentOf valueAllowed
 kind-octet =
+    let small : (v : ℕ) → valueAllowed signal-kind v ≡ true → v < 256 = among-each (λ k. k < 256) signalKinds (omega arith) in
     record {
       plain = refl;
       uncalled = refl;
-      unsequenced = refl;
       extent = refl;
       most = refl;
-      small = λ v e. among-each (λ k. k < 256) signalKinds (omega arith) v e;
+      read = unmarked-read signal-kind refl refl small;
+      built = unmarked-built signal-kind refl refl small;
+    }
+
+-- the mark stands above the number, which has seven bits
+sequence-octet : OneOctet sequence
+unfolding commonExtentOf valueAllowed valueFits
+sequence-octet =
+    record {
+      plain = refl;
+      uncalled = refl;
+      extent = refl;
+      most = refl;
+      read = λ x l. record { laid = omega arith; own = refl; fits = le-leb (x / 128) 1 (omega arith) };
+      built = λ v m a f.
+          let one = eqb-true v sequence-number a in
+          let bit = leb-true m 1 f in
+          record { small = omega arith; octet = omega arith; value = omega arith; mark = omega arith };
     }
 
 partners-number : CallNumber partners-call
@@ -129,7 +156,7 @@ data-kind = record { isData = refl; extent = refl; most = refl; free = λ v. ref
 pub kind : (h : ℕ) → among h commonHeaders ≡ true → Kind h
 kind h e =
     among-each Kind commonHeaders
-    (octet class-octet, (call partners-number, (call own-number, (marked sequence-kind, (octet kind-octet, (many data-kind, tt))))))
+    (octet class-octet, (call partners-number, (call own-number, (octet sequence-octet, (octet kind-octet, (many data-kind, tt))))))
     h e
 
 -- one allowed common parameter
@@ -165,40 +192,20 @@ pub record PartRead (h : ℕ) (own : List ℕ) (p : Part) : Type 0 where
 
 octet-read : (times h : ℕ) (own : List ℕ) → h < 256 → every isOctet own ≡ true → OneOctet h → CommonOwn times h own → length own ≡ 1
     → PartRead h own (octetPart h (getD own 0 0))
-unfolding layoutPart valueFits
+unfolding layoutPart
 octet-read times h [] s o k c l = absurd (omega arith)
 octet-read times h (x ∷ y ∷ own) s o k c l = absurd (omega arith)
 octet-read times h (x ∷ []) s o k c l =
+    let r = k .read x (ltb-true x 256 (and-left (isOctet x) _ o)) in
     record {
       header = refl;
-      laid = rw (k .plain, k .uncalled, k .unsequenced);
+      laid = rw (k .plain, k .uncalled, r .laid);
       allowed =
           record {
-            held = record { octet = s; own = rw (k .plain, k .unsequenced); each = tt };
+            held = record { octet = s; own = rw (k .plain, r .own); each = tt };
             listed = c .listed;
             right = c .allowed;
-            fits = rw (k .uncalled, k .unsequenced);
-            items = no-items;
-          };
-    }
-
-sequence-read : (times h : ℕ) (own : List ℕ) → h < 256 → every isOctet own ≡ true → SequenceKind h → CommonOwn times h own
-    → length own ≡ 1 → PartRead h own (octetPart h (getD own 0 0))
-unfolding layoutPart valueFits
-sequence-read times h [] s o k c l = absurd (omega arith)
-sequence-read times h (x ∷ y ∷ own) s o k c l = absurd (omega arith)
-sequence-read times h (x ∷ []) s o k c l =
-    let x< = ltb-true x 256 (and-left (isOctet x) _ o) in
-    let again : 128 * (x / 128) + x % 128 ≡ x = omega arith in
-    record {
-      header = refl;
-      laid = rw (k .plain, k .uncalled, k .isSequence, again);
-      allowed =
-          record {
-            held = record { octet = s; own = rw (k .plain, k .isSequence); each = tt };
-            listed = c .listed;
-            right = c .allowed;
-            fits = rw (k .isSequence) (le-leb (x / 128) 1 (omega arith));
+            fits = r .fits;
             items = no-items;
           };
     }
@@ -265,7 +272,6 @@ part-read q times s o c = go (kind (q .head) (c .listed))
   where
     go : Kind (q .head) → PartRead (q .head) (q .own) (openCommon q)
     go (octet k) = rw (k .plain, k .uncalled) (octet-read times (q .head) (q .own) s o k c (rw (k .extent) at (c .long)))
-    go (marked k) = rw (k .plain, k .uncalled) (sequence-read times (q .head) (q .own) s o k c (rw (k .extent) at (c .long)))
     go (call k) = rw (k .plain, k .called) (call-read times (q .head) (q .own) s o k c (rw (k .extent) at (c .long)))
     go (many k) =
         let e = eqb-true (q .head) transfer-data (k .isData) in
@@ -285,33 +291,9 @@ pub record PartBuilt (p : Part) (own : List ℕ) : Type 0 where
   pub most : suc (length own) ≤ mostOf (nameOf (p .header))
 
 octet-built : (p : Part) → AllowedPart p → OneOctet (p .header) → PartBuilt p (octetOf p ∷ [])
-unfolding layoutPart openCommonBy afterOf
-octet-built p a k =
-    let v = p .value in
-    record {
-      laid = rw (k .plain, k .uncalled);
-      accepted =
-          record {
-            listed = a .listed;
-            new = refl;
-            long = rw (k .extent);
-            allowed = rw (k .unsequenced) (a .right);
-            inner = λ e. absurd (let z : _≡_ {A = ℕ} 0 1 = cc (k .plain) in omega arith);
-          };
-      opens = λ at. rw (k .plain, k .uncalled, k .unsequenced) (rw (k .plain, k .unsequenced) at (a .held .own));
-      octets = rw (k .unsequenced) (and-both (isOctet v) true (lt-ltb v 256 (k .small v (a .right))) refl);
-      most = omega (arith, k .most);
-    }
-
-sequence-built : (p : Part) → AllowedPart p → SequenceKind (p .header) → PartBuilt p (octetOf p ∷ [])
 unfolding layoutPart openCommonBy afterOf valueFits
-sequence-built p a k =
-    let v = p .value in
-    let m = p .moreData in
-    let one = k .one v (a .right) in
-    let bit = leb-true m 1 (rw (k .isSequence) at (a .fits)) in
-    let number : (128 * m + v) % 128 ≡ v = omega arith in
-    let mark : (128 * m + v) / 128 ≡ m = omega arith in
+octet-built p a k =
+    let b = k .built (p .value) (p .moreData) (a .right) (a .fits) in
     record {
       laid = rw (k .plain, k .uncalled);
       accepted =
@@ -319,11 +301,11 @@ sequence-built p a k =
             listed = a .listed;
             new = refl;
             long = rw (k .extent);
-            allowed = rw (k .isSequence, number) (a .right);
+            allowed = rw (b .value) (a .right);
             inner = λ e. absurd (let z : _≡_ {A = ℕ} 0 1 = cc (k .plain) in omega arith);
           };
-      opens = λ at. rw (k .plain, k .uncalled, k .isSequence, number, mark) (rw (k .plain, k .isSequence) at (a .held .own));
-      octets = rw (k .isSequence) (and-both (isOctet (128 * m + v)) true (lt-ltb (128 * m + v) 256 (omega arith)) refl);
+      opens = λ at. rw (k .plain, k .uncalled, b .value, b .mark) (rw (k .plain) at (a .held .own));
+      octets = and-both (isOctet (octetOf p)) true (lt-ltb (octetOf p) 256 (b .octet)) refl;
       most = omega (arith, k .most);
     }
 
@@ -379,6 +361,5 @@ part-built p a = go (kind (p .header) (a .listed))
   where
     go : Kind (p .header) → PartBuilt p (drop 1 (layoutPart p))
     go (octet k) = rw (k .plain, k .uncalled) (octet-built p a k)
-    go (marked k) = rw (k .plain, k .uncalled) (sequence-built p a k)
     go (call k) = rw (k .plain, k .called) (call-built p a k)
     go (many k) = rw (k .isData) (data-built p a k)

@@ -37,7 +37,7 @@ use Rattle.annex.specs.Image.Front.{Taken}
 use Rattle.annex.specs.declared.Answer.the-variants.{Accepted}
 use Rattle.theorems.specs.Lists.{each-left, each-right, each-so}
 use Rattle.theorems.specs.Commons.{Kind, kind, AllowedPart}
-use Rattle.theorems.specs.Commons.Kind.{octet, marked, call, many}
+use Rattle.theorems.specs.Commons.Kind.{octet, call, many}
 use Rattle.theorems.specs.Records.{OnlyData, plain-items, allowed-parts, Within, allowed-within, values-within}
 use Rattle.theorems.specs.Views.{view-pack, within-told}
 use Rattle.theorems.specs.Messages.{read-then-laid}
@@ -165,8 +165,7 @@ image-back r w h =
 
 value-small : (p : Part) → AllowedPart p → Kind (p .header) → p .value < 4294967296
 unfolding valueFits
-value-small p a (octet k) = omega (arith, k .small (p .value) (a .right))
-value-small p a (marked k) = omega (arith, k .one (p .value) (a .right))
+value-small p a (octet k) = omega (arith, k .built (p .value) (p .moreData) (a .right) (a .fits) .small)
 value-small p a (call k) = omega (arith, ltb-true (p .value) call-number-below (rw (k .unsequenced, k .called) at (a .fits)))
 value-small p a (many k) =
     let e : part (p .header) 0 0 (p .items) ≡ p = rw (k .isData) at (a .held .own) in
