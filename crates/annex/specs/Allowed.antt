@@ -136,13 +136,13 @@ pub record HeldItem (i : Item) : Type 0 where
   pub own : ownOf i ≡ i
 
 -- Request d: only 04 has a more-data mark
-abbrev pub ownMark : ℕ → ℕ → ℕ
-ownMark h m = cond (eqb h sequence) m 0
+abbrev pub ownMoreData : ℕ → ℕ → ℕ
+ownMoreData h m = cond (eqb h sequence) m 0
 
 abbrev pub ownPart : Part → Part
 ownPart p =
     cond (eqb (p .header) transfer-data) (part (p .header) 0 0 (p .items))
-    (part (p .header) (p .value) (ownMark (p .header) (p .moreData)) [])
+    (part (p .header) (p .value) (ownMoreData (p .header) (p .moreData)) [])
 
 pub record HeldPart (p : Part) : Type 0 where
   pub octet : p .header < 256

@@ -399,8 +399,9 @@ cases =
 pub orders : map asDefined cases ≡ cases
 unfolding afterOf leadOf commonExtentOf extentOf nameUsed pliRight oftenOf zeroesOf formOf halves isCode halvesFault digitsFault
     numberFaultIn formsOf layoutOf orderAfter outsideFault forwardFault controlFault logicFault layoutFault ownFault parameterFault
-    parametersFault orderFault faultOf holdingOf itemOf contentsOf layoutItem layoutItems layoutPart layout lengthRight faultIn valueFits walk pars transferBy transfersVerdictBy valueAllowed commonForm endOf dataBy commonBy messageVerdictBy verdictBy commonsBy
-    transfersBy openCommonBy recordBy itemWriting itemsWriting dataWriting partWriting partsWriting overLimits recordWriting transferIn
-    transferAmong transferFound editRefusal instead editedItems edited recordEditing editingOf bufferOf orderListing orderRowsOf
-    orderAnswer orderTable rowsOctets octetOrderTable
+    parametersFault orderFault faultOf holdingOf itemOf contentsOf layoutItem layoutItems layoutPart layout lengthRight faultIn valueFits
+    walk pars transferBy transfersVerdictBy valueAllowed commonForm endOf dataBy commonBy messageVerdictBy verdictBy commonsBy transfersBy
+    openCommonBy recordBy itemWriting itemsWriting dataWriting partWriting partsWriting overLimits recordWriting transferIn transferAmong
+    transferFound editRefusal instead editedItems edited recordEditing editingOf bufferOf orderListing orderRowsOf orderAnswer orderTable
+    rowsOctets octetOrderTable
 orders = refl

@@ -84,14 +84,14 @@ abbrev pub partWith : List Item → Part → Part
 partWith is p = part (p .header) (p .value) (p .moreData) is
 
 -- what the octet x of 01, 04 or 06 says. Request d: of 04, bits 6-0 are the number, and bit 7 is the more-data mark
-abbrev pub valueIn : ℕ → ℕ → ℕ
-valueIn h x = cond (eqb h sequence) (x % 128) x
+abbrev pub octetValue : ℕ → ℕ → ℕ
+octetValue h x = cond (eqb h sequence) (x % 128) x
 
-abbrev pub moreDataIn : ℕ → ℕ → ℕ
-moreDataIn h x = cond (eqb h sequence) (x / 128) 0
+abbrev pub octetMark : ℕ → ℕ → ℕ
+octetMark h x = cond (eqb h sequence) (x / 128) 0
 
 abbrev pub octetPart : ℕ → ℕ → Part
-octetPart h x = part h (valueIn h x) (moreDataIn h x) []
+octetPart h x = part h (octetValue h x) (octetMark h x) []
 
 -- ---- how the values are held
 

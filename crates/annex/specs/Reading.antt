@@ -41,7 +41,7 @@ use Rattle.annex.specs.Heads.{
   oftenOf,
 }
 use Rattle.annex.specs.Contents.{Rule, faultOf}
-use Rattle.annex.specs.Items.{Item, Part, part, valuePart, valueIn, octetPart, itemOf}
+use Rattle.annex.specs.Items.{Item, Part, part, valuePart, octetValue, octetPart, itemOf}
 use Rattle.annex.specs.Walk.{Seen, unseen, timesSeen, Par, Step, walk, judging, listing}
 use Rattle.annex.specs.declared.Answer.{Answer}
 use Rattle.annex.specs.declared.Answer.the-variants.{Accepted}
@@ -50,7 +50,7 @@ use Rattle.annex.specs.declared.Answer.the-variants.{Accepted}
 
 -- 5: what the octet right after the header says
 abbrev pub octetAllowed : ℕ → ℕ → Bool
-octetAllowed h x = valueAllowed h (valueIn h x)
+octetAllowed h x = valueAllowed h (octetValue h x)
 
 -- 2 to 5
 unfoldable pub commonForm : ℕ → ℕ → List ℕ → Answer

@@ -6,7 +6,7 @@ use mathlib.Core.List.{List, [], _∷_, _++_, map}
 use lib.Dec.{eqb, leb}
 use lib.ListN.{length, take, drop, replicate}
 use Rattle.annex.specs.Heads.{transfer-data, most-commons, most-transfers, most-values}
-use Rattle.annex.specs.Items.{Item, Part, item, part, valueIn, moreDataIn, ownOf}
+use Rattle.annex.specs.Items.{Item, Part, item, part, octetValue, octetMark, ownOf}
 use Rattle.annex.specs.Allowed.{itemsIn, ownPart}
 use Rattle.annex.specs.Reading.{verdictOf, recordOf}
 use Rattle.annex.specs.declared.Common.{Common}
@@ -27,7 +27,7 @@ abbrev pub valueHead : ℕ → ℕ → Common
 valueHead h v = commonHead h v 0 0
 
 abbrev pub octetHead : ℕ → ℕ → Common
-octetHead h x = commonHead h (valueIn h x) (moreDataIn h x) 0
+octetHead h x = commonHead h (octetValue h x) (octetMark h x) 0
 
 abbrev pub dataHead : ℕ → Common
 dataHead n = commonHead transfer-data 0 0 n

@@ -149,9 +149,9 @@ cases =
 -- what the definitions say of each case is what the table says
 pub sequences : map asDefined cases ≡ cases
 unfolding afterOf leadOf commonExtentOf extentOf nameUsed pliRight oftenOf zeroesOf formOf faultOf holdingOf itemOf contentsOf ownOf
-    layoutItem layoutItems layoutPart layout lengthRight faultIn valueFits walk transferBy transfersVerdictBy valueAllowed
-    commonForm endOf dataBy commonBy messageVerdictBy verdictBy commonsBy transfersBy openCommonBy recordBy pad valuesOf pack viewItems
-    lengthsOf transfersSum viewParts isWhole view itemWriting itemsWriting dataWriting partWriting partsWriting overLimits recordWriting
-    structWriting writingOf imageItem imageItems imagePart imageParts imageOf itemsFront partsFront isWithin imagedOf imageReading imageRead
-    imageWriting imageWritten editRefusal instead editedItems edited recordEditing editingOf bufferOf
+    layoutItem layoutItems layoutPart layout lengthRight faultIn valueFits walk transferBy transfersVerdictBy valueAllowed commonForm endOf
+    dataBy commonBy messageVerdictBy verdictBy commonsBy transfersBy openCommonBy recordBy pad valuesOf pack viewItems lengthsOf
+    transfersSum viewParts isWhole view itemWriting itemsWriting dataWriting partWriting partsWriting overLimits recordWriting structWriting
+    writingOf imageItem imageItems imagePart imageParts imageOf itemsFront partsFront isWithin imagedOf imageReading imageRead imageWriting
+    imageWritten editRefusal instead editedItems edited recordEditing editingOf bufferOf
 sequences = refl

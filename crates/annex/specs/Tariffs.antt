@@ -191,10 +191,10 @@ cases =
 pub tariffs : map asDefined cases ≡ cases
 unfolding afterOf leadOf commonExtentOf extentOf nameUsed pliRight oftenOf zeroesOf formOf isKind fieldsOf numbersDrawn drawnFault
     checkRight decimal fieldIn chargesOf chargingFault faultOf holdingOf itemOf contentsOf layoutItem layoutItems layoutPart layout
-    lengthRight faultIn valueFits walk transferBy transfersVerdictBy valueAllowed commonForm endOf dataBy commonBy
-    messageVerdictBy verdictBy commonsBy transfersBy openCommonBy recordBy itemWriting itemsWriting dataWriting partWriting partsWriting
-    overLimits recordWriting transferIn transferAmong transferFound editRefusal instead editedItems edited recordEditing editingOf
-    bufferOf chargingOf octetCharging octetCharged
+    lengthRight faultIn valueFits walk transferBy transfersVerdictBy valueAllowed commonForm endOf dataBy commonBy messageVerdictBy
+    verdictBy commonsBy transfersBy openCommonBy recordBy itemWriting itemsWriting dataWriting partWriting partsWriting overLimits
+    recordWriting transferIn transferAmong transferFound editRefusal instead editedItems edited recordEditing editingOf bufferOf chargingOf
+    octetCharging octetCharged
 tariffs = refl
 
 -- how many octets follow the kind

@@ -10,7 +10,7 @@ use lib.ListN.{length}
 use Rattle.annex.specs.Heads.{sequence, transfer-data, isCall}
 use Rattle.annex.specs.Items.{Item, part}
 use Rattle.annex.specs.Layout.{layoutItems, callOctets, octetOf, dataOctets, layoutPart}
-use Rattle.annex.specs.Allowed.{ownMark}
+use Rattle.annex.specs.Allowed.{ownMoreData}
 use Rattle.annex.specs.Records.{rawPart}
 use Rattle.annex.specs.declared.Common.{Common}
 use Rattle.limits.specs.Along.{partFrom}
@@ -49,7 +49,7 @@ module _ (c : Common) (is : List Item) where
   plain-laid u =
       let h = c .header in
       let e = ne-eqb h transfer-data u in
-      let own : partFrom c is ≡ part h (c .value) (ownMark h (c .«more_data»)) [] = rw e in
+      let own : partFrom c is ≡ part h (c .value) (ownMoreData h (c .«more_data»)) [] = rw e in
       rw own (rw e (ap (λ (x : ℕ). h ∷ cond (isCall h) (callOctets (c .value)) (x ∷ [])) (go (eqb h sequence))))
     where
       go : (b : Bool) → cond b (128 * cond b (c .«more_data») 0 + c .value) (c .value) ≡ cond b (128 * c .«more_data» + c .value) (c .value)

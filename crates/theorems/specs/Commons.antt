@@ -26,9 +26,9 @@ use Rattle.annex.specs.Heads.{
   call-number-below,
   most-transfer-octets,
 }
-use Rattle.annex.specs.Items.{Item, Part, part, valuePart, dataPart, valueIn, moreDataIn, octetPart}
+use Rattle.annex.specs.Items.{Item, Part, part, valuePart, dataPart, octetValue, octetMark, octetPart}
 use Rattle.annex.specs.Layout.{layoutItems, layoutPart, callOctets, octetOf, dataOctets}
-use Rattle.annex.specs.Allowed.{every, isOctet, HeldItem, HeldPart, ownMark, valueRight, valueFits}
+use Rattle.annex.specs.Allowed.{every, isOctet, HeldItem, HeldPart, ownMoreData, valueRight, valueFits}
 use Rattle.annex.specs.Walk.{Par}
 use Rattle.annex.specs.Reading.{transfersOf, openTransfer, openCommon, callNumber, openCommonBy}
 use Rattle.annex.specs.declared.Extent.the-variants.{Fixed, Counted}
@@ -48,15 +48,15 @@ mostOf x = getD (1 ∷ 2 ∷ 4 ∷ 4 ∷ 2 ∷ 257 ∷ 2 ∷ []) x 0
 -- what an octet says is laid out to it again, is the header's own and fits its bits
 record OctetRead (p : Part) (x : ℕ) : Type 0 where
   laid : octetOf p ≡ x
-  own : ownMark (p .header) (p .moreData) ≡ p .moreData
+  own : ownMoreData (p .header) (p .moreData) ≡ p .moreData
   fits : valueFits p ≡ true
 
 -- and an allowed value is laid out, with its mark, to an octet that says them
 pub record OctetBuilt (h v m : ℕ) : Type 0 where
   pub small : v < 256
   octet : octetOf (part h v m []) < 256
-  value : valueIn h (octetOf (part h v m [])) ≡ v
-  mark : moreDataIn h (octetOf (part h v m [])) ≡ ownMark h m
+  value : octetValue h (octetOf (part h v m [])) ≡ v
+  mark : octetMark h (octetOf (part h v m [])) ≡ ownMoreData h m
 
 -- 01, 04 and 06: one octet
 pub record OneOctet (h : ℕ) : Type 0 where
@@ -326,7 +326,7 @@ call-built p a k =
             listed = a .listed;
             new = refl;
             long = rw (k .extent);
-            allowed = k .free (valueIn h (v % 256));
+            allowed = k .free (octetValue h (v % 256));
             inner = λ e. absurd (let z : _≡_ {A = ℕ} 0 1 = cc (k .plain) in omega arith);
           };
       opens = λ at. rw (k .plain, k .called, whole) (rw (k .plain, k .unsequenced) at (a .held .own));
@@ -347,7 +347,7 @@ data-built p a k =
             listed = a .listed;
             new = refl;
             long = rw (k .extent) (omega arith);
-            allowed = k .free (valueIn (p .header) (length t));
+            allowed = k .free (octetValue (p .header) (length t));
             inner = λ e. (length t, b .verdict);
           };
       opens = λ at. rw (k .isData, b .opens) (rw (k .isData) at (a .held .own));

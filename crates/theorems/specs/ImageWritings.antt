@@ -13,7 +13,7 @@ use Rattle.annex.specs.Answers.{over-limits, no-room, refuse, andThen, roomAfte
 use Rattle.annex.specs.Heads.{transfer-data, most-commons, most-transfers, most-transfer-octets, most-octets}
 use Rattle.annex.specs.Items.{Item, Part, part, partWith, ownOf}
 use Rattle.annex.specs.Layout.{layout}
-use Rattle.annex.specs.Allowed.{every, Each, isOctet, HeldItem, HeldPart, Held, ownMark, itemsIn, contentsSum}
+use Rattle.annex.specs.Allowed.{every, Each, isOctet, HeldItem, HeldPart, Held, ownMoreData, itemsIn, contentsSum}
 use Rattle.annex.specs.Walk.{unseen}
 use Rattle.annex.specs.Records.{valuesOf, pack, view}
 use Rattle.annex.specs.Writing.{partsWriting, overLimits, recordWriting, structWriting, writingOf}
@@ -159,7 +159,7 @@ part-items p h = go (eqb (p .header) transfer-data) refl
   where
     go : (b : Bool) → eqb (p .header) transfer-data ≡ b
         → cond b (part (p .header) 0 0 (ownItems (p .items)))
-        (part (p .header) (p .value) (ownMark (p .header) (p .moreData)) []) .items
+        (part (p .header) (p .value) (ownMoreData (p .header) (p .moreData)) []) .items
         ≡ ownItems (p .items)
     go true e = refl
     go false e = sym (ap ownItems (h e))

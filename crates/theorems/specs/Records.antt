@@ -35,7 +35,7 @@ use Rattle.annex.specs.declared.Holding.the-variants.{AsContents, AsDigits, AsN
 use Rattle.annex.specs.Digits.{codeOf, joined, packed}
 use Rattle.annex.specs.Layout.{layoutItem, layoutItems}
 use Rattle.annex.specs.Allowed.{
-  ownMark,
+  ownMoreData,
   every,
   Each,
   timesIn,
@@ -89,7 +89,7 @@ OnlyData p = eqb (p .header) transfer-data ≡ false → p .items ≡ []
 
 pub plain-items : (p : Part) → HeldPart p → OnlyData p
 plain-items p h e =
-    let own : part (p .header) (p .value) (ownMark (p .header) (p .moreData)) [] ≡ p = rw e at (h .own) in
+    let own : part (p .header) (p .value) (ownMoreData (p .header) (p .moreData)) [] ≡ p = rw e at (h .own) in
     sym (ap (λ (q : Part). q .items) own)
 
 -- this one is no C5

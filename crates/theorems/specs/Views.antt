@@ -10,7 +10,7 @@ use lib.ListN.{length, take, drop, replicate, length-append, length-map}
 use lib.Seq.{take-append-seam, drop-append-seam, take-at, drop-at}
 use Rattle.annex.specs.Heads.{sequence, transfer-data, most-commons, most-transfers, most-values}
 use Rattle.annex.specs.Items.{Item, Part, part, partWith, ownOf}
-use Rattle.annex.specs.Allowed.{every, Each, isOctet, HeldItem, HeldPart, Held, ownMark, ownPart, itemsIn}
+use Rattle.annex.specs.Allowed.{every, Each, isOctet, HeldItem, HeldPart, Held, ownMoreData, ownPart, itemsIn}
 use Rattle.annex.specs.Records.{
   noCommon,
   noTransfer,
@@ -181,7 +181,7 @@ held-items (t ∷ ts) vs s o = (
   held-items ts (drop (t .len) vs) (s .1) (every-drop isOctet (t .len) vs o),
 )
 
-mark-own : (h m : ℕ) → ownMark h (ownMark h m) ≡ ownMark h m
+mark-own : (h m : ℕ) → ownMoreData h (ownMoreData h m) ≡ ownMoreData h m
 mark-own h m = go (eqb h sequence)
   where
     go : (b : Bool) → cond b (cond b m 0) 0 ≡ cond b m 0
@@ -193,7 +193,7 @@ own-part p s h = go (eqb (p .header) transfer-data) refl
   where
     go : (b : Bool) → eqb (p .header) transfer-data ≡ b
         → HeldPart
-        (cond b (part (p .header) 0 0 (p .items)) (part (p .header) (p .value) (ownMark (p .header) (p .moreData)) []))
+        (cond b (part (p .header) 0 0 (p .items)) (part (p .header) (p .value) (ownMoreData (p .header) (p .moreData)) []))
     go true e = record { octet = s; own = rw e; each = h }
     go false e = record { octet = s; own = rw (e, mark-own (p .header) (p .moreData)); each = tt }
 

@@ -353,11 +353,11 @@ rows =
 rows-differ : allDiffer rows ≡ true
 unfolding afterOf extentOf commonExtentOf leadOf nameUsed pliRight oftenOf zeroesOf formOf halves joined digitOf codeOf isCode halvesFault
     digitsFault digitsOf packed numberFaultIn outsideFault isKind fieldsOf numbersDrawn drawnFault checkRight decimal fieldIn chargesOf
-    chargingFault formsOf layoutOf orderAfter layoutFault ownFault parameterFault parametersFault orderFault dialledFault faultOf
-    holdingOf itemOf contentsOf ownOf layoutItem lengthRight faultIn valueFits walk transferBy valueAllowed commonForm endOf
-    commonBy messageVerdictBy verdictBy commonsBy commonIn commonFound pad valuesOf pack lengthsOf transfersSum isWhole viewItems
-    viewParts view overLimits itemWriting partWriting layoutPart pars soughtIn stretchAt stretchHere rowHere nextOf orderListing takenOf
-    orderRowsFrom orderNext put spliced
+    chargingFault formsOf layoutOf orderAfter layoutFault ownFault parameterFault parametersFault orderFault dialledFault faultOf holdingOf
+    itemOf contentsOf ownOf layoutItem lengthRight faultIn valueFits walk transferBy valueAllowed commonForm endOf commonBy messageVerdictBy
+    verdictBy commonsBy commonIn commonFound pad valuesOf pack lengthsOf transfersSum isWhole viewItems viewParts view overLimits
+    itemWriting partWriting layoutPart pars soughtIn stretchAt stretchHere rowHere nextOf orderListing takenOf orderRowsFrom orderNext put
+    spliced
 rows-differ = refl
 
 -- every row's programs are shut out

@@ -108,11 +108,11 @@ pub record Said : Type 0 where
 pub said : Said
 unfolding afterOf leadOf commonExtentOf extentOf nameUsed pliRight oftenOf zeroesOf formOf halves joined digitOf codeOf isCode halvesFault
     digitsFault digitsOf packed numberFaultIn callingFault genericFault dialledFault twoFault faultOf holdingOf itemOf contentsOf ownOf
-    layoutItem layoutItems layoutPart layout lengthRight faultIn valueFits walk transferBy transfersVerdictBy valueAllowed
-    commonForm endOf dataBy commonBy messageVerdictBy verdictBy commonsBy transfersBy openCommonBy recordBy pad valuesOf pack viewItems
-    lengthsOf transfersSum viewParts isWhole view readingOf itemWriting itemsWriting dataWriting partWriting partsWriting overLimits
-    recordWriting structWriting writingOf writtenOf commonIn commonFound transferIn transferAmong transferFound transferRows commonRowsBy
-    rowsBy spansBy editRefusal instead editedItems edited recordEditing editingOf bufferOf
+    layoutItem layoutItems layoutPart layout lengthRight faultIn valueFits walk transferBy transfersVerdictBy valueAllowed commonForm endOf
+    dataBy commonBy messageVerdictBy verdictBy commonsBy transfersBy openCommonBy recordBy pad valuesOf pack viewItems lengthsOf
+    transfersSum viewParts isWhole view readingOf itemWriting itemsWriting dataWriting partWriting partsWriting overLimits recordWriting
+    structWriting writingOf writtenOf commonIn commonFound transferIn transferAmong transferFound transferRows commonRowsBy rowsBy spansBy
+    editRefusal instead editedItems edited recordEditing editingOf bufferOf
 said =
     record {
       verdict-cut = refl;

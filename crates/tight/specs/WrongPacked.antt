@@ -105,11 +105,11 @@ record SaidPacked : Type 0 where
   no-list : classOf 0x01 1 ≡ classes.Refused 17 0
 
 said-packed : SaidPacked
-unfolding afterOf leadOf commonExtentOf zeroesOf ownOf layoutItem layoutItems layoutPart layout valueFits walk valueAllowed
-    commonForm endOf dataBy commonBy messageVerdictBy verdictBy commonsBy openCommonBy recordBy pad valuesOf pack viewItems lengthsOf
-    transfersSum viewParts isWhole view partWriting partsWriting overLimits recordWriting structWriting writingOf imageItem imageItems
-    imagePart imageParts imageOf itemsFront partsFront isWithin imagedOf commonRowsBy rowsBy spansBy classOf imageReading
-    imageRead imageWriting imageWritten rowsOctets octetTable
+unfolding afterOf leadOf commonExtentOf zeroesOf ownOf layoutItem layoutItems layoutPart layout valueFits walk valueAllowed commonForm endOf
+    dataBy commonBy messageVerdictBy verdictBy commonsBy openCommonBy recordBy pad valuesOf pack viewItems lengthsOf transfersSum viewParts
+    isWhole view partWriting partsWriting overLimits recordWriting structWriting writingOf imageItem imageItems imagePart imageParts imageOf
+    itemsFront partsFront isWithin imagedOf commonRowsBy rowsBy spansBy classOf imageReading imageRead imageWriting imageWritten rowsOctets
+    octetTable
 said-packed =
     record {
       back-K = refl;
