@@ -1,5 +1,5 @@
--- What a record may be: document 01, "Common part", "Transfer data" and "Writing", one line for each rule. Nothing here mentions
--- reading, and nothing but what is wrong with one parameter's values says in which order a refusal comes.
+-- What a record may be: document 01, "Common part", "Transfer data" and "Writing", and of the sequence document 02, request d; one line for
+-- each rule. Nothing here mentions reading, and nothing but what is wrong with one parameter's values says in which order a refusal comes.
 use Prim.Native.Nat.{ℕ, suc, _+_, _≤_, _<_}
 use mathlib.Core.Path.{_≡_}
 use mathlib.Core.Bool.{Bool, true, cond, _&&_}
@@ -31,7 +31,7 @@ use Rattle.annex.specs.declared.Marks.{Marks}
 use Rattle.annex.specs.declared.Marks.the-variants.{Unmarked, Notified, Verified, Typed}
 use Rattle.annex.specs.Digits.{isDigit}
 use Rattle.annex.specs.Contents.{faultOf}
-use Rattle.annex.specs.Items.{Item, Part, part, heldAs, contentsOf, ownOf}
+use Rattle.annex.specs.Items.{Item, Part, part, ownMoreData, heldAs, contentsOf, ownOf}
 use Rattle.annex.specs.declared.Holding.{Holding}
 use Rattle.annex.specs.declared.Holding.the-variants.{AsContents, AsDigits, AsNumber, AsGeneric}
 use Rattle.annex.specs.Layout.{layoutItems}
@@ -117,7 +117,7 @@ faultIn i = faultAs (heldAs i) i
 
 -- ---- one common parameter
 
--- Writing, 5
+-- Writing, 5: the value is allowed with its header
 abbrev pub valueRight : Part → Bool
 valueRight p = valueAllowed (p .header) (p .value)
 
@@ -135,10 +135,7 @@ pub record HeldItem (i : Item) : Type 0 where
   pub octets : every isOctet (i .values) ≡ true
   pub own : ownOf i ≡ i
 
--- Request d: only 04 has a more-data mark
-abbrev pub ownMoreData : ℕ → ℕ → ℕ
-ownMoreData h m = cond (eqb h sequence) m 0
-
+-- a part with what is its own: of C5 its parameters, of the others the value, of 04 the mark beside it
 abbrev pub ownPart : Part → Part
 ownPart p =
     cond (eqb (p .header) transfer-data) (part (p .header) 0 0 (p .items))

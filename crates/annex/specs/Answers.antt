@@ -31,7 +31,7 @@ repeated = 3
 abbrev pub cut-short : ℕ
 cut-short = 4
 
--- 5: a user class or a signal kind that is none of the allowed ones
+-- 5: a user class, a signal kind or the number of a sequence that is not allowed; the last by document 02, request d
 abbrev pub not-allowed : ℕ
 not-allowed = 5
 

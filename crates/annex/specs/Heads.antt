@@ -1,5 +1,5 @@
 -- The headers and limits: document 01, "Common part" (the table of headers, the signal kinds) and "Transfer data" (the lists under
--- PLI 01, PLI 10 and PLI 11, the names with no layout, the unused names).
+-- PLI 01, PLI 10 and PLI 11, the names with no layout, the unused names); of the sequence's number, document 02, request d.
 use Prim.Native.Nat.{ℕ, zero, suc, _+_}
 use mathlib.Core.Bool.{Bool, true, false, cond, not, _&&_, _||_}
 use mathlib.Core.List.{List, [], _∷_, map}
@@ -66,7 +66,8 @@ advanced-telephony = 0x01
 abbrev pub sequence-number : ℕ
 sequence-number = 1
 
--- refusal 5: the value v that stands with the header h: the user class, a signal kind, the number of a sequence; others are free
+-- Common part, request d, and refusal 5: the value v is allowed with the header h: the user class, a signal kind, the number of a
+-- sequence; with the others any
 unfoldable pub valueAllowed : ℕ → ℕ → Bool
 valueAllowed h v =
     cond (eqb h user-class) (eqb v advanced-telephony)

@@ -6,7 +6,7 @@ use lib.Dec.{eqb, leb}
 use lib.ListN.{length, getD, take, drop}
 use Rattle.annex.specs.Answers.{over-limits}
 use Rattle.annex.specs.Heads.{transfer-data, most-commons, most-transfers, most-transfer-octets, most-values}
-use Rattle.annex.specs.Items.{Item, Part}
+use Rattle.annex.specs.Items.{Item, Part, ownMoreData}
 use Rattle.annex.specs.Allowed.{itemsIn}
 use Rattle.annex.specs.Records.{commonHead, transferHead, headOf, commonHeadOf, rawItem, rawPart, valuesOf, pack}
 use Rattle.annex.specs.declared.Common.{Common}
@@ -96,11 +96,15 @@ itemsFront zero s = Taken [] 0
 itemsFront (suc n) s =
     cond (leb (itemSize s) (length s)) (more (itemFront s) (itemSize s) (itemsFront n (drop (itemSize s) s))) Short
 
--- the common parameter at the front of octets; where it is no C5 its count is not looked at
+-- four octets from index i on, least first
+abbrev pub fourFrom : ℕ → List ℕ → ℕ
+fourFrom i s = getD s i 0 + 256 * getD s (i + 1) 0 + 65536 * getD s (i + 2) 0 + 16777216 * getD s (i + 3) 0
+
+-- the common parameter at the front of octets; where it is no 04 its mark is not looked at, and where it is no C5 its count
 abbrev pub commonFront : List ℕ → Common
 commonFront s =
-    commonHead (getD s 0 0) (getD s 1 0 + 256 * getD s 2 0 + 65536 * getD s 3 0 + 16777216 * getD s 4 0) (getD s 5 0)
-    (cond (eqb (getD s 0 0) transfer-data) (getD s 6 0) 0)
+    let h = getD s 0 0 in
+    commonHead h (fourFrom 1 s) (ownMoreData h (getD s 5 0)) (cond (eqb h transfer-data) (getD s 6 0) 0)
 
 abbrev pub partFront : List ℕ → List Item → Part
 partFront s is = rawPart (commonFront s) is

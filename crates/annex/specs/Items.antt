@@ -1,4 +1,5 @@
--- The parameters of a record: document 01, "Writing", what a record holds of each parameter, and the contents that it stands for.
+-- The parameters of a record: document 01, "Writing", what a record holds of each parameter, and the contents that it stands for; of the
+-- sequence, document 02, request d.
 use Prim.Native.Nat.{ℕ, _+_, _*_, _/_, _%_}
 use mathlib.Core.Bool.{true, false, cond}
 use mathlib.Core.List.{List, [], _∷_}
@@ -83,12 +84,16 @@ dataPart is = part transfer-data 0 0 is
 abbrev pub partWith : List Item → Part → Part
 partWith is p = part (p .header) (p .value) (p .moreData) is
 
+-- Request d: only 04 has a more-data mark
+abbrev pub ownMoreData : ℕ → ℕ → ℕ
+ownMoreData h m = cond (eqb h sequence) m 0
+
 -- what the octet x of 01, 04 or 06 says. Request d: of 04, bits 6-0 are the number, and bit 7 is the more-data mark
 abbrev pub octetValue : ℕ → ℕ → ℕ
 octetValue h x = cond (eqb h sequence) (x % 128) x
 
 abbrev pub octetMark : ℕ → ℕ → ℕ
-octetMark h x = cond (eqb h sequence) (x / 128) 0
+octetMark h x = ownMoreData h (x / 128)
 
 abbrev pub octetPart : ℕ → ℕ → Part
 octetPart h x = part h (octetValue h x) (octetMark h x) []

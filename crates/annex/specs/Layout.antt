@@ -1,4 +1,4 @@
--- A record laid out to octets: document 01, "Common part" and "Transfer data".
+-- A record laid out to octets: document 01, "Common part" and "Transfer data"; of the sequence, document 02, request d.
 use Prim.Native.Nat.{ℕ, _+_, _*_, _/_, _%_}
 use mathlib.Core.Bool.{cond}
 use mathlib.Core.List.{List, [], _∷_, _++_}

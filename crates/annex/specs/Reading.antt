@@ -48,7 +48,7 @@ use Rattle.annex.specs.declared.Answer.the-variants.{Accepted}
 
 -- ---- the common part, but for what C5 holds
 
--- 5: what the octet right after the header says
+-- 5: what the octet right after the header says is allowed
 abbrev pub octetAllowed : ℕ → ℕ → Bool
 octetAllowed h x = valueAllowed h (octetValue h x)
 

@@ -50,7 +50,7 @@ use Rattle.annex.specs.declared.Answer.the-variants.{Accepted, Refused}
 
 -- the octet of 04 in a message, and the record; a message, and the answer; the number and mark of 04 in a record, and the octets that
 -- it is written to; a record, and the answer to writing it, room aside; a message, lent octets, the answer and the image there; an image,
--- lent octets, the answer and the message there; an edit of a buffer that holds a message, the answer and the buffer then
+-- lent octets, the answer and the message there; an edit of a message with so many lent octets behind it, the answer and the buffer then
 pub data Case : Type 0 where
   Opens : ℕ → List Part → Case
   Asked : List ℕ → Answer → Case
@@ -121,7 +121,7 @@ cases =
     Written (recordWith 128 0) (Refused 5 4) ∷
     Written (recordWith 129 0) (Refused 5 4) ∷
     Written (recordWith 257 0) (Refused 5 4) ∷
-    -- 12: a mark over 1, after 5, and after 2 and 3
+    -- 12: a mark over 1, after 3 and 5
     Written (recordWith 1 1) (Accepted 7) ∷
     Written (recordWith 1 2) (Refused 12 4) ∷
     Written (recordWith 1 255) (Refused 12 4) ∷

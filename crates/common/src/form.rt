@@ -49,7 +49,7 @@ fn signal_listed(kind: Signal) -> bool
 }
 
 // Whether the value is a signal kind: none is over an octet.
-fn is_kind(value: u32) -> bool
+fn is_signal_kind(value: u32) -> bool
     ensures { λ r. ⌜ Gives (among value signalKinds) r ⌝ }
 {
     if value < 256 {
@@ -65,7 +65,7 @@ pub fn value_allowed(header: u8, value: u32) -> bool
 {
     match header {
         Common::USER_CLASS => value == Common::ADVANCED_TELEPHONY as u32,
-        Common::SIGNAL_KIND => is_kind(value),
+        Common::SIGNAL_KIND => is_signal_kind(value),
         Common::SEQUENCE => value == Common::SEQUENCE_NUMBER as u32,
         _ => true,
     }

@@ -11,7 +11,7 @@ ghost use Rattle.annex.specs.Promises.{Gives, Keeps};
 ghost use Rattle.annex.specs.Records.{rawPart};
 
 // The octet of 01, 04 or 06, modulo 256: of 04, the more-data mark above the number.
-fn own_octet(c: Common) -> u8
+fn octet_of(c: Common) -> u8
     ensures { λ r. ⌜ Gives (octetOf (rawPart c []) % 256) r ⌝ }
 {
     let low = c.value % 256;
@@ -37,6 +37,6 @@ pub fn lay_head(c: Common, room: &mut [u8], at: usize) -> bool
         let octets = [header, own[0], own[1], own[2]];
         return copy_in(room, at, &octets);
     }
-    let octets = [header, own_octet(c)];
+    let octets = [header, octet_of(c)];
     copy_in(room, at, &octets)
 }

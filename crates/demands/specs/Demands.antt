@@ -206,7 +206,8 @@ pub record Demand2 : Type 0 where
       → (part : List ℕ) → FindCommonPromise m h part → part ≡ []
   pub transfer-empty : (m : List ℕ) (x k p : ℕ) → FindTransferAnswerPromise m x (Refused k p)
       → (part : List ℕ) → FindTransferPromise m x part → part ≡ []
-  -- Of its sequence nothing is carried unread (document 02, request d): the number is 1, and the mark above it is told by both.
+  -- Of its sequence nothing is carried unread (document 02, request d): its number is 1, its mark 0 or 1, and finding hands out the one
+  -- octet of both.
   pub sequenced : (s : List Part) → Allowed s → (ahead : List Part) (q : Part) (behind : List Part) → s ≡ ahead ++ (q ∷ behind)
       → q .header ≡ sequence → (part : List ℕ) → FindCommonPromise (layout s) sequence part
       → (q .value ≡ sequence-number) × (q .moreData ≤ 1) × (part ≡ (128 * q .moreData + sequence-number) ∷ [])

@@ -3,9 +3,10 @@ use annex::Common;
 use annex::Imaged;
 use annex::Transfer;
 use octets::octet_at;
-ghost use lib.Dec.{leb};
-ghost use lib.ListN.{length};
-ghost use Rattle.annex.specs.Image.{headFront, itemSize, commonFront};
+ghost use mathlib.Core.Bool.{cond};
+ghost use lib.Dec.{eqb, leb};
+ghost use lib.ListN.{length, getD};
+ghost use Rattle.annex.specs.Image.{headFront, itemSize, fourFrom, commonFront};
 ghost use Rattle.annex.specs.Promises.{Gives};
 
 // The head of the transfer parameter at the front.
@@ -39,29 +40,33 @@ pub fn is_whole(s: &[u8]) -> bool
     Imaged::TRANSFER_HEAD + transfer_head(s).len as usize <= s.len()
 }
 
-// The head of the common parameter at the front; where it is no C5 its count is not looked at.
-pub fn common_head(s: &[u8]) -> Common
-    ensures { λ r. ⌜ Gives (commonFront (now (s .entry))) r ⌝ }
+// The value of the common parameter at the front: four octets, least first.
+fn value_of(s: &[u8]) -> u32
+    ensures { λ r. ⌜ Gives (fourFrom 1 (now (s .entry))) r ⌝ }
 {
-    let header = octet_at(s, 0);
     let first = octet_at(s, 1) as u32;
     let second = octet_at(s, 2) as u32;
     let third = octet_at(s, 3) as u32;
     let fourth = octet_at(s, 4) as u32;
-    let value = first + 256 * second + 65536 * third + 16777216 * fourth;
-    let more_data = octet_at(s, 5);
-    if header == Common::TRANSFER_DATA {
-        return Common {
-            header: header,
-            value: value,
-            more_data: more_data,
-            transfers: octet_at(s, 6),
-        };
-    }
+    first + 256 * second + 65536 * third + 16777216 * fourth
+}
+
+// The octet at index i where the header is the one that has it; with any other it is not looked at, and taken as 0.
+fn octet_with(header: u8, owner: u8, s: &[u8], i: usize) -> u8
+    ensures { λ r. ⌜ Gives (cond (eqb header owner) (getD (now (s .entry)) i 0) 0) r ⌝ }
+{
+    if header == owner { octet_at(s, i) } else { 0 }
+}
+
+// The head of the common parameter at the front; its mark is looked at where it is a 04, and its count where it is a C5.
+pub fn common_head(s: &[u8]) -> Common
+    ensures { λ r. ⌜ Gives (commonFront (now (s .entry))) r ⌝ }
+{
+    let header = octet_at(s, 0);
     Common {
         header: header,
-        value: value,
-        more_data: more_data,
-        transfers: 0,
+        value: value_of(s),
+        more_data: octet_with(header, Common::SEQUENCE, s, 5),
+        transfers: octet_with(header, Common::TRANSFER_DATA, s, 6),
     }
 }

@@ -1,6 +1,6 @@
 -- Laws of tests.
 use mathlib.Core.Path.{_≡_, refl, sym}
-use mathlib.Core.Bool.{Bool, true, false, not, _&&_, _||_}
+use mathlib.Core.Bool.{Bool, true, false, cond, not, _&&_, _||_}
 use Prim.Native.Nat.{ℕ}
 use native.Mathlib.Omega.{arith}
 use borrow.Author.Tests.{eqb-true, eqb-false, eq-eqb, ne-eqb}
@@ -33,6 +33,11 @@ or-left false b e = refl
 pub or-right : (a b : Bool) → a || b ≡ false → b ≡ false
 or-right true b e = absurd (let z : _≡_ {A = ℕ} 0 1 = cc in omega arith)
 or-right false b e = e
+
+-- under a test, the same test again
+pub cond-again : {A B : Type 0} (b : Bool) (f : A → B) (x y : A) (z : B) → cond b (f (cond b x y)) z ≡ cond b (f x) z
+cond-again true f x y z = refl
+cond-again false f x y z = refl
 
 -- the two tests agree
 abbrev pub same : Bool → Bool → Bool

@@ -8,11 +8,11 @@ use borrow.Author.Tests.{eqb-true, ne-eqb}
 use lib.Dec.{eqb}
 use lib.ListN.{length}
 use Rattle.annex.specs.Heads.{sequence, transfer-data, isCall}
-use Rattle.annex.specs.Items.{Item, part}
+use Rattle.annex.specs.Items.{Item, part, ownMoreData}
 use Rattle.annex.specs.Layout.{layoutItems, callOctets, octetOf, dataOctets, layoutPart}
-use Rattle.annex.specs.Allowed.{ownMoreData}
 use Rattle.annex.specs.Records.{rawPart}
 use Rattle.annex.specs.declared.Common.{Common}
+use Rattle.laws.specs.Bools.{cond-again}
 use Rattle.limits.specs.Along.{partFrom}
 
 -- how many octets it takes, its transfer parameters aside
@@ -50,11 +50,8 @@ module _ (c : Common) (is : List Item) where
       let h = c .header in
       let e = ne-eqb h transfer-data u in
       let own : partFrom c is ≡ part h (c .value) (ownMoreData h (c .«more_data»)) [] = rw e in
-      rw own (rw e (ap (λ (x : ℕ). h ∷ cond (isCall h) (callOctets (c .value)) (x ∷ [])) (go (eqb h sequence))))
-    where
-      go : (b : Bool) → cond b (128 * cond b (c .«more_data») 0 + c .value) (c .value) ≡ cond b (128 * c .«more_data» + c .value) (c .value)
-      go true = refl
-      go false = refl
+      let same = cond-again (eqb h sequence) (λ (m : ℕ). 128 * m + c .value) (c .«more_data») 0 (c .value) in
+      rw own (rw e (ap (λ (x : ℕ). h ∷ cond (isCall h) (callOctets (c .value)) (x ∷ [])) same))
 
   pub data-laid : c .header ≡ transfer-data → layoutPart (partFrom c is) ≡ dataLaid is
   unfolding layoutPart

@@ -27,6 +27,7 @@ use Rattle.annex.specs.Writing.{itemWriting, itemsWriting, dataWriting, partWri
 use Rattle.annex.specs.declared.Answer.{Answer}
 use Rattle.annex.specs.declared.Answer.the-variants.{Accepted, Refused}
 use Rattle.annex.specs.declared.Common.{Common}
+use Rattle.laws.specs.Bools.{cond-again}
 use Rattle.laws.specs.Steps.{passed, then-passed, refuse-then}
 use Rattle.laws.specs.Places.{toldAt, refuse-told, item-told}
 use Rattle.theorems.specs.Writings.{item-written}
@@ -84,17 +85,13 @@ module _ (c : Common) (is : List Item) where
       go false e = rw e
 
   -- only the mark of 04 is looked at
-  marked : (b : Bool) (a : Bool) → cond b (leb (cond b (c .«more_data») 0) 1) a ≡ cond b (leb (c .«more_data») 1) a
-  marked true a = refl
-  marked false a = refl
-
   part-fits : valueFits (partFrom c is) ≡ valueFits (rawPart c [])
   unfolding valueFits
   part-fits = go (eqb (c .header) transfer-data) refl
     where
       go : (b : Bool) → eqb (c .header) transfer-data ≡ b → valueFits (partFrom c is) ≡ valueFits (rawPart c [])
       go true e = rw (e, eqb-true (c .header) transfer-data e)
-      go false e = rw e (marked (eqb (c .header) sequence) _)
+      go false e = rw e (cond-again (eqb (c .header) sequence) (λ (m : ℕ). leb m 1) (c .«more_data») 0 _)
 
 -- the tests of a common parameter, 2, 3, 5 and 12, before what then follows
 abbrev pub headThen : ℕ → ℕ → Common → Answer → Answer

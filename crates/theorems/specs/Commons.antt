@@ -26,9 +26,9 @@ use Rattle.annex.specs.Heads.{
   call-number-below,
   most-transfer-octets,
 }
-use Rattle.annex.specs.Items.{Item, Part, part, valuePart, dataPart, octetValue, octetMark, octetPart}
+use Rattle.annex.specs.Items.{Item, Part, part, valuePart, dataPart, octetValue, octetMark, octetPart, ownMoreData}
 use Rattle.annex.specs.Layout.{layoutItems, layoutPart, callOctets, octetOf, dataOctets}
-use Rattle.annex.specs.Allowed.{every, isOctet, HeldItem, HeldPart, ownMoreData, valueRight, valueFits}
+use Rattle.annex.specs.Allowed.{every, isOctet, HeldItem, HeldPart, valueRight, valueFits}
 use Rattle.annex.specs.Walk.{Par}
 use Rattle.annex.specs.Reading.{transfersOf, openTransfer, openCommon, callNumber, openCommonBy}
 use Rattle.annex.specs.declared.Extent.the-variants.{Fixed, Counted}
@@ -89,41 +89,28 @@ pub data Kind (h : ℕ) : Type 0 where
   many : DataKind h → Kind h
 
 -- one without a mark: its value is the octet
-module _ (h : ℕ) (unmarked : eqb h sequence ≡ false) (uncalled : isCall h ≡ false)
-    (small : (v : ℕ) → valueAllowed h v ≡ true → v < 256) where
-  unmarked-read : (x : ℕ) → x < 256 → OctetRead (octetPart h x) x
+module _ (h : ℕ) (plain : eqb h transfer-data ≡ false) (uncalled : isCall h ≡ false) (unmarked : eqb h sequence ≡ false)
+    (extent : commonExtentOf h ≡ Fixed 1) (most : mostOf (nameOf h) ≡ 2) (small : (v : ℕ) → valueAllowed h v ≡ true → v < 256) where
+  unmarked-octet : OneOctet h
   unfolding valueFits
-  unmarked-read x l = record { laid = rw unmarked; own = rw unmarked; fits = rw (unmarked, uncalled) }
-
-  unmarked-built : (v m : ℕ) → valueAllowed h v ≡ true → valueFits (part h v m []) ≡ true → OctetBuilt h v m
-  unmarked-built v m a f =
-      record { small = small v a; octet = rw unmarked (small v a); value = rw unmarked; mark = rw unmarked }
+  unmarked-octet =
+      record {
+        plain = plain;
+        uncalled = uncalled;
+        extent = extent;
+        most = most;
+        read = λ x l. record { laid = rw unmarked; own = rw unmarked; fits = rw (unmarked, uncalled) };
+        built = λ v m a f.
+            record { small = small v a; octet = rw unmarked (small v a); value = rw unmarked; mark = rw unmarked };
+      }
 
 class-octet : OneOctet user-class
 unfolding commonExtentOf valueAllowed
-class-octet =
-    let small : (v : ℕ) → valueAllowed user-class v ≡ true → v < 256 = λ v e. omega (arith, eqb-true v advanced-telephony e) in
-    record {
-      plain = refl;
-      uncalled = refl;
-      extent = refl;
-      most = refl;
-      read = unmarked-read user-class refl refl small;
-      built = unmarked-built user-class refl refl small;
-    }
+class-octet = unmarked-octet user-class refl refl refl refl refl (λ v e. omega (arith, eqb-true v advanced-telephony e))
 
 kind-octet : OneOctet signal-kind
 unfolding commonExtentOf valueAllowed
-kind-octet =
-    let small : (v : ℕ) → valueAllowed signal-kind v ≡ true → v < 256 = among-each (λ k. k < 256) signalKinds (omega arith) in
-    record {
-      plain = refl;
-      uncalled = refl;
-      extent = refl;
-      most = refl;
-      read = unmarked-read signal-kind refl refl small;
-      built = unmarked-built signal-kind refl refl small;
-    }
+kind-octet = unmarked-octet signal-kind refl refl refl refl refl (among-each (λ k. k < 256) signalKinds (omega arith))
 
 -- the mark stands above the number, which has seven bits
 sequence-octet : OneOctet sequence

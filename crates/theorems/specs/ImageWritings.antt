@@ -11,9 +11,9 @@ use lib.Dec.{eqb, leb, ltb}
 use lib.ListN.{length, getD, drop, length-map}
 use Rattle.annex.specs.Answers.{over-limits, no-room, refuse, andThen, roomAfter}
 use Rattle.annex.specs.Heads.{transfer-data, most-commons, most-transfers, most-transfer-octets, most-octets}
-use Rattle.annex.specs.Items.{Item, Part, part, partWith, ownOf}
+use Rattle.annex.specs.Items.{Item, Part, part, partWith, ownOf, ownMoreData}
 use Rattle.annex.specs.Layout.{layout}
-use Rattle.annex.specs.Allowed.{every, Each, isOctet, HeldItem, HeldPart, Held, ownMoreData, itemsIn, contentsSum}
+use Rattle.annex.specs.Allowed.{every, Each, isOctet, HeldItem, HeldPart, Held, itemsIn, contentsSum}
 use Rattle.annex.specs.Walk.{unseen}
 use Rattle.annex.specs.Records.{valuesOf, pack, view}
 use Rattle.annex.specs.Writing.{partsWriting, overLimits, recordWriting, structWriting, writingOf}

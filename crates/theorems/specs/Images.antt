@@ -5,13 +5,13 @@ use native.Mathlib.Omega.{arith}
 use mathlib.Core.Path.{_≡_, refl, sym, ap, _∙_}
 use mathlib.Core.Bool.{Bool, true, false, cond}
 use mathlib.Core.List.{List, [], _∷_, _++_, append-assoc, append-nil}
-use borrow.Author.Tests.{eq-eqb, le-leb, ltb-true}
+use borrow.Author.Tests.{eq-eqb, le-leb, ltb-true, eqb-true}
 use lib.Dec.{eqb, leb}
 use lib.ListN.{length, take, drop, length-append}
 use lib.Seq.{take-append-seam, drop-append-seam}
 use Rattle.annex.specs.Heads.{transfer-data, call-number-below, most-values}
-use Rattle.annex.specs.Items.{Item, Part, markedItem, part, valuePart, dataPart}
-use Rattle.annex.specs.Allowed.{Each, every, isOctet, itemsIn, valueFits, Allowed}
+use Rattle.annex.specs.Items.{Item, Part, markedItem, part, valuePart, dataPart, ownMoreData}
+use Rattle.annex.specs.Allowed.{Each, every, isOctet, itemsIn, HeldPart, valueFits, Allowed}
 use Rattle.annex.specs.Reading.{verdictOf, recordOf}
 use Rattle.annex.specs.Records.{valuesOf, pack, view, readingOf}
 use Rattle.annex.specs.Image.{
@@ -82,9 +82,10 @@ items-back (i ∷ is) t h =
 
 -- ---- a common parameter
 
--- its value has four octets, and only a C5 has transfer parameters
+-- its value has four octets, its mark is its own, and only a C5 has transfer parameters
 pub record Imageable (p : Part) : Type 0 where
   pub small : p .value < 4294967296
+  pub mark : ownMoreData (p .header) (p .moreData) ≡ p .moreData
   pub plain : OnlyData p
 
 -- four octets make the number again
@@ -113,7 +114,7 @@ part-back p t h f =
     record {
       long = le-leb common-head (length (imagePart p ++ t)) (omega arith);
       items = rw (told (eqb (p .header) transfer-data) refl) (items-back (p .items) t f);
-      back = rw (four-back (p .value) (h .small));
+      back = rw (four-back (p .value) (h .small), h .mark);
       size = omega arith;
     }
   where
@@ -171,8 +172,21 @@ value-small p a (many k) =
     let e : part (p .header) 0 0 (p .items) ≡ p = rw (k .isData) at (a .held .own) in
     omega (arith, ap (λ (q : Part). q .value) e)
 
+own-mark : (p : Part) → HeldPart p → ownMoreData (p .header) (p .moreData) ≡ p .moreData
+own-mark p h = go (eqb (p .header) transfer-data) refl
+  where
+    go : (b : Bool) → eqb (p .header) transfer-data ≡ b → ownMoreData (p .header) (p .moreData) ≡ p .moreData
+    go true e =
+        let own : part (p .header) 0 0 (p .items) ≡ p = rw e at (h .own) in
+        let none : 0 ≡ p .moreData = ap (λ (q : Part). q .moreData) own in
+        rw (eqb-true (p .header) transfer-data e) none
+    go false e =
+        let own : part (p .header) (p .value) (ownMoreData (p .header) (p .moreData)) [] ≡ p = rw e at (h .own) in
+        ap (λ (q : Part). q .moreData) own
+
 imageable : (p : Part) → AllowedPart p → Imageable p
-imageable p a = record { small = value-small p a (kind (p .header) (a .listed)); plain = plain-items p (a .held) }
+imageable p a =
+    record { small = value-small p a (kind (p .header) (a .listed)); mark = own-mark p (a .held); plain = plain-items p (a .held) }
 
 -- so the image of an allowed record gives the record
 pub allowed-back : (r : List Part) → Allowed r → imagedOf (imageOf r) ≡ record { answer = Accepted (length r); held = pack r }

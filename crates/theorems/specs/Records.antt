@@ -28,14 +28,13 @@ use Rattle.annex.specs.Heads.{
   oftenOf,
   most-values,
 }
-use Rattle.annex.specs.Items.{Item, Part, contentsOf, contentsBy, heldAs, part}
+use Rattle.annex.specs.Items.{Item, Part, contentsOf, contentsBy, heldAs, part, ownMoreData}
 use Rattle.annex.specs.declared.Holding.{Holding}
 use Rattle.annex.specs.Answers.{isSound}
 use Rattle.annex.specs.declared.Holding.the-variants.{AsContents, AsDigits, AsNumber, AsGeneric}
 use Rattle.annex.specs.Digits.{codeOf, joined, packed}
 use Rattle.annex.specs.Layout.{layoutItem, layoutItems}
 use Rattle.annex.specs.Allowed.{
-  ownMoreData,
   every,
   Each,
   timesIn,

@@ -9,8 +9,8 @@ use lib.Dec.{eqb}
 use lib.ListN.{length, take, drop, replicate, length-append, length-map}
 use lib.Seq.{take-append-seam, drop-append-seam, take-at, drop-at}
 use Rattle.annex.specs.Heads.{sequence, transfer-data, most-commons, most-transfers, most-values}
-use Rattle.annex.specs.Items.{Item, Part, part, partWith, ownOf}
-use Rattle.annex.specs.Allowed.{every, Each, isOctet, HeldItem, HeldPart, Held, ownMoreData, ownPart, itemsIn}
+use Rattle.annex.specs.Items.{Item, Part, part, partWith, ownOf, ownMoreData}
+use Rattle.annex.specs.Allowed.{every, Each, isOctet, HeldItem, HeldPart, Held, ownPart, itemsIn}
 use Rattle.annex.specs.Records.{
   noCommon,
   noTransfer,
@@ -34,6 +34,7 @@ use Rattle.annex.specs.Image.{isWithin}
 use Rattle.annex.specs.declared.Common.{Common}
 use Rattle.annex.specs.declared.Transfer.{Transfer}
 use Rattle.annex.specs.declared.Record.{Record}
+use Rattle.laws.specs.Bools.{cond-again}
 use Rattle.laws.specs.Laid.{own-held-item}
 use Rattle.laws.specs.Filling.{values-append}
 use Rattle.theorems.specs.Lists.{every-take, every-drop, each-take, each-drop, each-so}
@@ -181,13 +182,6 @@ held-items (t ∷ ts) vs s o = (
   held-items ts (drop (t .len) vs) (s .1) (every-drop isOctet (t .len) vs o),
 )
 
-mark-own : (h m : ℕ) → ownMoreData h (ownMoreData h m) ≡ ownMoreData h m
-mark-own h m = go (eqb h sequence)
-  where
-    go : (b : Bool) → cond b (cond b m 0) 0 ≡ cond b m 0
-    go true = refl
-    go false = refl
-
 pub own-part : (p : Part) → p .header < 256 → Each HeldItem (p .items) → HeldPart (ownPart p)
 own-part p s h = go (eqb (p .header) transfer-data) refl
   where
@@ -195,7 +189,7 @@ own-part p s h = go (eqb (p .header) transfer-data) refl
         → HeldPart
         (cond b (part (p .header) 0 0 (p .items)) (part (p .header) (p .value) (ownMoreData (p .header) (p .moreData)) []))
     go true e = record { octet = s; own = rw e; each = h }
-    go false e = record { octet = s; own = rw (e, mark-own (p .header) (p .moreData)); each = tt }
+    go false e = record { octet = s; own = rw (e, cond-again (eqb (p .header) sequence) (λ (m : ℕ). m) (p .moreData) 0 0); each = tt }
 
 held-parts : (cs : List Common) (ts : List Transfer) (vs : List ℕ) → Each OctetCommon cs → Each OctetTransfer ts → every isOctet vs ≡ true
     → Held (viewParts cs ts vs)

@@ -7,11 +7,14 @@ use calls::{buffer, lent, readings, same, same_in_all};
 use trial::record::{Common, Record};
 use trial::Input;
 
-/// A message with this octet for its sequence, and 41.
-fn message(octet: u8) -> [u8; 11] {
-    [
-        0x01, 0x01, 0x04, octet, 0x06, 0x11, 0xC5, 0x02, 0x41, 0x00, 0x00,
-    ]
+/// Transfer data with 41, F7 and E0, and the end mark.
+const DATA: [u8; 12] = [
+    0xC5, 0x09, 0x41, 0x00, 0xF7, 0x02, 0x00, 0x02, 0xE0, 0x01, 0x28, 0x00,
+];
+
+/// A message with this octet for its sequence, and with what the calls ask for.
+fn message(octet: u8) -> Vec<u8> {
+    [&[0x01, 0x01, 0x04, octet, 0x06, 0x11], &DATA[..]].concat()
 }
 
 /// The calls that find the sequence and 41.
@@ -25,6 +28,21 @@ fn finds(message: &[u8]) -> [Input; 2] {
         Input::FindTransfer {
             message,
             name: 0x01,
+        },
+    ]
+}
+
+/// The calls that open F7 and E0.
+fn openings(message: &[u8]) -> [Input; 2] {
+    let message = message.to_vec();
+    [
+        Input::Charging {
+            message: message.clone(),
+            out: lent(),
+        },
+        Input::Order {
+            message,
+            table: lent(),
         },
     ]
 }
@@ -55,6 +73,7 @@ fn edits(message: &[u8]) -> [Input; 3] {
 fn number(message: &[u8]) -> u8 {
     let mut calls = readings(message).to_vec();
     calls.extend(finds(message));
+    calls.extend(openings(message));
     calls.extend(edits(message));
     same_in_all(&calls)
 }
@@ -73,7 +92,7 @@ fn with_every_octet_in_every_place() {
         let mut parameters = [vec![0x01, 0x01], vec![0x04, octet], vec![0x06, 0x11]];
         for _ in 0..parameters.len() {
             parameters.rotate_left(1);
-            let message = [&parameters.concat()[..], &[0xC5, 0x02, 0x41, 0x00, 0x00]].concat();
+            let message = [&parameters.concat()[..], &DATA[..]].concat();
             number(&message);
             number(&[&[0x04, 0x01], &message[..]].concat());
             for end in 0..message.len() {

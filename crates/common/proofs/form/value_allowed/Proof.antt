@@ -11,7 +11,7 @@ returns c = rw (c .match .keys1)
 
 returns-2 : tie.Need-returns-2
 unfolding valueAllowed
-returns-2 c = rw (c .before .match .keys2) (c .is-kind .ensures)
+returns-2 c = rw (c .before .match .keys2) (c .is-signal-kind .ensures)
 
 returns-3 : tie.Need-returns-3
 unfolding valueAllowed

@@ -78,7 +78,7 @@ returns-3 c =
     let st = e .before .before in
     let a = st .args in
     laid (a .c) (a .room .now) _ _ (a .at) _
-    (rw (o .own-octet .ensures) (low-plain (a .c) (octet-is st) (e .if1 .left) (sym (i .is-call .ensures) ∙ n .if2 .left)))
+    (rw (o .octet-of .ensures) (low-plain (a .c) (octet-is st) (e .if1 .left) (sym (i .is-call .ensures) ∙ n .if2 .left)))
     (p .copy-in3 .ensures)
 
 pub lay-head-spec : {M : Type 1} → statement M

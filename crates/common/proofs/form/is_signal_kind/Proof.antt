@@ -1,4 +1,4 @@
--- `is_kind` meets its contract: what is no octet is no signal kind.
+-- `is_signal_kind` meets its contract: what is no octet is no signal kind.
 use Prim.Native.Nat.{ℕ, _≤_, _<_}
 use native.Mathlib.Omega.{arith}
 use mathlib.Core.Path.{_≡_, refl, sym}
@@ -9,8 +9,8 @@ use borrow.Author.Tests.{ltb-true, ne-eqb}
 use Rattle.annex.specs.Heads.{among, signalKinds}
 use Rattle.annex.specs.Allowed.{every, isOctet}
 use Rattle.laws.specs.Bools.{and-left, and-right}
-use Rattle.common.proofs.form.is_kind.Statement.{statement}
-use Rattle.common.proofs.form.is_kind.Tie as tie
+use Rattle.common.proofs.form.is_signal_kind.Statement.{statement}
+use Rattle.common.proofs.form.is_signal_kind.Tie as tie
 
 over : (ks : List ℕ) → every isOctet ks ≡ true → (v : ℕ) → 256 ≤ v → among v ks ≡ false
 over [] o v h = refl
@@ -21,5 +21,5 @@ over (k ∷ ks) o v h =
 returns-2 : tie.Need-returns-2
 returns-2 c = sym (over signalKinds refl _ (c .if1 .left))
 
-pub is-kind-spec : {M : Type 1} → statement M
-is-kind-spec = tie.close (tie.spec (λ c. search needs) (λ c κs. search needs) (λ c. search needs) returns-2)
+pub is-signal-kind-spec : {M : Type 1} → statement M
+is-signal-kind-spec = tie.close (tie.spec (λ c. search needs) (λ c κs. search needs) (λ c. search needs) returns-2)
