@@ -34,7 +34,7 @@ pub or-right : (a b : Bool) → a || b ≡ false → b ≡ false
 or-right true b e = absurd (let z : _≡_ {A = ℕ} 0 1 = cc in omega arith)
 or-right false b e = e
 
--- under a test, the same test again
+-- under a test, the same test again decides nothing
 pub cond-again : {A B : Type 0} (b : Bool) (f : A → B) (x y : A) (z : B) → cond b (f (cond b x y)) z ≡ cond b (f x) z
 cond-again true f x y z = refl
 cond-again false f x y z = refl

@@ -355,9 +355,10 @@ mod tests {
 
     #[test]
     fn all_else_makes_one() {
-        let changes: [fn(&mut Record); 8] = [
+        let changes: [fn(&mut Record); 9] = [
             |record| record.common[0].header = 0x04,
             |record| record.common[1].value = 1,
+            |record| record.common[0].more_data = 1,
             |record| record.common[1].transfers[0].header = 0x91,
             |record| record.common[1].transfers[0].screening = 1,
             |record| record.common[1].transfers.swap(0, 1),
