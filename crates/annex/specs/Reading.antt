@@ -3,7 +3,7 @@
 -- judges contents is by a rule of contents, `Contents.Rule`, and named `..By`; the names at the end are by the rule in force,
 -- `Contents.faultOf`.
 use Prim.Native.Nat.{ℕ, _+_, _*_}
-use mathlib.Core.Bool.{Bool, true, cond, not, _&&_, _||_}
+use mathlib.Core.Bool.{Bool, cond, not, _&&_, _||_}
 use mathlib.Core.List.{List, [], _∷_, map}
 use lib.Dec.{eqb, ltb, leb}
 use lib.ListN.{length, getD, take}

@@ -148,6 +148,19 @@ impl Input {
         }
     }
 
+    /// The message that the call is handed, if it is one that only reads it.
+    pub fn message(&self) -> Option<&[u8]> {
+        match self {
+            Input::Read { message, .. }
+            | Input::Rows { message, .. }
+            | Input::FindCommon { message, .. }
+            | Input::FindTransfer { message, .. }
+            | Input::Charging { message, .. }
+            | Input::Order { message, .. } => Some(message),
+            _ => None,
+        }
+    }
+
     /// The memory that the call lends, as it is before the call.
     pub fn lent(&self) -> &[u8] {
         match self {

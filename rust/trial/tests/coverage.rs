@@ -227,14 +227,8 @@ fn is_of_transfer(outcome: &Outcome) -> bool {
 
 /// Notes the name at which reading refused a transfer parameter.
 fn note_read(input: &Input, outcome: &Outcome, names: &mut Names) {
-    let message = match input {
-        Input::Read { message, .. }
-        | Input::Rows { message, .. }
-        | Input::FindCommon { message, .. }
-        | Input::FindTransfer { message, .. }
-        | Input::Charging { message, .. }
-        | Input::Order { message, .. } => message,
-        _ => return,
+    let Some(message) = input.message() else {
+        return;
     };
     if is_of_transfer(outcome) {
         let name = message[outcome.place()] & 0x3F;

@@ -14,16 +14,13 @@ pub fn contents_in(header: u8, input: &Input, outcome: &Outcome) -> Option<Vec<u
         12 | 13 | 18 | 19 => false,
         _ => return None,
     };
-    match input {
-        Input::Read { message, .. }
-        | Input::Rows { message, .. }
-        | Input::FindCommon { message, .. }
-        | Input::FindTransfer { message, .. }
-        | Input::Charging { message, .. }
-        | Input::Order { message, .. } => match accepted {
+    if let Some(message) = input.message() {
+        return match accepted {
             true => found_in(header, message),
             false => counted(header, &message[outcome.place()..]),
-        },
+        };
+    }
+    match input {
         Input::Write { image, .. } => {
             let record = plain::from_image(image).ok()?;
             match accepted {

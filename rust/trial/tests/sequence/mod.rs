@@ -47,23 +47,15 @@ pub fn all_written() -> Sights {
 
 /// What is seen in a call.
 pub fn sights(input: &Input, outcome: &Outcome) -> Sights {
+    let seen_in = |message| in_message(message, outcome);
     let seen = match input {
-        Input::Read { message, .. }
-        | Input::Rows { message, .. }
-        | Input::FindCommon { message, .. }
-        | Input::FindTransfer { message, .. }
-        | Input::Charging { message, .. }
-        | Input::Order { message, .. } => in_message(message, outcome),
         Input::Replace { buffer, n, .. }
         | Input::Append { buffer, n, .. }
-        | Input::Remove { buffer, n, .. } => {
-            let message = buffer.get(..usize::from(*n));
-            message.map_or_else(Vec::new, |message| in_message(message, outcome))
-        }
-        Input::Write { image, .. } => in_record(image, outcome).unwrap_or_default(),
-        Input::Class { .. } => vec![],
+        | Input::Remove { buffer, n, .. } => buffer.get(..usize::from(*n)).map(seen_in),
+        Input::Write { image, .. } => in_record(image, outcome),
+        _ => input.message().map(seen_in),
     };
-    seen.into_iter().collect()
+    seen.into_iter().flatten().collect()
 }
 
 fn in_message(message: &[u8], outcome: &Outcome) -> Vec<Sight> {
