@@ -1,8 +1,9 @@
 -- Answers and refusals: document 01, "Refusal numbers and their order". The numbers are named here, and the number, place and value of
 -- every case of an answer, a class answer, a fault of contents and what was found.
 use Prim.Native.Nat.{ℕ, _+_}
-use mathlib.Core.Bool.{Bool, true, false}
+use mathlib.Core.Bool.{Bool, true, false, cond}
 use mathlib.Core.List.{List, _++_}
+use lib.Dec.{eqb}
 use lib.ListN.{drop}
 use Rattle.annex.specs.declared.Answer.{Answer}
 use Rattle.annex.specs.declared.Answer.the-variants.{Accepted, Refused}
@@ -178,9 +179,10 @@ soundThen place (Bad k i) a = Refused k (place k i)
 abbrev pub headerAt : ℕ → ℕ → ℕ → ℕ
 headerAt p k i = p
 
--- where reading tells it, counted from the header, of contents that start so many octets behind it: at the header too
+-- where reading tells it, counted from the header, of contents that start so many octets behind it: 13 at the octet (document 02, request
+-- e), any other number at the header
 abbrev pub readingAt : ℕ → ℕ → ℕ → ℕ
-readingAt start = headerAt 0
+readingAt start k i = cond (eqb k bad-digit) (start + i) 0
 
 -- what follows an accepted step; a refusal is passed on
 abbrev pub andThen : Answer → (ℕ → Answer) → Answer

@@ -1,5 +1,5 @@
--- The bench table: document 01, "The bench table", cases 1 to 15, and the examples of document 02's request d, under one statement. Case 1,
--- M, is an example of that request too.
+-- The bench table: document 01, "The bench table", cases 1 to 15, with case 13 as document 02's request e changes it, and the examples of
+-- request d, under one statement. Case 1, M, is an example of request d too.
 use Prim.Native.Nat.{ℕ}
 use mathlib.Core.Path.{_≡_, refl}
 use mathlib.Core.List.{List, [], _∷_, _++_, map}
@@ -85,7 +85,7 @@ cases =
     Read (K ++ (0xC5 ∷ 0x04 ∷ 0x41 ∷ 0x00 ∷ 0x41 ∷ 0x01 ∷ 0x00 ∷ [])) (Refused 10 8) [] ∷
     Read (K ++ (0xC5 ∷ 0x01 ∷ 0x41 ∷ 0x00 ∷ [])) (Refused 11 6) [] ∷
     Read (K ++ (0xC5 ∷ 0x02 ∷ 0x41 ∷ 0x02 ∷ 0x00 ∷ [])) (Refused 12 6) [] ∷
-    Read (K ++ (0xC5 ∷ 0x03 ∷ 0x90 ∷ 0x01 ∷ 0x00 ∷ 0x00 ∷ [])) (Refused 13 6) [] ∷
+    Read (K ++ (0xC5 ∷ 0x03 ∷ 0x90 ∷ 0x01 ∷ 0x00 ∷ 0x00 ∷ [])) (Refused 13 8) [] ∷
     Read (K ++ (0xC5 ∷ 0x05 ∷ 0xD7 ∷ 0x03 ∷ 0x83 ∷ 0x11 ∷ 0x00 ∷ 0x00 ∷ [])) (Accepted 12)
     (valuePart 0x01 0x01 ∷ valuePart 0x06 0x11 ∷ dataPart (numberItem 0xD7 0x03 0x11 (0 ∷ []) ∷ []) ∷ []) ∷
     Edited (Replacing (0x98 ∷ 0x02 ∷ 0x21 ∷ []) 0) M (Accepted 22)

@@ -21,6 +21,7 @@ pub mod Editing
 pub mod Classes
 pub mod Charging
 pub mod Opened
+pub mod BadHalves
 pub mod Packed
 pub mod Promises
 pub mod Bench

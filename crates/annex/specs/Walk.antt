@@ -7,9 +7,10 @@ use mathlib.Core.List.{List, [], _∷_}
 use lib.Dec.{leb}
 use lib.ListN.{length, getD, set, take, replicate}
 use Rattle.annex.specs.Heads.{name-count}
-use Rattle.annex.specs.Units.{nameOf}
+use Rattle.annex.specs.Units.{nameOf, afterOf, extentOf, commonExtentOf}
 use Rattle.annex.specs.declared.Answer.{Answer}
 use Rattle.annex.specs.declared.Answer.the-variants.{Accepted, Refused}
+use Rattle.annex.specs.declared.Extent.{Extent}
 
 -- how often each name has been seen
 abbrev pub Seen : Type 0
@@ -66,6 +67,16 @@ listing step = record { step = step; close = λ seen p. []; stop = λ k p. []; m
 -- how many octets after a header are its own, of the octets after it
 abbrev pub Size : Type 0
 Size = ℕ → List ℕ → ℕ
+
+-- by its PLI: of a common parameter, and of a transfer parameter
+abbrev pub sizeBy : (ℕ → Extent) → Size
+sizeBy ext h xs = afterOf (ext h) (getD xs 0 0)
+
+abbrev pub commonSize : Size
+commonSize = sizeBy commonExtentOf
+
+abbrev pub transferSize : Size
+transferSize = sizeBy extentOf
 
 abbrev pub parOf : ℕ → ℕ → ℕ → List ℕ → Par
 parOf p h n xs = record { place = p; head = h; own = take n xs }

@@ -7,7 +7,7 @@ use lib.Dec.{eqb, leb, ltb}
 use lib.ListN.{length, getD, take, drop}
 use Rattle.annex.specs.Units.{nameOf, afterOf, leadOf, extentOf, commonExtentOf}
 use Rattle.annex.specs.Heads.{end-mark, transfer-data, kth}
-use Rattle.annex.specs.Walk.{Par, Size, pars}
+use Rattle.annex.specs.Walk.{Par, sizeBy, pars}
 use Rattle.annex.specs.declared.Extent.{Extent}
 use Rattle.annex.specs.declared.Key.{Key}
 use Rattle.annex.specs.declared.Key.the-variants.{Header, Name}
@@ -27,10 +27,6 @@ unfoldable pub stretchAt : List ℕ → ℕ → Extent → Found
 stretchAt t i e =
     let n = afterAt t i e in
     cond (ltb i (length t)) (cond (leb n (length t - (i + 1))) (At (i + 1 + leadOf e) (i + 1 + n)) Nowhere) Nowhere
-
--- how many octets after a header are its own, by its PLI
-abbrev pub sizeBy : (ℕ → Extent) → Size
-sizeBy ext h xs = afterOf (ext h) (getD xs 0 0)
 
 -- ---- the one that a key asks for
 

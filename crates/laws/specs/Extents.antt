@@ -6,6 +6,13 @@ use Rattle.annex.specs.declared.Extent.{Extent}
 use Rattle.annex.specs.declared.Extent.the-variants.{Fixed, Counted}
 use Rattle.annex.specs.declared.CountingUnit.the-variants.{HalfOctet, Octet}
 
+-- there is one length octet, or none
+pub lead-one : (e : Extent) → leadOf e ≤ 1
+unfolding leadOf
+lead-one (Fixed n) = omega arith
+lead-one (Counted HalfOctet) = omega arith
+lead-one (Counted Octet) = omega arith
+
 -- a length octet is among the octets after its header
 pub lead-within : (e : Extent) (x : ℕ) → leadOf e ≤ afterOf e x
 unfolding leadOf afterOf

@@ -11,7 +11,7 @@ use lib.Seq.{drop-drop}
 use Rattle.annex.specs.Units.{nameOf, leadOf, extentOf, commonExtentOf}
 use Rattle.annex.specs.Heads.{end-mark, transfer-data, kth}
 use Rattle.annex.specs.Allowed.{Each}
-use Rattle.annex.specs.Walk.{Par}
+use Rattle.annex.specs.Walk.{Par, sizeBy, commonSize, transferSize}
 use Rattle.annex.specs.Reading.{transfersOf, verdictOf, dataIn}
 use Rattle.annex.specs.Finding.{stretchOf, commonIn, commonFound, transferIn, transferAmong, transferFound, foundBy}
 use Rattle.annex.specs.declared.Answer.the-variants.{Accepted}
@@ -21,7 +21,6 @@ use Rattle.annex.specs.declared.Found.{Found}
 use Rattle.annex.specs.declared.Found.the-variants.{At, Nowhere}
 use Rattle.annex.specs.Contents.{faultOf}
 use Rattle.annex.specs.Walking.{
-  sizeBy,
   isSought,
   whichOf,
   extentBy,
@@ -37,8 +36,7 @@ use Rattle.annex.specs.Walking.{
 }
 use Rattle.laws.specs.Extents.{lead-within}
 use Rattle.laws.specs.Parts.{from-to}
-use Rattle.laws.specs.Plain.{commonSize, transferSize, Lies, pars-lie}
-use Rattle.laws.specs.Plain.{transfers-plain, commons-plain, InnerSound, commons-inner}
+use Rattle.laws.specs.Plain.{Lies, pars-lie, transfers-plain, commons-plain, InnerSound, commons-inner}
 
 -- ---- what is found lies within n octets
 

@@ -10,7 +10,18 @@ use borrow.Author.Tests.{leb-true, ltb-false, eqb-true, eqb-false, not-true}
 use lib.Dec.{eqb, leb, ltb}
 use lib.ListN.{length, getD, take, drop, length-drop}
 use lib.Seq.{length-take-le}
-use Rattle.annex.specs.Answers.{bad-form, bad-digit, check-digit, readingAt, formedThen, formed, faultThen, isSound, wrong-order}
+use Rattle.annex.specs.Answers.{
+  bad-form,
+  bad-digit,
+  check-digit,
+  wrong-order,
+  offsetOf,
+  formedThen,
+  formed,
+  faultThen,
+  isSound,
+  readingAt,
+}
 use Rattle.annex.specs.Units.{countedBy, wholeCount}
 use Rattle.annex.specs.Heads.{among, clear, added-calling-number, withheld, zeroesOf, formOf}
 use Rattle.annex.specs.declared.Check.{Check}
@@ -258,9 +269,23 @@ fault-within h s = formed-within (length s) (clear (zeroesOf h) (getD s 0 0)) (f
 abbrev pub RuleWithin : Rule → Type 0
 RuleWithin rule = (h : ℕ) (s : List ℕ) → Within (length s) (rule h s)
 
+-- the offset is 0 or that of an octet
+pub offset-within : (n : ℕ) (f : Fault) → Within n f → offsetOf f < 1 + n
+offset-within n Sound w = omega arith
+offset-within n (Bad k i) w = go (w .at k i refl)
+  where
+    go : ((k ≡ bad-form) × (i ≡ 0)) ⊎ (i < n) → i < 1 + n
+    go (inl o) = omega (arith, o .1)
+    go (inr l) = omega arith
+
 -- reading tells a fault at the header or at an octet behind it that is the parameter's own
 pub reading-within : (lead n : ℕ) (f : Fault) → Within n f → (k i : ℕ) → f ≡ Bad k i → readingAt (1 + lead) k i ≤ lead + n
-reading-within lead n f w k i e = omega arith
+reading-within lead n f w k i e = go (eqb k bad-digit) refl (w .at k i e)
+  where
+    go : (b : Bool) → eqb k bad-digit ≡ b → ((k ≡ bad-form) × (i ≡ 0)) ⊎ (i < n) → cond b (1 + lead + i) 0 ≤ lead + n
+    go false t o = omega arith
+    go true t (inl o) = absurd (omega (arith, eqb-true k bad-digit t, o .0))
+    go true t (inr l) = omega arith
 
 -- ---- octets that stand elsewhere
 

@@ -16,7 +16,23 @@ use Rattle.annex.specs.Answers.{over-limits}
 use Rattle.annex.specs.Contents.{Rule, faultOf}
 use Rattle.annex.specs.Heads.{end-mark, transfer-data, most-octets}
 use Rattle.annex.specs.Allowed.{Each}
-use Rattle.annex.specs.Walk.{Seen, unseen, counted, Par, Step, byStep, walk, judging, listing, Size, parOf, pars}
+use Rattle.annex.specs.Walk.{
+  Seen,
+  unseen,
+  counted,
+  Par,
+  Step,
+  byStep,
+  walk,
+  judging,
+  listing,
+  Size,
+  sizeBy,
+  commonSize,
+  transferSize,
+  parOf,
+  pars,
+}
 use Rattle.annex.specs.Reading.{
   transfersVerdict,
   endOf,
@@ -35,17 +51,10 @@ use Rattle.annex.specs.Reading.{
   dataBy,
   commonStepBy,
 }
-use Rattle.annex.specs.Walking.{sizeBy}
 use Rattle.annex.specs.declared.Extent.{Extent}
 use Rattle.annex.specs.declared.Answer.{Answer}
 use Rattle.annex.specs.declared.Answer.the-variants.{Accepted, Refused}
 use Rattle.laws.specs.Steps.{passed, transfer-taken, common-taken, common-formed, common-within, data-taken}
-
-abbrev pub commonSize : Size
-commonSize = sizeBy commonExtentOf
-
-abbrev pub transferSize : Size
-transferSize = sizeBy extentOf
 
 module _ (size : Size) where
   pars-none : (k p : ℕ) → pars size k p [] ≡ []

@@ -14,7 +14,21 @@ use lib.Seq.{drop-cons, length-take-le}
 use Rattle.annex.specs.Units.{leadOf, extentOf, commonExtentOf}
 use Rattle.annex.specs.Answers.{over-limits}
 use Rattle.annex.specs.Heads.{most-octets}
-use Rattle.annex.specs.Walk.{Seen, unseen, counted, Par, Step, byStep, walk, judging, listing, Size, pars}
+use Rattle.annex.specs.Walk.{
+  Seen,
+  unseen,
+  counted,
+  Par,
+  Step,
+  byStep,
+  walk,
+  judging,
+  listing,
+  Size,
+  commonSize,
+  transferSize,
+  pars,
+}
 use Rattle.annex.specs.Reading.{
   transferStep,
   transfersVerdict,
@@ -38,13 +52,7 @@ use Rattle.annex.specs.declared.Extent.{Extent}
 use Rattle.annex.specs.Contents.{faultOf}
 use Rattle.laws.specs.Members.{sumOf}
 use Rattle.laws.specs.Steps.{passed, transfer-taken, common-within}
-use Rattle.laws.specs.Plain.{
-  commonSize,
-  transferSize,
-  pars-turn,
-  commons-plain,
-  transfers-plain,
-}
+use Rattle.laws.specs.Plain.{pars-turn, commons-plain, transfers-plain}
 
 -- ---- sums
 

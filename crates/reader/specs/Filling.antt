@@ -8,7 +8,7 @@ use lib.Seq.{sets}
 use borrow.Author.Tests.{eq-eqb, ne-eqb}
 use Rattle.annex.specs.Units.{extentOf, commonExtentOf}
 use Rattle.annex.specs.Heads.{end-mark, transfer-data}
-use Rattle.annex.specs.Walk.{Par, pars}
+use Rattle.annex.specs.Walk.{Par, commonSize, transferSize, pars}
 use Rattle.annex.specs.Items.{Item, Part, itemOf}
 use Rattle.annex.specs.Allowed.{Each}
 use Rattle.annex.specs.Records.{headOf, valuesOf}
@@ -18,7 +18,7 @@ use Rattle.annex.specs.declared.Found.the-variants.{Nowhere}
 use Rattle.annex.specs.declared.Record.{Record}
 use Rattle.annex.specs.Contents.{faultOf}
 use Rattle.annex.specs.Walking.{stretchAt}
-use Rattle.laws.specs.Plain.{transferSize, commonSize, InnerSound, transfers-plain, commons-plain, commons-inner}
+use Rattle.laws.specs.Plain.{InnerSound, transfers-plain, commons-plain, commons-inner}
 use Rattle.laws.specs.Filling.{withItems, items-turn, items-opened}
 use Rattle.walk.specs.Stretches.{parIn, Whole, stretch-none}
 use Rattle.reader.specs.declared.reading.Filled.{Filled}

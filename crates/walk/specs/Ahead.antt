@@ -12,7 +12,7 @@ use lib.Seq.{getD-take, drop-cons, drop-drop, length-take-le}
 use Rattle.annex.specs.Units.{afterOf, leadOf, extentOf, commonExtentOf}
 use Rattle.annex.specs.Heads.{transfer-data}
 use Rattle.annex.specs.Allowed.{Each}
-use Rattle.annex.specs.Walk.{Par, Size, pars}
+use Rattle.annex.specs.Walk.{Par, Size, commonSize, transferSize, pars}
 use Rattle.annex.specs.Reading.{verdictOf, dataIn}
 use Rattle.annex.specs.Spans.{parRow, transferRows, innerRows, commonRows, rowsOf, rowsBy, commonRowsBy}
 use Rattle.annex.specs.declared.Answer.{Answer}
@@ -26,8 +26,7 @@ use Rattle.laws.specs.Extents.{lead-within}
 use Rattle.laws.specs.Listed.{rowsAfter, listed}
 use Rattle.laws.specs.Members.{sumOf}
 use Rattle.laws.specs.Parts.{from-to}
-use Rattle.laws.specs.Plain.{commonSize, transferSize, pars-end, pars-moved, octet-behind}
-use Rattle.laws.specs.Plain.{commons-plain, transfers-plain, InnerSound, commons-inner}
+use Rattle.laws.specs.Plain.{pars-end, pars-moved, octet-behind, commons-plain, transfers-plain, InnerSound, commons-inner}
 use Rattle.laws.specs.Rows.{
   parAt,
   octetsIn,

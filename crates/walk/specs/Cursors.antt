@@ -4,10 +4,9 @@ use mathlib.Core.Path.{_≡_, refl}
 use mathlib.Core.List.{List, _++_}
 use lib.ListN.{take, drop}
 use Rattle.annex.specs.Spans.{transferRows, commonRows}
-use Rattle.annex.specs.Walk.{pars}
+use Rattle.annex.specs.Walk.{commonSize, transferSize, pars}
 use Rattle.annex.specs.Walking.{firstCursor}
 use Rattle.annex.specs.declared.Row.{Row}
-use Rattle.laws.specs.Plain.{commonSize, transferSize}
 use Rattle.annex.specs.declared.Cursor.{Cursor}
 
 -- behind k rows, where `next` goes from each to the one behind it

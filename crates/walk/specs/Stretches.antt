@@ -9,8 +9,8 @@ use lib.Dec.{leb, ltb}
 use lib.ListN.{length, getD, take, drop, length-drop}
 use lib.Seq.{drop-drop, length-take-le}
 use Rattle.annex.specs.Units.{leadOf, contentsIn}
-use Rattle.annex.specs.Walk.{Par, pars}
-use Rattle.annex.specs.Walking.{sizeBy, afterAt, stretchAt}
+use Rattle.annex.specs.Walk.{Par, sizeBy, pars}
+use Rattle.annex.specs.Walking.{afterAt, stretchAt}
 use Rattle.annex.specs.declared.Extent.{Extent}
 use Rattle.annex.specs.declared.Found.{Found}
 use Rattle.annex.specs.declared.Found.the-variants.{At, Nowhere}

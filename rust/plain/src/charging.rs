@@ -1,9 +1,10 @@
 //! The charging information, F7: an octet that is carried unread, the rate kind,
 //! and the fields that the kind has.
 
+use crate::fault::{formed, Fault};
 use crate::finding::find_transfer;
 use crate::refusal::Refusal;
-use crate::transfer::{formed, name_of, CHARGING};
+use crate::transfer::{name_of, CHARGING};
 
 /// What the charging information tells: the rate kind, and the fields as whole
 /// numbers, 0 for those that the kind does not have. Times are in half seconds.
@@ -109,32 +110,37 @@ impl Drawn {
         }
     }
 
-    /// What the octets of the field hold, or none if a character or a half of
-    /// them is no digit.
-    fn value(self, octets: &[u8]) -> Option<Value> {
+    /// What the octets of the field hold; 13 if a character or a half of them is
+    /// no digit.
+    fn value(self, octets: &[u8]) -> Result<Value, Fault> {
         let first = octets[0];
         match self {
-            Drawn::Octet => Some(Value {
+            Drawn::Octet => Ok(Value {
                 number: first.into(),
                 sum: 0,
             }),
-            Drawn::Halves => decimal([first >> 4, first & 0x0F].map(digit_of_half)),
+            Drawn::Halves => {
+                let halves = [first >> 4, first & 0x0F].map(digit_of_half);
+                decimal(halves.map(|digit| (0, digit)))
+            }
             Drawn::Digits(_) | Drawn::CheckDigit => {
-                decimal(octets.iter().map(|&octet| digit_of_character(octet)))
+                let digits = octets.iter().map(|&octet| digit_of_character(octet));
+                decimal(digits.enumerate())
             }
         }
     }
 }
 
-/// The number of these digits, the highest first.
-fn decimal(digits: impl IntoIterator<Item = Option<u8>>) -> Option<Value> {
+/// The number of these digits, the highest first, each with the offset of its
+/// octet; 13 at the first that is none.
+fn decimal(digits: impl IntoIterator<Item = (usize, Option<u8>)>) -> Result<Value, Fault> {
     let mut value = Value { number: 0, sum: 0 };
-    for digit in digits {
-        let digit = u16::from(digit?);
+    for (at, digit) in digits {
+        let digit = u16::from(digit.ok_or(Fault::Digit { at })?);
         value.number = 10 * value.number + digit;
         value.sum += digit;
     }
-    Some(value)
+    Ok(value)
 }
 
 /// The digit of an IA5 character.
@@ -148,11 +154,11 @@ fn digit_of_half(code: u8) -> Option<u8> {
 }
 
 /// Opens the contents. Refused are 12, 13, then 18.
-pub(crate) fn open(contents: &[u8]) -> Result<Charging, u8> {
+pub(crate) fn open(contents: &[u8]) -> Result<Charging, Fault> {
     let [_, kind, octets @ ..] = contents else {
-        return Err(Refusal::BAD_FORM);
+        return Err(Fault::Form);
     };
-    let fields = fields_of(*kind).ok_or(Refusal::BAD_FORM)?;
+    let fields = fields_of(*kind).ok_or(Fault::Form)?;
     formed(octets.len() == fields.iter().map(|field| field.drawn.len()).sum())?;
     let mut charging = Charging {
         kind: *kind,
@@ -161,15 +167,17 @@ pub(crate) fn open(contents: &[u8]) -> Result<Charging, u8> {
     let mut sum = u16::from(*kind);
     let mut rest = octets;
     for field in fields {
+        let start = contents.len() - rest.len();
         let (octets, behind) = rest.split_at(field.drawn.len());
-        let value = field.drawn.value(octets).ok_or(Refusal::SPARE_DIGIT)?;
+        let value = field.drawn.value(octets);
+        let value = value.map_err(|fault| fault.behind(start))?;
         *(field.number)(&mut charging) = value.number;
         sum += value.sum;
         rest = behind;
     }
     let checked = fields.iter().any(|field| field.drawn == Drawn::CheckDigit);
     if checked && sum % 10 != 9 {
-        return Err(Refusal::CHECK_DIGIT);
+        return Err(Fault::CheckDigit);
     }
     Ok(charging)
 }
@@ -180,12 +188,17 @@ pub(crate) fn open(contents: &[u8]) -> Result<Charging, u8> {
 pub fn charging(message: &[u8]) -> Result<Charging, Refusal> {
     let contents = find_transfer(message, name_of(CHARGING))?;
     // Reading has opened them and found nothing wrong.
-    open(&message[contents]).map_err(Refusal::placeless)
+    open(&message[contents]).map_err(|fault| Refusal::placeless(fault.into()))
 }
 
 #[cfg(test)]
 mod tests {
     use super::*;
+
+    /// A bad digit in the octet at this offset.
+    const fn bad(at: usize) -> Fault {
+        Fault::Digit { at }
+    }
 
     /// Contents of this kind: any first octet, the kind, what stands before the
     /// characters, and these without the blanks between them.
@@ -242,18 +255,18 @@ mod tests {
         for kind in (0..=255).filter(|kind| !known.contains(kind)) {
             for (mut contents, _) in sound() {
                 contents[1] = kind;
-                assert_eq!(open(&contents), Err(12));
+                assert_eq!(open(&contents), Err(Fault::Form));
             }
         }
     }
 
     #[test]
     fn no_other_length() {
-        assert_eq!(open(&[]), Err(12));
-        assert_eq!(open(&[0x02]), Err(12));
+        assert_eq!(open(&[]), Err(Fault::Form));
+        assert_eq!(open(&[0x02]), Err(Fault::Form));
         for (contents, _) in sound() {
-            assert_eq!(open(&contents[..contents.len() - 1]), Err(12));
-            assert_eq!(open(&[&contents[..], b"0"].concat()), Err(12));
+            assert_eq!(open(&contents[..contents.len() - 1]), Err(Fault::Form));
+            assert_eq!(open(&[&contents[..], b"0"].concat()), Err(Fault::Form));
         }
     }
 
@@ -269,8 +282,8 @@ mod tests {
                     contents[at] = octet;
                     open(&contents).map(|_| ())
                 };
-                assert_eq!([with(0x2F), with(0x3A)], [Err(13); 2]);
-                assert!([with(b'0'), with(b'9')].iter().all(|r| *r != Err(13)));
+                assert_eq!([with(0x2F), with(0x3A)], [Err(bad(at)); 2]);
+                assert!([with(b'0'), with(b'9')].iter().all(|r| *r != Err(bad(at))));
                 characters += 1;
             }
         }
@@ -287,8 +300,8 @@ mod tests {
                 let codes = (1..=10).contains(&tens) && (1..=10).contains(&ones);
                 let sums = (5 + ten + one + u16::from(digit)) % 10 == 9;
                 let expected = match (codes, sums) {
-                    (false, _) => Err(13),
-                    (true, false) => Err(18),
+                    (false, _) => Err(bad(2)),
+                    (true, false) => Err(Fault::CheckDigit),
                     (true, true) => Ok(10 * ten + one),
                 };
                 assert_eq!(opened.map(|charging| charging.mbi), expected);
@@ -299,7 +312,7 @@ mod tests {
     #[test]
     fn one_check_digit_alone() {
         assert!(open(b"\x00\x05\x12\x31").is_ok());
-        assert_eq!(open(b"\x00\x05\x12\x32"), Err(18));
+        assert_eq!(open(b"\x00\x05\x12\x32"), Err(Fault::CheckDigit));
         for (mut contents, charging) in sound() {
             let Some(last) = contents.len().checked_sub(1).filter(|&last| last > 1) else {
                 continue;
@@ -309,7 +322,7 @@ mod tests {
                 contents[last] = digit;
                 match open(&contents) {
                     Ok(_) => accepted += 1,
-                    Err(number) => assert_eq!(number, 18),
+                    Err(fault) => assert_eq!(fault, Fault::CheckDigit),
                 }
             }
             assert_eq!(accepted, if charging.kind < 8 { 1 } else { 10 });
@@ -318,10 +331,11 @@ mod tests {
 
     #[test]
     fn the_first_fault_counts() {
-        assert_eq!(open(b"\x00\x05\x02\x3A"), Err(13));
-        assert_eq!(open(b"\x00\x05\x12\x3A"), Err(13));
-        assert_eq!(open(b"\x00\x05\x02\x32"), Err(13));
-        assert_eq!(open(b"\x00\x05\x02\x32\x32"), Err(12));
-        assert_eq!(open(b"\x00\x06\x02\x32"), Err(12));
+        assert_eq!(open(b"\x00\x05\x02\x3A"), Err(bad(2)));
+        assert_eq!(open(b"\x00\x05\x12\x3A"), Err(bad(3)));
+        assert_eq!(open(b"\x00\x05\x02\x32"), Err(bad(2)));
+        assert_eq!(open(b"\x00\x05\x02\x32\x32"), Err(Fault::Form));
+        assert_eq!(open(b"\x00\x06\x02\x32"), Err(Fault::Form));
+        assert_eq!(open(b"\x00\x041234/678:"), Err(bad(6)));
     }
 }

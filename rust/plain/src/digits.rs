@@ -1,5 +1,7 @@
 //! Digits in half-octets: the two codings, first digit in the low half.
 
+use crate::fault::{none_bad, Fault};
+
 /// The octets that hold `half_octets` half-octets: half as many, rounded up.
 /// PLI 10 counts in half-octets and PLI 11 in octets; this is the one way from
 /// the first to the second.
@@ -19,8 +21,7 @@ pub(crate) struct Coding {
     digits: [[u8; 2]; 256],
 }
 
-/// Stands where a spare code has no digit value: all bits are set, so that one
-/// of it among digit values shows in their union.
+/// Stands where a spare code has no digit value.
 const SPARE: u8 = 0xFF;
 
 /// The coding under PLI 10: zero is 10, and code 0 is spare.
@@ -51,18 +52,17 @@ impl Coding {
         self.digits[usize::from(octet)]
     }
 
-    /// Whether `octets` hold digits only, the last high half being 0 where the
+    /// 13 unless `octets` hold digits only, the last high half being 0 where the
     /// count of digits is `odd`.
-    pub(crate) fn accepts(&self, octets: &[u8], odd: bool) -> bool {
+    pub(crate) fn check(&self, octets: &[u8], odd: bool) -> Result<(), Fault> {
         let (pairs, last) = match octets.split_last() {
             Some((&last, pairs)) if odd => (pairs, Some(last)),
             _ => (octets, None),
         };
-        let union = pairs.iter().fold(0, |union, &octet| {
-            let [low, high] = self.pair(octet);
-            union | low | high
-        });
-        union != SPARE && last.map_or(true, |octet| octet < 0x10 && self.lists(octet))
+        let is_bad_pair = |&octet: &u8| self.pair(octet).contains(&SPARE);
+        let is_bad_last = |octet: u8| octet >= 0x10 || !self.lists(octet);
+        let bad_last = || last.is_some_and(is_bad_last).then_some(pairs.len());
+        none_bad(pairs.iter().position(is_bad_pair).or_else(bad_last))
     }
 
     fn lists(&self, code: u8) -> bool {
@@ -137,7 +137,7 @@ mod tests {
         for coding in [&DIALLED, &NUMBER] {
             let mut octets = [0; 7];
             coding.encode(&digits, &mut octets);
-            assert!(coding.accepts(&octets, true));
+            assert_eq!(coding.check(&octets, true), Ok(()));
             let mut values = Vec::new();
             coding.decode(&octets, digits.len(), &mut values);
             assert_eq!(values, digits);
@@ -149,8 +149,25 @@ mod tests {
         let mut values = Vec::new();
         DIALLED.decode(&[0x21, 0x03], 3, &mut values);
         assert_eq!(values, [1, 2, 3]);
-        assert!(DIALLED.accepts(&[0x21, 0x03], true));
-        assert!(!DIALLED.accepts(&[0x21, 0x13], true));
-        assert!(!DIALLED.accepts(&[0x21, 0x03], false));
+        let bad = Err(Fault::Digit { at: 1 });
+        assert_eq!(DIALLED.check(&[0x21, 0x03], true), Ok(()));
+        assert_eq!(DIALLED.check(&[0x21, 0x13], true), bad);
+        assert_eq!(DIALLED.check(&[0x21, 0x03], false), bad);
+    }
+
+    /// Any two of the six halves are 15, which is neither a digit nor a filler.
+    #[test]
+    fn the_first_bad_half_counts() {
+        for (sound, odd) in [([0x21, 0x43, 0x65], false), ([0x21, 0x43, 0x05], true)] {
+            for (first, second) in (0..6).flat_map(|i| (i..6).map(move |k| (i, k))) {
+                let mut octets = sound;
+                for half in [first, second] {
+                    octets[half / 2] |= [0x0F, 0xF0][half % 2];
+                }
+                let bad = Err(Fault::Digit { at: first / 2 });
+                assert_eq!(DIALLED.check(&octets, odd), bad, "{octets:02X?}");
+                assert_eq!(NUMBER.check(&octets, odd), bad, "{octets:02X?}");
+            }
+        }
     }
 }

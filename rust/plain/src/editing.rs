@@ -61,7 +61,7 @@ fn check_new_header(new: &[u8]) -> Result<Layout, Refusal> {
 fn check_new_contents(layout: Layout, new: &[u8]) -> Result<(), Refusal> {
     let check = match transfer::contents_of(new) {
         Some(contents) if contents.end == new.len() => {
-            transfer::check_contents(layout, &new[contents])
+            transfer::check_contents(layout, &new[contents]).map_err(u8::from)
         }
         _ => Err(Refusal::CONTENTS_CUT),
     };

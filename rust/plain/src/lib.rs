@@ -29,6 +29,7 @@ pub mod classes;
 pub mod common;
 mod digits;
 pub mod editing;
+mod fault;
 pub mod finding;
 pub mod image;
 pub mod listing;

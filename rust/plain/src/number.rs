@@ -1,9 +1,8 @@
 //! The number in D7, DC and DA with 06: two octets of fields, then digits.
 
 use crate::digits::{octets_for, NUMBER};
+use crate::fault::{formed, Fault};
 use crate::record::Transfer;
-use crate::refusal::Refusal;
-use crate::transfer::formed;
 
 /// Octet 1: the count of digits is odd.
 const ODD: u8 = 0x80;
@@ -11,20 +10,17 @@ const ODD: u8 = 0x80;
 const WITHHELD: u8 = 2;
 
 /// Tries 12 and 13 on a number.
-pub(crate) fn check(octets: &[u8]) -> Result<(), u8> {
+pub(crate) fn check(octets: &[u8]) -> Result<(), Fault> {
     let [first, _, digits @ ..] = octets else {
-        return Err(Refusal::BAD_FORM);
+        return Err(Fault::Form);
     };
     let odd = first & ODD != 0;
     formed(!(odd && digits.is_empty()))?;
-    NUMBER
-        .accepts(digits, odd)
-        .then_some(())
-        .ok_or(Refusal::SPARE_DIGIT)
+    NUMBER.check(digits, odd).map_err(|fault| fault.behind(2))
 }
 
 /// The same for DC, which with presentation 2 holds nothing but its screening.
-pub(crate) fn check_calling(octets: &[u8]) -> Result<(), u8> {
+pub(crate) fn check_calling(octets: &[u8]) -> Result<(), Fault> {
     match octets {
         [first, second, digits @ ..] if second >> 2 & 0x03 == WITHHELD => {
             formed(*first == 0 && second & 0xF0 == 0 && digits.is_empty())
@@ -83,13 +79,17 @@ mod tests {
 
     #[test]
     fn forms() {
-        assert_eq!(check(&[]), Err(12));
-        assert_eq!(check(&[0x03]), Err(12));
+        assert_eq!(check(&[]), Err(Fault::Form));
+        assert_eq!(check(&[0x03]), Err(Fault::Form));
         assert_eq!(check(&[0x03, 0x11]), Ok(()));
-        assert_eq!(check(&[0x83, 0x11]), Err(12));
+        assert_eq!(check(&[0x83, 0x11]), Err(Fault::Form));
         assert_eq!(check(&[0x83, 0x11, 0x00]), Ok(()));
-        assert_eq!(check(&[0x83, 0x11, 0x10]), Err(13));
-        assert_eq!(check(&[0x03, 0x11, 0x0A]), Err(13));
+        assert_eq!(check(&[0x83, 0x11, 0x10]), Err(Fault::Digit { at: 2 }));
+        assert_eq!(check(&[0x03, 0x11, 0x0A]), Err(Fault::Digit { at: 2 }));
+        assert_eq!(
+            check(&[0x03, 0x11, 0x00, 0xA0]),
+            Err(Fault::Digit { at: 3 })
+        );
         assert_eq!(check(&[0x03, 0x11, 0xCB]), Ok(()));
     }
 
@@ -97,10 +97,10 @@ mod tests {
     fn withheld() {
         assert_eq!(check(&[0x01, 0x88]), Ok(()));
         assert_eq!(check_calling(&[0x00, 0x0B]), Ok(()));
-        assert_eq!(check_calling(&[0x01, 0x0B]), Err(12));
-        assert_eq!(check_calling(&[0x80, 0x0B, 0x01]), Err(12));
-        assert_eq!(check_calling(&[0x00, 0x1B]), Err(12));
-        assert_eq!(check_calling(&[0x00, 0x0B, 0x11]), Err(12));
+        assert_eq!(check_calling(&[0x01, 0x0B]), Err(Fault::Form));
+        assert_eq!(check_calling(&[0x80, 0x0B, 0x01]), Err(Fault::Form));
+        assert_eq!(check_calling(&[0x00, 0x1B]), Err(Fault::Form));
+        assert_eq!(check_calling(&[0x00, 0x0B, 0x11]), Err(Fault::Form));
         assert_eq!(check_calling(&[0x00, 0x07, 0x11]), Ok(()));
     }
 }

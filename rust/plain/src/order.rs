@@ -2,10 +2,11 @@
 //! their own, each at most once.
 
 use crate::digits::{octets_for, DIALLED};
+use crate::fault::{formed, none_bad, Fault};
 use crate::finding::find_transfer;
 use crate::listing::Row;
 use crate::refusal::Refusal;
-use crate::transfer::{formed, name_of, ORDER};
+use crate::transfer::{name_of, ORDER};
 
 /// The most rows of an order: the form's, and one for each parameter that can
 /// stand under one form.
@@ -98,49 +99,53 @@ impl Layout {
     }
 
     /// Tries 12, then 13 on the octets behind the header, all of which are there.
-    fn check(self, own: &[u8]) -> Result<(), u8> {
+    fn check(self, own: &[u8]) -> Result<(), Fault> {
         let (first, rest) = (own[0], &own[1..]);
         match self {
             Layout::Octet | Layout::Carried => Ok(()),
             Layout::Single => formed(first == 1),
             Layout::Marked => formed(first & 0x80 != 0),
-            Layout::Dialled => digits(DIALLED.accepts(rest, first & 1 == 1)),
-            Layout::Number => check_number(rest),
+            Layout::Dialled => {
+                let digits = DIALLED.check(rest, first & 1 == 1);
+                digits.map_err(|fault| fault.behind(1))
+            }
+            Layout::Number => check_number(rest).map_err(|fault| fault.behind(1)),
             Layout::Characters => match rest {
                 [_, 0..=REPEAT_LIMIT, characters @ ..] if !characters.is_empty() => {
-                    digits(characters.iter().all(is_character))
+                    all(characters, is_character).map_err(|fault| fault.behind(3))
                 }
-                _ => Err(Refusal::BAD_FORM),
+                _ => Err(Fault::Form),
             },
             Layout::Key => formed(matches!(rest, [_, 0..=REPEAT_LIMIT, ..])),
-            Layout::Time => digits(own.iter().all(u8::is_ascii_digit)),
+            Layout::Time => all(own, |octet| octet.is_ascii_digit()),
         }
     }
 }
 
-/// 13 unless the digits and characters are right.
-fn digits(right: bool) -> Result<(), u8> {
-    right.then_some(()).ok_or(Refusal::SPARE_DIGIT)
+/// 13 at the first octet that is not as wanted.
+fn all(octets: &[u8], wanted: impl Fn(u8) -> bool) -> Result<(), Fault> {
+    none_bad(octets.iter().position(|&octet| !wanted(octet)))
 }
 
 /// A number of 92: as in D7, but the digits are 0 to 9 alone, and what D7 has in
 /// the low half of its second octet is 0.
-fn check_number(octets: &[u8]) -> Result<(), u8> {
-    let [first, second, pairs @ ..] = octets else {
-        return Err(Refusal::BAD_FORM);
+fn check_number(octets: &[u8]) -> Result<(), Fault> {
+    let [first, second, digits @ ..] = octets else {
+        return Err(Fault::Form);
     };
     let odd = first & 0x80 != 0;
-    formed(second & 0x0F == 0 && !(odd && pairs.is_empty()))?;
-    let filler = match pairs.last() {
-        Some(last) if odd => last >> 4,
-        _ => 0,
-    };
-    let is_pair = |octet: &u8| octet & 0x0F < 10 && octet >> 4 < 10;
-    digits(filler == 0 && pairs.iter().all(is_pair))
+    formed(second & 0x0F == 0 && !(odd && digits.is_empty()))?;
+    let (pairs, last) = digits.split_at(digits.len() - usize::from(odd));
+    let is_pair = |octet: u8| octet & 0x0F < 10 && octet >> 4 < 10;
+    let checked = all(pairs, is_pair).and_then(|()| {
+        // One digit, and the filler above it.
+        all(last, |octet| octet < 10).map_err(|fault| fault.behind(pairs.len()))
+    });
+    checked.map_err(|fault| fault.behind(2))
 }
 
 /// Whether it may stand among the characters: a digit, `;` or ETX.
-fn is_character(octet: &u8) -> bool {
+fn is_character(octet: u8) -> bool {
     matches!(octet, b'0'..=b'9' | b';' | 0x03)
 }
 
@@ -149,19 +154,19 @@ type Met = u16;
 
 /// Tries 19, 12 and 13 on the parameter that begins `octets`; gives how many
 /// octets it has behind its header. There must be a header.
-fn check_parameter(form: u8, octets: &[u8], met: &mut Met) -> Result<usize, u8> {
+fn check_parameter(form: u8, octets: &[u8], met: &mut Met) -> Result<usize, Fault> {
     let (header, behind) = (octets[0], &octets[1..]);
     let at = KINDS.iter().position(|kind| kind.header == header);
-    let at = at.ok_or(Refusal::CONNECTION_ORDER)?;
+    let at = at.ok_or(Fault::Order)?;
     let Kind { layout, forms, .. } = &KINDS[at];
     if !forms.contains(&form) || *met & 1 << at != 0 {
-        return Err(Refusal::CONNECTION_ORDER);
+        return Err(Fault::Order);
     }
     *met |= 1 << at;
     let len = layout.len(behind.first().copied());
     let own = len.and_then(|len| behind.get(..len));
-    let own = own.ok_or(Refusal::BAD_FORM)?;
-    layout.check(own)?;
+    let own = own.ok_or(Fault::Form)?;
+    layout.check(own).map_err(|fault| fault.behind(1))?;
     Ok(own.len())
 }
 
@@ -169,16 +174,17 @@ fn check_parameter(form: u8, octets: &[u8], met: &mut Met) -> Result<usize, u8> 
 /// each parameter: its offset in the contents, its header, and how many octets
 /// follow. Refused are 12 without a form, 19 for one that there is not, then 19,
 /// 12 or 13 for each parameter in its turn.
-fn walk(contents: &[u8], mut row: impl FnMut(usize, u8, usize)) -> Result<(), u8> {
-    let form = *contents.first().ok_or(Refusal::BAD_FORM)?;
+fn walk(contents: &[u8], mut row: impl FnMut(usize, u8, usize)) -> Result<(), Fault> {
+    let form = *contents.first().ok_or(Fault::Form)?;
     if !is_form(form) {
-        return Err(Refusal::CONNECTION_ORDER);
+        return Err(Fault::Order);
     }
     row(0, form, 0);
     let mut met = 0;
     let mut offset = 1;
     while offset < contents.len() {
-        let len = check_parameter(form, &contents[offset..], &mut met)?;
+        let len = check_parameter(form, &contents[offset..], &mut met)
+            .map_err(|fault| fault.behind(offset))?;
         row(offset, contents[offset], len);
         offset += 1 + len;
     }
@@ -186,7 +192,7 @@ fn walk(contents: &[u8], mut row: impl FnMut(usize, u8, usize)) -> Result<(), u8
 }
 
 /// Tries 12, 13 and 19 on the contents.
-pub(crate) fn check(contents: &[u8]) -> Result<(), u8> {
+pub(crate) fn check(contents: &[u8]) -> Result<(), Fault> {
     walk(contents, |_, _, _| ())
 }
 
@@ -207,7 +213,7 @@ pub fn order(message: &[u8]) -> Result<Vec<Row>, Refusal> {
             len: len as u16,
         });
     })
-    .map_err(Refusal::placeless)?;
+    .map_err(|fault| Refusal::placeless(fault.into()))?;
     Ok(rows)
 }
 
@@ -227,6 +233,11 @@ pub fn order_spans(message: &[u8], table: &mut [Row]) -> Result<usize, Refusal> 
 #[cfg(test)]
 mod tests {
     use super::*;
+
+    /// A bad digit in the octet at this offset of the contents.
+    const fn bad(at: usize) -> Fault {
+        Fault::Digit { at }
+    }
 
     /// The headers that may stand under a form.
     fn under(form: u8) -> Vec<u8> {
@@ -255,12 +266,12 @@ mod tests {
     }
 
     /// What an order comes to whose only parameter has these octets.
-    fn alone(header: u8, own: &[u8]) -> Result<(), u8> {
+    fn alone(header: u8, own: &[u8]) -> Result<(), Fault> {
         check(&[&[form_for(header), header], own].concat())
     }
 
     /// The answers to each of the octets in one place of a parameter.
-    fn with_each(header: u8, own: &[u8], at: usize) -> Vec<Result<(), u8>> {
+    fn with_each(header: u8, own: &[u8], at: usize) -> Vec<Result<(), Fault>> {
         let answer = |octet| {
             let mut own = own.to_vec();
             own[at] = octet;
@@ -270,7 +281,7 @@ mod tests {
     }
 
     /// The octets of a place to which the answer is this one.
-    fn answered(answers: &[Result<(), u8>], answer: Result<(), u8>) -> Vec<u8> {
+    fn answered(answers: &[Result<(), Fault>], answer: Result<(), Fault>) -> Vec<u8> {
         (0..=255)
             .filter(|&o| answers[usize::from(o)] == answer)
             .collect()
@@ -279,9 +290,9 @@ mod tests {
     /// A form is one under which some header may stand.
     #[test]
     fn every_form_alone() {
-        assert_eq!(check(&[]), Err(12));
+        assert_eq!(check(&[]), Err(Fault::Form));
         for form in 0..=255 {
-            let listed = (!under(form).is_empty()).then_some(()).ok_or(19);
+            let listed = (!under(form).is_empty()).then_some(()).ok_or(Fault::Order);
             assert_eq!(check(&[form]), listed, "{form:02X}");
         }
     }
@@ -300,7 +311,11 @@ mod tests {
             assert_eq!(check(&order(&reversed)), Ok(()));
             for again in &parameters {
                 let repeated = [order(&parameters), again.clone()].concat();
-                assert_eq!(check(&repeated), Err(19), "{form:02X} {again:02X?}");
+                assert_eq!(
+                    check(&repeated),
+                    Err(Fault::Order),
+                    "{form:02X} {again:02X?}"
+                );
             }
             most = most.max(1 + parameters.len());
         }
@@ -329,9 +344,13 @@ mod tests {
         for (header, own) in sound {
             assert_eq!(alone(header, own), Ok(()), "{header:02X}");
             for len in 0..own.len() {
-                assert_eq!(alone(header, &own[..len]), Err(12), "{header:02X} {len}");
+                assert_eq!(
+                    alone(header, &own[..len]),
+                    Err(Fault::Form),
+                    "{header:02X} {len}"
+                );
             }
-            assert_eq!(alone(header, &[own, &[0x00]].concat()), Err(19));
+            assert_eq!(alone(header, &[own, &[0x00]].concat()), Err(Fault::Order));
         }
     }
 
@@ -344,13 +363,13 @@ mod tests {
             (0x80..=0xFF).collect::<Vec<u8>>()
         );
         assert_eq!(
-            answered(&marked, Err(12)),
+            answered(&marked, Err(Fault::Form)),
             (0x00..=0x7F).collect::<Vec<u8>>()
         );
         assert_eq!(with_each(0x42, &[1, 0], 1), [Ok(()); 256]);
         for len in (0..=255).filter(|&len| len != 1) {
             let own = [&[len], &vec![0x42; len.into()][..]].concat();
-            assert_eq!(alone(0x42, &own), Err(12), "{len}");
+            assert_eq!(alone(0x42, &own), Err(Fault::Form), "{len}");
         }
     }
 
@@ -362,12 +381,12 @@ mod tests {
             own[0] = count;
             if count % 2 == 1 {
                 let last = own.len() - 1;
-                assert_eq!(alone(0x91, &own), Err(13), "{count}");
+                assert_eq!(alone(0x91, &own), Err(bad(2 + last)), "{count}");
                 own[last] = 0x01;
             }
             assert_eq!(alone(0x91, &own), Ok(()), "{count}");
             own.pop();
-            assert_eq!(alone(0x91, &own), Err(12), "{count}");
+            assert_eq!(alone(0x91, &own), Err(Fault::Form), "{count}");
         }
         let two = with_each(0x91, &[2, 0], 1);
         let is_code = |code: u8| matches!(code, 1..=12);
@@ -376,35 +395,35 @@ mod tests {
             answered(&two, Ok(())),
             (0..=255).filter(sound).collect::<Vec<u8>>()
         );
-        assert_eq!(answered(&two, Err(13)).len(), 256 - 144);
+        assert_eq!(answered(&two, Err(bad(3))).len(), 256 - 144);
         let one = with_each(0x91, &[1, 0], 1);
         assert_eq!(answered(&one, Ok(())), (1..=12).collect::<Vec<u8>>());
-        assert_eq!(answered(&one, Err(13)).len(), 256 - 12);
+        assert_eq!(answered(&one, Err(bad(3))).len(), 256 - 12);
     }
 
     #[test]
     fn numbers() {
-        assert_eq!(alone(0x92, &[0]), Err(12));
-        assert_eq!(alone(0x92, &[1, 0x00]), Err(12));
+        assert_eq!(alone(0x92, &[0]), Err(Fault::Form));
+        assert_eq!(alone(0x92, &[1, 0x00]), Err(Fault::Form));
         assert_eq!(alone(0x92, &[2, 0x7F, 0xF0]), Ok(()));
-        assert_eq!(alone(0x92, &[2, 0x80, 0x00]), Err(12));
+        assert_eq!(alone(0x92, &[2, 0x80, 0x00]), Err(Fault::Form));
         assert_eq!(alone(0x92, &[3, 0x80, 0x00, 0x00]), Ok(()));
         let second = with_each(0x92, &[2, 0, 0], 2);
         assert_eq!(
             answered(&second, Ok(())),
             (0..16).map(|high| high << 4).collect::<Vec<u8>>()
         );
-        assert_eq!(answered(&second, Err(12)).len(), 240);
+        assert_eq!(answered(&second, Err(Fault::Form)).len(), 240);
         let even = with_each(0x92, &[4, 0x01, 0x10, 0x00, 0x99], 3);
         let sound = |octet: &u8| octet & 0x0F < 10 && octet >> 4 < 10;
         assert_eq!(
             answered(&even, Ok(())),
             (0..=255).filter(sound).collect::<Vec<u8>>()
         );
-        assert_eq!(answered(&even, Err(13)).len(), 156);
+        assert_eq!(answered(&even, Err(bad(5))).len(), 156);
         let odd = with_each(0x92, &[4, 0x81, 0x10, 0x99, 0x00], 4);
         assert_eq!(answered(&odd, Ok(())), (0..10).collect::<Vec<u8>>());
-        assert_eq!(answered(&odd, Err(13)).len(), 246);
+        assert_eq!(answered(&odd, Err(bad(6))).len(), 246);
     }
 
     #[test]
@@ -412,28 +431,28 @@ mod tests {
         for header in [0xC9, 0xCA, 0xCD] {
             for len in 0..=2 {
                 let own = [&[len], &vec![0x01; len.into()][..]].concat();
-                assert_eq!(alone(header, &own), Err(12), "{len}");
+                assert_eq!(alone(header, &own), Err(Fault::Form), "{len}");
             }
             assert_eq!(with_each(header, &[3, 0, 0, b'0'], 1), [Ok(()); 256]);
             let repeat = with_each(header, &[3, 0, 0, b'0'], 2);
             assert_eq!(answered(&repeat, Ok(())), [0, 1, 2, 3]);
-            assert_eq!(answered(&repeat, Err(12)).len(), 252);
+            assert_eq!(answered(&repeat, Err(Fault::Form)).len(), 252);
             for at in [3, 4, 5] {
                 let character = with_each(header, &[5, 0, 0, b'0', b'0', b'0'], at);
                 assert_eq!(answered(&character, Ok(())), b"\x030123456789;");
-                assert_eq!(answered(&character, Err(13)).len(), 256 - 12);
+                assert_eq!(answered(&character, Err(bad(2 + at))).len(), 256 - 12);
             }
         }
     }
 
     #[test]
     fn keys() {
-        assert_eq!(alone(0xCC, &[0]), Err(12));
-        assert_eq!(alone(0xCC, &[1, 0x00]), Err(12));
+        assert_eq!(alone(0xCC, &[0]), Err(Fault::Form));
+        assert_eq!(alone(0xCC, &[1, 0x00]), Err(Fault::Form));
         assert_eq!(with_each(0xCC, &[2, 0, 0], 1), [Ok(()); 256]);
         let repeat = with_each(0xCC, &[3, 0, 0, 0], 2);
         assert_eq!(answered(&repeat, Ok(())), [0, 1, 2, 3]);
-        assert_eq!(answered(&repeat, Err(12)).len(), 252);
+        assert_eq!(answered(&repeat, Err(Fault::Form)).len(), 252);
         assert_eq!(with_each(0xCC, &[3, 0, 0, 0], 3), [Ok(()); 256]);
     }
 
@@ -452,7 +471,7 @@ mod tests {
         for at in 0..3 {
             let digit = with_each(0xD2, b"000", at);
             assert_eq!(answered(&digit, Ok(())), b"0123456789");
-            assert_eq!(answered(&digit, Err(13)).len(), 246);
+            assert_eq!(answered(&digit, Err(bad(2 + at))).len(), 246);
         }
     }
 
@@ -460,17 +479,18 @@ mod tests {
     /// parameter 19, 12, 13.
     #[test]
     fn the_first_fault_counts() {
-        assert_eq!(check(b"\x43\x41"), Err(19));
-        assert_eq!(check(b"\x31\xD2///\x00"), Err(13));
-        assert_eq!(check(b"\x31\xD2//"), Err(12));
-        assert_eq!(check(b"\x31\xD2//\x00\x00"), Err(13));
-        assert_eq!(check(b"\x31\x00\xD2///"), Err(19));
-        assert_eq!(check(b"\x31\xC9\x03\x00\x04/\x00"), Err(12));
-        assert_eq!(check(b"\x31\xC9\x03\x00\x03/\x00"), Err(13));
-        assert_eq!(check(b"\x31\x41\x01\x41"), Err(19));
-        assert_eq!(check(b"\x31\x42"), Err(19));
-        assert_eq!(check(b"\x31\x91\x01\x00"), Err(19));
-        assert_eq!(check(b"\x2E\x92\x03\x00\x01\xAA"), Err(12));
-        assert_eq!(check(b"\x2E\x92\x03\x00\x00\xAA\x92"), Err(13));
+        assert_eq!(check(b"\x43\x41"), Err(Fault::Order));
+        assert_eq!(check(b"\x31\xD2///\x00"), Err(bad(2)));
+        assert_eq!(check(b"\x31\xD2//"), Err(Fault::Form));
+        assert_eq!(check(b"\x31\xD20/\x00\x00"), Err(bad(3)));
+        assert_eq!(check(b"\x31\x00\xD2///"), Err(Fault::Order));
+        assert_eq!(check(b"\x31\xC9\x03\x00\x04/\x00"), Err(Fault::Form));
+        assert_eq!(check(b"\x31\xC9\x03\x00\x03/\x00"), Err(bad(5)));
+        assert_eq!(check(b"\x31\x41\x01\x41"), Err(Fault::Order));
+        assert_eq!(check(b"\x31\x42"), Err(Fault::Order));
+        assert_eq!(check(b"\x31\x91\x01\x00"), Err(Fault::Order));
+        assert_eq!(check(b"\x2E\x92\x03\x00\x01\xAA"), Err(Fault::Form));
+        assert_eq!(check(b"\x2E\x92\x03\x00\x00\xAA\x92"), Err(bad(5)));
+        assert_eq!(check(b"\x31\xD2000\xC9\x04\x00\x000/\x00"), Err(bad(10)));
     }
 }

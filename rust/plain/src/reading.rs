@@ -2,6 +2,7 @@
 
 use crate::common::{self, Seen, END_MARK, MESSAGE_LIMIT, TRANSFER_DATA};
 use crate::digits::DIALLED;
+use crate::fault::Fault;
 use crate::number;
 use crate::record::{Common, Record, Transfer};
 use crate::refusal::Refusal;
@@ -109,8 +110,7 @@ fn walk_transfer_data<V: Visitor>(data: Parameter<'_>, visitor: &mut V) -> Resul
     let mut rest = data.contents;
     let mut offset = data.start;
     while let Some(&header) = rest.first() {
-        let contents =
-            check_transfer(rest, &mut names).map_err(|number| Refusal::new(number, offset))?;
+        let contents = check_transfer(rest, offset, &mut names)?;
         let end = contents.end;
         visitor.transfer(Parameter {
             offset,
@@ -124,15 +124,27 @@ fn walk_transfer_data<V: Visitor>(data: Parameter<'_>, visitor: &mut V) -> Resul
     Ok(())
 }
 
-/// Tries 8 to 13, 18 and 19 on the transfer parameter that begins `octets`;
-/// gives where its contents stand.
-fn check_transfer(octets: &[u8], names: &mut Names) -> Result<Range<usize>, u8> {
+/// Tries 8 to 13, 18 and 19 on the transfer parameter that begins `octets`, whose
+/// header stands at `offset` in the message; gives where in `octets` its contents
+/// stand. The place of 13 is the bad octet's, that of all others the header's.
+fn check_transfer(
+    octets: &[u8],
+    offset: usize,
+    names: &mut Names,
+) -> Result<Range<usize>, Refusal> {
+    let at_header = |number| Refusal::new(number, offset);
     let header = octets[0];
-    let layout = transfer::check_header(header)?;
-    names.enter(header)?;
-    let contents = transfer::contents_of(octets).ok_or(Refusal::CONTENTS_CUT)?;
-    transfer::check_contents(layout, &octets[contents.clone()])?;
-    Ok(contents)
+    let layout = transfer::check_header(header).map_err(at_header)?;
+    names.enter(header).map_err(at_header)?;
+    let contents = transfer::contents_of(octets).ok_or(at_header(Refusal::CONTENTS_CUT))?;
+    match transfer::check_contents(layout, &octets[contents.clone()]) {
+        Ok(()) => Ok(contents),
+        Err(Fault::Digit { at }) => {
+            let place = offset + contents.start + at;
+            Err(Refusal::new(Refusal::SPARE_DIGIT, place))
+        }
+        Err(fault) => Err(at_header(fault.into())),
+    }
 }
 
 /// A visitor that wants to know nothing.

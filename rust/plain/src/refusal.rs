@@ -37,6 +37,8 @@ impl Refusal {
     /// 12: a zero bit is set, the form is bad, or a field too large for its bits.
     pub const BAD_FORM: u8 = 12;
     /// 13: a digit is spare, a character may not be there, or the filler is not 0.
+    /// In reading the place is that of the octet which holds the first such half or
+    /// character, in writing that of the header.
     pub const SPARE_DIGIT: u8 = 13;
     /// 14: the transfer data is over 255 octets.
     pub const DATA_OVER: u8 = 14;

@@ -2,6 +2,7 @@
 
 use crate::charging;
 use crate::digits::{octets_for, DIALLED};
+use crate::fault::{formed, Fault};
 use crate::number;
 use crate::order;
 use crate::refusal::Refusal;
@@ -210,7 +211,7 @@ pub(crate) fn check_header(header: u8) -> Result<Layout, u8> {
 }
 
 /// Tries 12, 13, 18 and 19 on contents whose length is as the PLI rule gives it.
-pub(crate) fn check_contents(layout: Layout, contents: &[u8]) -> Result<(), u8> {
+pub(crate) fn check_contents(layout: Layout, contents: &[u8]) -> Result<(), Fault> {
     match layout {
         Layout::Unused | Layout::Open | Layout::Carried => Ok(()),
         Layout::Octet { zero } => formed(contents[0] & zero == 0),
@@ -218,16 +219,13 @@ pub(crate) fn check_contents(layout: Layout, contents: &[u8]) -> Result<(), u8> 
             let (count, digits) = (contents[0], &contents[1..]);
             formed(count & zero == 0)?;
             let odd = count & 1 == 1;
-            DIALLED
-                .accepts(digits, odd)
-                .then_some(())
-                .ok_or(Refusal::SPARE_DIGIT)
+            DIALLED.check(digits, odd).map_err(|fault| fault.behind(1))
         }
         Layout::UserNumber => number::check(contents),
         Layout::CallingNumber => number::check_calling(contents),
         Layout::GenericNumber => match contents {
-            [] => Err(Refusal::BAD_FORM),
-            [GENERIC_IS_NUMBER, rest @ ..] => number::check(rest),
+            [] => Err(Fault::Form),
+            [GENERIC_IS_NUMBER, rest @ ..] => number::check(rest).map_err(|fault| fault.behind(1)),
             _ => Ok(()),
         },
         Layout::Four => formed(contents.len() == 4),
@@ -235,11 +233,6 @@ pub(crate) fn check_contents(layout: Layout, contents: &[u8]) -> Result<(), u8> 
         Layout::Charging => charging::open(contents).map(|_| ()),
         Layout::Order => order::check(contents),
     }
-}
-
-/// 12 unless the contents are well formed.
-pub(crate) fn formed(well: bool) -> Result<(), u8> {
-    well.then_some(()).ok_or(Refusal::BAD_FORM)
 }
 
 /// The names met so far.

@@ -2,10 +2,11 @@
 
 use crate::common::{self, Seen, CALL_LIMIT, END_MARK, OWN_CALL, PARTNER_CALL, TRANSFER_DATA};
 use crate::digits::{all_digits, octets_for, DIALLED};
+use crate::fault::formed;
 use crate::number;
 use crate::record::{Common, Record, Transfer};
 use crate::refusal::Refusal;
-use crate::transfer::{self, formed, pli_of, Held, Names, DATA_LIMIT, DIGIT_LIMIT};
+use crate::transfer::{self, pli_of, Held, Names, DATA_LIMIT, DIGIT_LIMIT};
 
 /// Octets enough for what a record within its limits can come to before it is
 /// refused: 14 of the other common parameters, 2 of C5, 255 of contents, a
@@ -34,7 +35,7 @@ impl Draft {
 /// Writes `record` into the front of `room` and gives the message's length.
 /// Octets past the written ones stay, and all where it is refused.
 ///
-/// Refused are, in the reader's order and at the places where the octets would
+/// Refused are, in the reader's order and at the places where the headers would
 /// stand, 1, 2, 3, 5, 8 to 13, 18 and 19; after the last transfer parameter 14;
 /// at the end 6, then 15.
 pub fn write(record: &Record, room: &mut [u8]) -> Result<usize, Refusal> {

@@ -70,7 +70,7 @@ fn cases_8_to_13() {
     assert_eq!(after_k("C5 04 41 00 41 01 00"), refused(10, 8));
     assert_eq!(after_k("C5 01 41 00"), refused(11, 6));
     assert_eq!(after_k("C5 02 41 02 00"), refused(12, 6));
-    assert_eq!(after_k("C5 03 90 01 00 00"), refused(13, 6));
+    assert_eq!(after_k("C5 03 90 01 00 00"), refused(13, 8));
 }
 
 #[test]

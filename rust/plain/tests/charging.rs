@@ -8,7 +8,8 @@ use plain::transfer::CHARGING;
 use plain::{charging, Charging, Refusal};
 use support::{octets, M};
 
-/// An MBI alone, sound; and with each fault of its own, by number.
+/// An MBI alone, sound; and with each fault of its own, by number. Reading's place
+/// of 13 is that of the last octet.
 const SOUND: &str = "F7 04 00 05 12 31";
 const FAULTY: [(&str, u8); 4] = [
     ("F7 04 00 05 12", 11),
@@ -40,9 +41,9 @@ fn absent_or_refused_by_reading() {
 }
 
 #[test]
-fn read_with_the_place_of_the_header() {
+fn read_with_the_place_of_the_header_or_the_octet() {
     for (parameter, number) in FAULTY {
-        let refused = Refusal::new(number, 6);
+        let refused = Refusal::new(number, if number == 13 { 11 } else { 6 });
         assert_eq!(plain::verdict(&message(parameter)), Err(refused));
         assert_eq!(charging(&message(parameter)), Err(refused));
     }

@@ -10,6 +10,7 @@ use std::collections::BTreeMap;
 use support::{octets, vectors, M};
 
 /// Digits, a trunk and characters, sound; and with faults of its own, by number.
+/// Reading's place of 13 is that of the 0D.
 const SOUND: &str = "E0 0C 2B 91 03 21 0A 41 05 C9 03 11 02 03";
 const FAULTY: [(&str, u8); 8] = [
     ("E0 06 2B 91 03 21 0A", 11),
@@ -104,9 +105,9 @@ fn absent_or_refused_by_reading() {
 }
 
 #[test]
-fn read_with_the_place_of_the_header() {
+fn read_with_the_place_of_the_header_or_the_octet() {
     for (parameter, number) in FAULTY {
-        let refused = Refusal::new(number, 6);
+        let refused = Refusal::new(number, if number == 13 { 12 } else { 6 });
         assert_eq!(plain::verdict(&message(parameter)), Err(refused));
         assert_eq!(order(&message(parameter)), Err(refused));
     }

@@ -11,7 +11,7 @@ mod order;
 mod sequence;
 
 use conditions::CONDITIONS;
-use contents::contents_in;
+use contents::{contents_in, parameter_at};
 use plain::transfer::{CHARGING, ORDER};
 use std::collections::{BTreeMap, BTreeSet};
 use trial::record::{fields_in, fields_of, Common, Record, Transfer, WITH_FIELDS};
@@ -231,7 +231,7 @@ fn note_read(input: &Input, outcome: &Outcome, names: &mut Names) {
         return;
     };
     if is_of_transfer(outcome) {
-        let name = message[outcome.place()] & 0x3F;
+        let name = parameter_at(message, outcome.place())[0] & 0x3F;
         names.entry(outcome.number()).or_default().insert(name);
     }
 }

@@ -1,5 +1,6 @@
 //! Conditions on a call and its outcome, each of which is to occur.
 
+use crate::contents::{len_of, parameter_at};
 use plain::order::ORDER_ROW_LIMIT;
 use plain::transfer::{name_of, ORDER};
 use trial::outcome::ROW_LEN;
@@ -75,12 +76,6 @@ pub const CONDITIONS: &[Condition] = &[
     }),
     ("even count of a number's digits", |i, o| {
         holds(i, o, 0x17, |c| c[0] & 0x80 == 0 && c.len() > 2)
-    }),
-    ("filler of dialled digits", |i, o| {
-        refuses(i, o, 13, |p| is_odd(p, 0x98, 0x01) && mends(i, o, p, 0x0F))
-    }),
-    ("filler of a number", |i, o| {
-        refuses(i, o, 13, |p| is_odd(p, 0xD7, 0x80) && mends(i, o, p, 0x0F))
     }),
     ("DA with 06", |i, o| holds(i, o, 0x1A, |c| c[0] == 0x06)),
     ("DA without 06", |i, o| holds(i, o, 0x1A, |c| c[0] != 0x06)),
@@ -162,33 +157,10 @@ fn orders(input: &Input, outcome: &Outcome, wanted: impl Fn(&[u8]) -> bool) -> b
 /// header to its end are looked at; none where they are cut.
 fn refuses(input: &Input, outcome: &Outcome, number: u8, wanted: impl Fn(&[u8]) -> bool) -> bool {
     let whole = |m: &[u8]| {
-        let octets = &m[outcome.place()..];
-        let count = usize::from(*octets.get(1).unwrap_or(&0));
-        let len = match octets[0] >> 6 {
-            0b10 => (count & 0x3F).div_ceil(2),
-            _ => count,
-        };
-        octets.get(..2 + len).is_some_and(&wanted)
+        let octets = parameter_at(m, outcome.place());
+        octets.get(..len_of(octets)).is_some_and(&wanted)
     };
     reads(input, outcome, number, whole)
-}
-
-/// Whether the mark of an odd count is set in the first octet behind the header,
-/// or behind the length octet, of a parameter with this header.
-fn is_odd(parameter: &[u8], header: u8, mark: u8) -> bool {
-    let at = usize::from(header >> 6) - 1;
-    parameter[0] == header && parameter.get(at).is_some_and(|octet| octet & mark != 0)
-}
-
-/// Whether the message would be accepted if of the refused parameter's last
-/// octet these bits alone were set.
-fn mends(input: &Input, outcome: &Outcome, parameter: &[u8], bits: u8) -> bool {
-    let last = outcome.place() + parameter.len() - 1;
-    reads(input, outcome, outcome.number(), |message| {
-        let mut mended = message.to_vec();
-        mended[last] &= bits;
-        plain::verdict(&mended).is_ok()
-    })
 }
 
 /// How many bits are set that must be 0 in the first two octets of a DC that is

@@ -17,7 +17,7 @@ pub fn contents_in(header: u8, input: &Input, outcome: &Outcome) -> Option<Vec<u
     if let Some(message) = input.message() {
         return match accepted {
             true => found_in(header, message),
-            false => counted(header, &message[outcome.place()..]),
+            false => counted(header, parameter_at(message, outcome.place())),
         };
     }
     match input {
@@ -32,6 +32,31 @@ pub fn contents_in(header: u8, input: &Input, outcome: &Outcome) -> Option<Vec<u
             counted(header, new)
         }
         _ => None,
+    }
+}
+
+/// The octets from the header on of the transfer parameter of which one stands at
+/// `place`. All before it is sound.
+pub fn parameter_at(message: &[u8], place: usize) -> &[u8] {
+    let mut at = 0;
+    while message[at] != 0xC5 {
+        at += 2 + usize::from(message[at] >> 6);
+    }
+    at += 2;
+    while at + len_of(&message[at..]) <= place {
+        at += len_of(&message[at..]);
+    }
+    &message[at..]
+}
+
+/// How many octets the transfer parameter has that begins these, by its PLI.
+pub fn len_of(octets: &[u8]) -> usize {
+    let count = usize::from(*octets.get(1).unwrap_or(&0));
+    match octets[0] >> 6 {
+        0b00 => 1,
+        0b01 => 2,
+        0b10 => 2 + (count & 0x3F).div_ceil(2),
+        _ => 2 + count,
     }
 }
 
