@@ -129,20 +129,18 @@ pub(crate) fn bad_form(rng: &mut Rng) -> Vec<u8> {
     contents
 }
 
-/// Contents with a character that is no digit, or half an MBI that is no code.
+/// Contents with a character that is no digit, half an MBI that is no code, or more
+/// of them.
 pub(crate) fn bad_digit(rng: &mut Rng) -> Vec<u8> {
     let form = any_form(rng, |form| form.characters() > 0);
     let mut contents = form.contents(rng);
     let (first, last) = (form.len() - form.characters(), form.len() - 1);
-    if form.first == First::Mbi && rng.one_in(2) {
-        contents[FIRST] = bad_halves(rng);
-    } else {
-        let at = match rng.below(5) {
-            0 | 1 => first,
-            2 | 3 => last,
-            _ => rng.between(first, last),
-        };
-        contents[at] = no_digit(rng);
+    for _ in 0..rng.pick(&[1, 1, 1, 2]) {
+        if form.first == First::Mbi && rng.one_in(2) {
+            contents[FIRST] = bad_halves(rng);
+        } else {
+            contents[rng.towards(first, last)] = no_digit(rng);
+        }
     }
     contents
 }

@@ -22,15 +22,8 @@ const EDITS: [Kind; 3] = [Kind::Replace, Kind::Append, Kind::Remove];
 impl Case {
     /// The case of a call.
     pub fn of(input: &Input) -> Self {
-        let edits_sound = match input {
-            Input::Replace { buffer, n, .. }
-            | Input::Append { buffer, n, .. }
-            | Input::Remove { buffer, n, .. } => {
-                let message = buffer.get(..usize::from(*n));
-                message.is_some_and(|message| plain::verdict(message).is_ok())
-            }
-            _ => false,
-        };
+        let is_sound = |message| plain::verdict(message).is_ok();
+        let edits_sound = input.edited().is_some_and(is_sound);
         let kind = input.kind();
         Case { kind, edits_sound }
     }

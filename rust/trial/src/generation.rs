@@ -2,7 +2,7 @@
 
 use crate::input::{Input, Kind, KINDS};
 use crate::messages::{charged_message, message, ordered_message};
-use crate::messages::{sound_draft, sound_message, Size};
+use crate::messages::{message_with_bad_digits, sound_draft, sound_message, Size};
 use crate::outcome::{CHARGING_LEN, ROW_LEN};
 use crate::parameters::{charging_somehow, order_somehow, CHARGING_NAME, ORDER_NAME};
 use crate::parameters::{shuffled_names, sound, spoilt_somehow};
@@ -134,10 +134,11 @@ struct Edit {
 
 /// A message to edit: as a rule one that reading accepts.
 fn edited_message(rng: &mut Rng) -> Vec<u8> {
-    match rng.weighted(&[6, 1, 1, 4]) {
+    match rng.weighted(&[24, 4, 4, 3, 16]) {
         0 => sound_message(rng),
         1 => sound_draft(rng, Size::Near).octets(),
         2 => sound_draft(rng, Size::Full).octets(),
+        3 => message_with_bad_digits(rng),
         _ => message(rng),
     }
 }

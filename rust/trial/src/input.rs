@@ -161,6 +161,16 @@ impl Input {
         }
     }
 
+    /// The message that an edit is handed, if the buffer has so many octets.
+    pub fn edited(&self) -> Option<&[u8]> {
+        match self {
+            Input::Replace { buffer, n, .. }
+            | Input::Append { buffer, n, .. }
+            | Input::Remove { buffer, n, .. } => buffer.get(..usize::from(*n)),
+            _ => None,
+        }
+    }
+
     /// The memory that the call lends, as it is before the call.
     pub fn lent(&self) -> &[u8] {
         match self {

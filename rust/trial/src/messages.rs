@@ -232,6 +232,12 @@ pub fn ordered_message(rng: &mut Rng) -> Vec<u8> {
     message_with(rng, parameters::order_somehow)
 }
 
+/// A message that is sound but for bad digits or characters in a parameter of its
+/// transfer data, if it has some.
+pub fn message_with_bad_digits(rng: &mut Rng) -> Vec<u8> {
+    message_with(rng, parameters::spoilt_digits)
+}
+
 /// A message with one parameter made so, if it has transfer data; all else is
 /// sound.
 fn message_with(rng: &mut Rng, made: fn(&mut Rng) -> Vec<u8>) -> Vec<u8> {

@@ -1,6 +1,7 @@
 //! Contents of the connection order: sound ones of every form, and spoilt ones.
 
-use crate::parameters::{codes, count, packed, DIALLED_CODES, DIALLED_SPARE};
+use crate::parameters::{codes, count, packed, spoil, with_filler};
+use crate::parameters::{DIALLED_CODES, DIALLED_SPARE};
 use crate::rng::Rng;
 
 /// The forms, each with the headers that may stand under it.
@@ -258,7 +259,7 @@ fn badly_formed(rng: &mut Rng, header: u8) -> Vec<u8> {
     }
 }
 
-/// Contents with a digit, a filler or a character that is wrong.
+/// Contents with a digit, a filler or a character that is wrong, or with two.
 pub(crate) fn bad_digit(rng: &mut Rng) -> Vec<u8> {
     let parameter = match rng.pick(&WITH_DIGITS) {
         0x91 => {
@@ -275,42 +276,21 @@ pub(crate) fn bad_digit(rng: &mut Rng) -> Vec<u8> {
         }
         0xD2 => {
             let mut parameter = parameter(rng, 0xD2, 0);
-            let at = rng.between(1, 3);
-            parameter[at] = no_digit(rng);
+            for _ in 0..rng.pick(&[1, 1, 2]) {
+                parameter[rng.between(1, 3)] = no_digit(rng);
+            }
             parameter
         }
         header => {
             let mut parameter = parameter(rng, header, 4);
             let (first, last) = (shortest(header) - 1, parameter.len() - 1);
-            let at = match rng.below(5) {
-                0 | 1 => first,
-                2 | 3 => last,
-                _ => rng.between(first, last),
-            };
-            parameter[at] = no_character(rng);
+            for _ in 0..rng.pick(&[1, 1, 2]) {
+                parameter[rng.towards(first, last)] = no_character(rng);
+            }
             parameter
         }
     };
     among_others(rng, &parameter, false)
-}
-
-/// Puts a spare code among the codes, and gives 0; or, where their count is odd,
-/// as often gives a filler that is not 0.
-fn spoil(rng: &mut Rng, codes: &mut [u8], spare: &[u8]) -> u8 {
-    if codes.len() % 2 == 1 && rng.one_in(2) {
-        return rng.pick(&[1, 1, 9, 10, 15]);
-    }
-    let at = rng.below(codes.len());
-    codes[at] = rng.pick(spare);
-    0
-}
-
-/// The octets with this filler in the last high half, which is 0.
-fn with_filler(mut octets: Vec<u8>, filler: u8) -> Vec<u8> {
-    if let Some(last) = octets.last_mut() {
-        *last |= filler << 4;
-    }
-    octets
 }
 
 /// An octet that is no digit.

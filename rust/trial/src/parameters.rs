@@ -21,7 +21,7 @@ pub enum Fault {
     WrongLength,
     /// A zero bit is set, or the form is bad.
     BadForm,
-    /// A digit is spare, or the filler is not 0.
+    /// A digit is spare, or the filler is not 0, or more than one of them.
     SpareDigit,
     /// A digit is spare, and something else is wrong, too.
     Twofold,
@@ -229,11 +229,7 @@ pub fn spoilt(rng: &mut Rng, fault: Fault) -> Vec<u8> {
         Fault::WrongPli => wrong_pli(rng),
         Fault::WrongLength => wrong_length(rng),
         Fault::BadForm => bad_form(rng),
-        Fault::SpareDigit => match rng.below(6) {
-            0 => charged(charging::bad_digit(rng)),
-            1 => ordered(order::bad_digit(rng)),
-            _ => spare_digit(rng),
-        },
+        Fault::SpareDigit => spoilt_digits(rng),
         Fault::Twofold => match rng.below(6) {
             0 => charged(charging::twofold(rng)),
             1 => ordered(order::twofold(rng)),
@@ -248,6 +244,15 @@ pub fn spoilt(rng: &mut Rng, fault: Fault) -> Vec<u8> {
 pub fn spoilt_somehow(rng: &mut Rng) -> Vec<u8> {
     let fault = rng.pick(&FAULTS);
     spoilt(rng, fault)
+}
+
+/// A parameter with bad digits or characters, one of them or more.
+pub fn spoilt_digits(rng: &mut Rng) -> Vec<u8> {
+    match rng.weighted(&[4, 1, 2]) {
+        0 => spare_digit(rng),
+        1 => charged(charging::bad_digit(rng)),
+        _ => ordered(order::bad_digit(rng)),
+    }
 }
 
 /// The charging information, sound or spoilt.
@@ -403,12 +408,8 @@ fn spare_digit(rng: &mut Rng) -> Vec<u8> {
         _ => 1 + count(rng, 20),
     };
     let mut codes = codes(rng, &listed, len);
-    let filler = len % 2 == 1 && rng.one_in(2);
-    if !filler {
-        let at = rng.below(len);
-        codes[at] = rng.pick(&spare);
-    }
-    let mut octets = if is_dialled {
+    let filler = spoil(rng, &mut codes, &spare);
+    let octets = if is_dialled {
         dialled(name, &codes)
     } else {
         let second = rng.octet() & !0x0C;
@@ -418,10 +419,36 @@ fn spare_digit(rng: &mut Rng) -> Vec<u8> {
         }
         counted(name, &contents)
     };
-    if filler {
-        if let Some(last) = octets.last_mut() {
-            *last |= (rng.between(1, 15) as u8) << 4;
+    with_filler(octets, filler)
+}
+
+/// Spoils digits: puts a spare code among the codes, or two into one octet or
+/// anywhere, and gives the filler, which is 0 unless, where the count is odd, it is
+/// spoilt as well or alone.
+pub(crate) fn spoil(rng: &mut Rng, codes: &mut [u8], spare: &[u8]) -> u8 {
+    let filler = match codes.len() % 2 == 1 && rng.one_in(2) {
+        true => rng.pick(&[1, 1, 2, 4, 8, 9, 10, 15]),
+        false => 0,
+    };
+    if filler == 0 || rng.one_in(3) {
+        let at = rng.below(codes.len());
+        codes[at] = rng.pick(spare);
+        let second = match rng.below(6) {
+            0 => at ^ 1,
+            1 => rng.below(codes.len()),
+            _ => at,
+        };
+        if let Some(code) = codes.get_mut(second) {
+            *code = rng.pick(spare);
         }
+    }
+    filler
+}
+
+/// The octets with this filler in the last high half, which is 0.
+pub(crate) fn with_filler(mut octets: Vec<u8>, filler: u8) -> Vec<u8> {
+    if let Some(last) = octets.last_mut() {
+        *last |= filler << 4;
     }
     octets
 }

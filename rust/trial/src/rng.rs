@@ -37,6 +37,15 @@ impl Rng {
         low + self.below(high - low + 1)
     }
 
+    /// The same, as a rule one of the two.
+    pub fn towards(&mut self, low: usize, high: usize) -> usize {
+        match self.below(5) {
+            0 | 1 => low,
+            2 | 3 => high,
+            _ => self.between(low, high),
+        }
+    }
+
     /// True once in `n` times.
     pub fn one_in(&mut self, n: usize) -> bool {
         self.below(n) == 0

@@ -2,11 +2,14 @@
 //! every name meets every refusal that its layout can give; every field is met
 //! at its limit and one above, and so are the number and the mark of the
 //! sequence, every rate kind of the charging information and every form and
-//! header of the connection order; and every condition of a list occurs.
+//! header of the connection order; whatever holds digits or characters holds bad
+//! ones in every way; and every condition of a list occurs.
 
 mod charging;
 mod conditions;
 mod contents;
+mod digits;
+mod halves;
 mod order;
 mod sequence;
 
@@ -156,6 +159,22 @@ fn every_form_and_header_occurs_at_its_limits() {
     }
     for (call, seen) in [("read", read), ("written", written), ("edited", edited)] {
         let missing: Vec<_> = order::all().difference(&seen).copied().collect();
+        assert_eq!(missing, [], "{call}");
+    }
+}
+
+#[test]
+fn every_bad_half_and_character_occurs() {
+    let [mut read, mut edited] = [(); 2].map(|()| digits::Sights::new());
+    for (input, outcome) in calls() {
+        let seen = match input.kind() {
+            Kind::Replace | Kind::Append | Kind::Remove => &mut edited,
+            _ => &mut read,
+        };
+        seen.extend(digits::sights(&input, &outcome));
+    }
+    for (call, seen) in [("read", read), ("edited", edited)] {
+        let missing: Vec<_> = digits::all().difference(&seen).copied().collect();
         assert_eq!(missing, [], "{call}");
     }
 }

@@ -49,11 +49,8 @@ pub fn all_written() -> Sights {
 pub fn sights(input: &Input, outcome: &Outcome) -> Sights {
     let seen_in = |message| in_message(message, outcome);
     let seen = match input {
-        Input::Replace { buffer, n, .. }
-        | Input::Append { buffer, n, .. }
-        | Input::Remove { buffer, n, .. } => buffer.get(..usize::from(*n)).map(seen_in),
         Input::Write { image, .. } => in_record(image, outcome),
-        _ => input.message().map(seen_in),
+        _ => input.message().or(input.edited()).map(seen_in),
     };
     seen.into_iter().flatten().collect()
 }
