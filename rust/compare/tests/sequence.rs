@@ -3,7 +3,7 @@
 
 mod calls;
 
-use calls::{buffer, lent, readings, same, same_in_all};
+use calls::{all_readers, lent, readings, same, same_in_all};
 use trial::record::{Common, Record};
 use trial::Input;
 
@@ -17,65 +17,9 @@ fn message(octet: u8) -> Vec<u8> {
     [&[0x01, 0x01, 0x04, octet, 0x06, 0x11], &DATA[..]].concat()
 }
 
-/// The calls that find the sequence and 41.
-fn finds(message: &[u8]) -> [Input; 2] {
-    let message = message.to_vec();
-    [
-        Input::FindCommon {
-            message: message.clone(),
-            header: 0x04,
-        },
-        Input::FindTransfer {
-            message,
-            name: 0x01,
-        },
-    ]
-}
-
-/// The calls that open F7 and E0.
-fn openings(message: &[u8]) -> [Input; 2] {
-    let message = message.to_vec();
-    [
-        Input::Charging {
-            message: message.clone(),
-            out: lent(),
-        },
-        Input::Order {
-            message,
-            table: lent(),
-        },
-    ]
-}
-
-/// The edits of a message that has 41, and not 43.
-fn edits(message: &[u8]) -> [Input; 3] {
-    let (buffer, n) = buffer(message);
-    [
-        Input::Replace {
-            buffer: buffer.clone(),
-            n,
-            new: vec![0x41, 0x01],
-        },
-        Input::Append {
-            buffer: buffer.clone(),
-            n,
-            new: vec![0x43, 0x01],
-        },
-        Input::Remove {
-            buffer,
-            n,
-            name: 0x01,
-        },
-    ]
-}
-
 /// The number of the answer to every one of the calls on the message.
 fn number(message: &[u8]) -> u8 {
-    let mut calls = readings(message).to_vec();
-    calls.extend(finds(message));
-    calls.extend(openings(message));
-    calls.extend(edits(message));
-    same_in_all(&calls)
+    same_in_all(&all_readers(message))
 }
 
 #[test]

@@ -1,7 +1,9 @@
 //! What the tests of single parameters share: calls, and both codecs' answers.
 
+#![allow(dead_code)]
+
 use compare::proved;
-use trial::{answer, Input};
+use trial::{answer, Input, Outcome};
 
 /// Lent memory, long enough for all that is put into it.
 pub fn lent() -> Vec<u8> {
@@ -27,11 +29,77 @@ pub fn buffer(message: &[u8]) -> (Vec<u8>, u16) {
     ([message, &[0xEE; 260]].concat(), message.len() as u16)
 }
 
-/// The number of both codecs' answer.
-pub fn same(input: &Input) -> u8 {
+/// The calls that find 04 and 41.
+fn finds(message: &[u8]) -> [Input; 2] {
+    let message = message.to_vec();
+    [
+        Input::FindCommon {
+            message: message.clone(),
+            header: 0x04,
+        },
+        Input::FindTransfer {
+            message,
+            name: 0x01,
+        },
+    ]
+}
+
+/// The calls that open F7 and E0.
+fn openings(message: &[u8]) -> [Input; 2] {
+    let message = message.to_vec();
+    [
+        Input::Charging {
+            message: message.clone(),
+            out: lent(),
+        },
+        Input::Order {
+            message,
+            table: lent(),
+        },
+    ]
+}
+
+/// The edits of a message that has 41, and not 43.
+fn edits(message: &[u8]) -> [Input; 3] {
+    let (buffer, n) = buffer(message);
+    [
+        Input::Replace {
+            buffer: buffer.clone(),
+            n,
+            new: vec![0x41, 0x01],
+        },
+        Input::Append {
+            buffer: buffer.clone(),
+            n,
+            new: vec![0x43, 0x01],
+        },
+        Input::Remove {
+            buffer,
+            n,
+            name: 0x01,
+        },
+    ]
+}
+
+/// Every call that reads the message; what they ask for is 04, 41, F7 and E0.
+pub fn all_readers(message: &[u8]) -> Vec<Input> {
+    let mut calls = readings(message).to_vec();
+    calls.extend(finds(message));
+    calls.extend(openings(message));
+    calls.extend(edits(message));
+    calls
+}
+
+/// What comes of the call with both codecs.
+pub fn outcome(input: &Input) -> Outcome {
     let outcome = answer(input);
     assert_eq!(proved(input), outcome, "{input:02X?}");
-    outcome.number()
+    outcome
+}
+
+/// The number of both codecs' answer.
+pub fn same(input: &Input) -> u8 {
+    outcome(input).number()
 }
 
 /// The number of both codecs' answer to every one of the calls.

@@ -14,8 +14,9 @@ pub fn parameter(header: u8, contents: &[u8]) -> Vec<u8> {
     [&[header, contents.len() as u8], contents].concat()
 }
 
-/// The image of a record that holds it.
-fn image(header: u8, contents: &[u8]) -> Vec<u8> {
+/// The image of a record that holds a parameter with these values, which are its
+/// contents or digits.
+pub fn image(header: u8, values: &[u8]) -> Vec<u8> {
     let common = |header, value, transfers| Common {
         header,
         value,
@@ -24,7 +25,7 @@ fn image(header: u8, contents: &[u8]) -> Vec<u8> {
     };
     let opened = Transfer {
         header,
-        values: contents.to_vec(),
+        values: values.to_vec(),
         ..Transfer::default()
     };
     let common = vec![
