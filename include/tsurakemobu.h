@@ -114,9 +114,10 @@ static inline size_t tk_value_of(uint64_t answer) { return (size_t)(answer & 0xF
 
 /*
  * A message is read from left to right. "Reading's" refusals are 1 at 0; for each common parameter 2, 3, 4, 5 at its header, and for
- * each transfer parameter of C5 8 to 13, 18 and 19 at its own; 4 at the message's length if there is no end mark; 6 at the end mark;
- * 7 at the octet behind it. The first that applies is the answer, here and below. In a connection order, E0, that is the first fault
- * from left to right: of the form, then of each parameter 19, 12 or 13.
+ * each transfer parameter of C5 8 to 12, 18 and 19 at its own, and 13 at the octet that holds the first bad digit or character, the low
+ * half of an octet coming before the high one and a half left over last; 4 at the message's length if there is no end mark; 6 at the
+ * end mark; 7 at the octet behind it. The first that applies is the answer, here and below. In a connection order, E0, that is the
+ * first fault from left to right: of the form, then of each parameter 19, 12 or 13.
  */
 
 /* The record of a message. Value: the length of its image, at the front of `image`; the octets behind it stay.

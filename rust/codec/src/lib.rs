@@ -90,9 +90,20 @@ pub enum Class {
 
 /// The record of a message.
 ///
+/// ```
+/// use codec::Refusal;
+///
+/// // Dialled digits 1, 2, 1, and then the code D, which is none.
+/// let message = [0x01, 0x01, 0x06, 0x11, 0xC5, 0x04, 0x98, 0x04, 0x21, 0xD1, 0x00];
+/// let refusal = codec::read(&message).unwrap_err();
+/// assert_eq!(refusal, Refusal::new(Refusal::BAD_DIGIT, 9));
+/// assert_eq!(message[refusal.place], 0xD1);
+/// ```
+///
 /// # Errors
 ///
-/// Numbers 1 to 13, 18 and 19, tried from left to right.
+/// Numbers 1 to 13, 18 and 19, tried from left to right; 13 at the octet with
+/// the bad digit, the others of a transfer parameter at its header.
 pub fn read(message: &[u8]) -> Result<Record, Refusal> {
     let mut memory = Room::new();
     let image = boundary::read_into(message, &mut memory)?;
@@ -105,7 +116,7 @@ pub fn read(message: &[u8]) -> Result<Record, Refusal> {
 /// # Errors
 ///
 /// Number 1, then 2, 3, 5, 8 to 14, 18 and 19 in the reader's order, at the
-/// places where octets would stand, 6 at the end, and 15 if the room is too
+/// places where the headers would stand, 6 at the end, and 15 if the room is too
 /// short.
 pub fn write(record: &Record, room: &mut [u8]) -> Result<usize, Refusal> {
     let mut memory = Room::new();

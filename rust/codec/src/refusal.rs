@@ -8,8 +8,10 @@ use std::fmt;
 pub struct Refusal {
     /// One of the numbers 1 to 19, the constants below.
     pub number: u8,
-    /// The offset in the message at which the fault stands; 0 where the
-    /// number has no place.
+    /// The offset in the message at which the fault stands: in a transfer
+    /// parameter that of its header, but for a bad digit that is read
+    /// ([`BAD_DIGIT`](Self::BAD_DIGIT)) that of the octet; 0 where the number
+    /// has no place.
     pub place: usize,
 }
 
@@ -43,6 +45,11 @@ impl Refusal {
     pub const BAD_FORM: u8 = 12;
     /// 13: a digit without a meaning, a character that may not be there, or a
     /// filler that is not 0.
+    ///
+    /// Where a message is read, also one that is to be edited, the place is that
+    /// of the octet which holds the first of them: the low half of an octet
+    /// comes before the high one, the filler behind all digits. In writing it is
+    /// where the header would stand, and 0 for the new parameter of an edit.
     pub const BAD_DIGIT: u8 = 13;
     /// 14: transfer data longer than 255 octets.
     pub const TRANSFER_OVER: u8 = 14;
