@@ -21,6 +21,7 @@ pub mod Numbers
 pub mod Drawings
 pub mod Orders
 pub mod Leaves
+pub mod Firsts
 pub mod Offsets
 pub mod Laid
 -- of the walk over a message, and what is made of it:

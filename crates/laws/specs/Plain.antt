@@ -11,7 +11,7 @@ use borrow.Author.Tests.{leb-true, le-leb, lt-leb}
 use lib.Dec.{leb, eqb, ltb}
 use lib.ListN.{length, getD, take, drop, length-drop, drop-of-length-le}
 use lib.Seq.{getD-drop, drop-cons, drop-drop, length-take-le}
-use Rattle.annex.specs.Units.{afterOf, extentOf, commonExtentOf, contentsIn}
+use Rattle.annex.specs.Units.{afterOf, commonExtentOf, contentsIn}
 use Rattle.annex.specs.Answers.{over-limits}
 use Rattle.annex.specs.Contents.{Rule, faultOf}
 use Rattle.annex.specs.Heads.{end-mark, transfer-data, most-octets}
