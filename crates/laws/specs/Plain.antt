@@ -195,7 +195,7 @@ each-listed step P f (x ∷ xs) seen zero p = go (step seen x xs) refl (λ k. ea
     go (Refused k r) e ih = tt
 
 module _ (rule : Rule) where
-  transfer-sized : (seen : Seen) (h : ℕ) (xs : List ℕ) (n : ℕ) → transferStepBy rule seen h xs ≡ Accepted n
+  pub transfer-sized : (seen : Seen) (h : ℕ) (xs : List ℕ) (n : ℕ) → transferStepBy rule seen h xs ≡ Accepted n
       → (n ≡ transferSize h xs) × (n ≤ length xs)
   transfer-sized seen h xs n e = let t = transfer-taken rule _ h xs n e in (t .size, t .within)
 
@@ -204,7 +204,7 @@ module _ (rule : Rule) where
   transfers-plain t q e = listing-pars (transferStepBy rule) (λ seen p. Accepted p) transferSize transfer-sized t unseen 0 0 q e
 
   -- the end mark has no octets after it, C5 as many as its length octet says
-  common-sized : (seen : Seen) (h : ℕ) (xs : List ℕ) (n : ℕ) → commonStepBy rule seen h xs ≡ Accepted n
+  pub common-sized : (seen : Seen) (h : ℕ) (xs : List ℕ) (n : ℕ) → commonStepBy rule seen h xs ≡ Accepted n
       → (n ≡ commonSize h xs) × (n ≤ length xs)
   unfolding endOf commonExtentOf afterOf
   common-sized seen h xs n e =

@@ -29,3 +29,4 @@ pub mod Finds
 pub mod InPlace
 pub mod Charged
 pub mod Ordered
+pub mod Shown
