@@ -3,50 +3,33 @@
 use Prim.Native.Nat.{ℕ, _+_, _-_, _/_, _%_, _≤_, _<_}
 use native.Mathlib.Omega.{arith}
 use mathlib.Core.Path.{_≡_, refl}
-use mathlib.Core.Bool.{Bool, true, false, cond, not}
+use mathlib.Core.Bool.{Bool, true, false, cond}
 use mathlib.Core.List.{List, [], _∷_}
-use lib.Dec.{eqb, leb, ltb}
-use lib.ListN.{length, getD, take, drop, length-take, length-drop}
+use lib.Dec.{eqb, ltb}
+use lib.ListN.{length, take, drop, length-take, length-drop}
 use Rattle.annex.specs.Answers.{
-  repeated-name,
   bad-form,
-  transfer-over,
   no-room,
-  absent,
   startOf,
   numberOf,
   placeOf,
   givenOf,
   refuse,
-  headerAt,
   andThen,
   classValueOf,
   classPlaceOf,
   classGivenOf,
 }
-use Rattle.annex.specs.Units.{nameOf, afterOf, extentOf, contentsIn}
-use Rattle.annex.specs.Heads.{
-  clear,
-  among,
-  transfer-data,
-  charging-information,
-  connection-order,
-  most-octets,
-  most-transfer-octets,
-  oftenOf,
-  zeroesOf,
-}
+use Rattle.annex.specs.Units.{nameOf}
+use Rattle.annex.specs.Heads.{clear, charging-information, connection-order, most-octets, zeroesOf}
 use Rattle.annex.specs.Contents.{faultOf}
-use Rattle.annex.specs.Items.{Item, Part}
-use Rattle.annex.specs.Layout.{layoutItems, layout}
-use Rattle.annex.specs.Allowed.{every, isOctet, headersOf, itemsIn, namesOf, timesIn}
+use Rattle.annex.specs.Allowed.{every, isOctet}
 use Rattle.annex.specs.Reading.{verdictOf, recordOf}
 use Rattle.annex.specs.Opened.{orderFound, orderRowsOf, orderAnswer}
 use Rattle.annex.specs.Packed.{oneNumber, packedAnswer, row-octets, octetSpans, octetOrder}
 use Rattle.annex.specs.Finding.{foundAnswer, foundPart, findAnswer, findPart, foundBy}
 use Rattle.annex.specs.Spans.{rowsOf, spansBy}
-use Rattle.annex.specs.Editing.{Edit, newHeader, newAfter, newHead, newContents, editRefusal, edited, recordEditing, editingOf}
-use Rattle.annex.specs.Editing.Edit.{Replacing, Appending, Removing}
+use Rattle.annex.specs.Editing.{Edit, editingOf}
 use Rattle.annex.specs.Charging.{
   chargingFound,
   chargingBy,
@@ -71,7 +54,8 @@ use Rattle.annex.specs.declared.ClassAnswer.{ClassAnswer}
 use Rattle.annex.specs.declared.ClassAnswer.the-variants as classes
 use Rattle.laws.specs.Few.{rows-few, order-few}
 use Rattle.laws.specs.Offsets.{fault-within}
-use Rattle.laws.specs.Steps.{PlaceTo, accepted-place, refuse-place, then-place, head-place, sound-place, place-told, verdict-place}
+use Rattle.laws.specs.Steps.{PlaceTo, refuse-place, then-place, place-told, place-up, verdict-place}
+use Rattle.laws.specs.Places.{record-place}
 use Rattle.annex.specs.Walking.{plainBy}
 use Rattle.laws.specs.Finding.{Inside, plain-inside, plain-found}
 use Rattle.theorems.specs.Messages.{message-read}
@@ -187,42 +171,12 @@ order-upto m room =
 
 -- ---- editing
 
--- a new parameter, with a test b of its name
-new-place : (new : List ℕ) (b : Bool) (k : ℕ) → PlaceTo farthest (newHead new (refuse b k 0 (newContents new)))
-new-place new b k =
-    let h = newHeader new in
-    let xs = newAfter new in
-    refuse-place farthest (eqb (length new) 0) _ 0 _ (omega arith)
-    (head-place farthest 0 h _ (omega arith)
-    (refuse-place farthest b k 0 _ (omega arith)
-    (refuse-place farthest (not (eqb (length xs) (afterOf (extentOf h) (getD xs 0 0)))) _ 0 _ (omega arith)
-    (sound-place farthest (headerAt 0) (faultOf h (contentsIn (extentOf h) xs)) (Accepted 0) (λ j i e. omega arith)
-    (accepted-place farthest 0)))))
-
-edit-place : (e : Edit) (is : List Item) → PlaceTo farthest (editRefusal e is)
-unfolding editRefusal
-edit-place (Replacing new which) is = new-place new (leb (timesIn (nameOf (newHeader new)) (namesOf is)) which) absent
-edit-place (Appending new) is =
-    let x = nameOf (newHeader new) in
-    new-place new (leb (oftenOf x) (timesIn x (namesOf is))) repeated-name
-edit-place (Removing x which) is =
-    refuse-place farthest (leb (timesIn x (namesOf is)) which) absent 0 (Accepted 0) (omega arith) (accepted-place farthest 0)
-
-record-place : (e : Edit) (r : List Part) (room : ℕ) → PlaceTo farthest (recordEditing e r room)
-unfolding recordEditing
-record-place e r room =
-    let n = length (layout (edited e r)) in
-    refuse-place farthest (not (among transfer-data (headersOf r))) absent 0 _ (omega arith)
-    (then-place farthest (editRefusal e (itemsIn r)) _ (edit-place e (itemsIn r))
-    (λ q. refuse-place farthest (ltb most-transfer-octets (length (layoutItems (itemsIn (edited e r))))) transfer-over 0 _ (omega arith)
-    (refuse-place farthest (ltb room n) no-room 0 (Accepted n) (omega arith) (accepted-place farthest n))))
-
 editing-place : (e : Edit) (d : List ℕ) (n : ℕ) → PlaceTo farthest (editingOf e d n)
 unfolding editingOf
 editing-place e d n =
     let m = take n d in
     refuse-place farthest (ltb (length d) n) no-room 0 _ (omega arith)
-    (then-place farthest (verdictOf m) _ (verdict-place faultOf fault-within m) (λ q. record-place e (recordOf m) (length d)))
+    (then-place farthest (verdictOf m) _ (verdict-place faultOf fault-within m) (λ q. place-up 0 farthest _ (omega arith) (record-place e (recordOf m) (length d))))
 
 -- the message so edited is that of an allowed record
 pub editing-upto : (e : Edit) (d : List ℕ) (n : ℕ) → every isOctet d ≡ true → OfOctets e → Upto farthest (editingOf e d n)

@@ -3,13 +3,13 @@
 --
 -- A function answers `r`; `now` is what it leaves in the memory it was lent. A slice of octets is a list of numbers, each below 256
 -- (`Octetwise`), and a struct has arrays of their lengths, with numbers that fit their fields (`FitsStruct`): that is what the types say.
-use Prim.Native.Nat.{ℕ, _+_, _*_, _/_, _≤_, _<_}
+use Prim.Native.Nat.{ℕ, _+_, _*_, _/_, _%_, _≤_, _<_}
 use mathlib.Core.Path.{_≡_}
 use mathlib.Core.Bool.{Bool, true, false}
 use mathlib.Core.List.{List, [], _∷_, _++_}
 use mathlib.Core.Logic.{_↔_}
 use lib.ListN.{length, getD, take, drop}
-use Rattle.annex.specs.Answers.{absent, numberOf, classNumberOf}
+use Rattle.annex.specs.Answers.{bad-digit, absent, numberOf, classNumberOf}
 use Rattle.annex.specs.Units.{nameOf}
 use Rattle.annex.specs.Heads.{among, end-mark, sequence, sequence-number, charging-information, connection-order}
 use Rattle.annex.specs.Rates.{chargesOf, chargedContents, Chargeable}
@@ -24,6 +24,7 @@ use Rattle.annex.specs.Editing.{Edit, edited, editingOf}
 use Rattle.annex.specs.Classes.{classOf}
 use Rattle.annex.specs.Charging.{octetCharging}
 use Rattle.annex.specs.Packed.{imageReading, imageWriting, octetSpans, octetOrder}
+use Rattle.annex.specs.BadHalves.{ShownAt}
 use Rattle.annex.specs.Walking.{noRow}
 use Rattle.annex.specs.Opened.{formRow}
 use Rattle.annex.specs.Opening.{hasRoom, valuesWith}
@@ -126,6 +127,40 @@ pub record PackedLending (before : List ℕ) (d : Answer) (P : ℕ → List ℕ 
   pub numbered : HasNumber d
   pub kept : (r : ℕ) (now : List ℕ) → P r now → 0 < packedNumber r → now ≡ before
 
+-- And the place of a 13 shows the first bad octet of the message (document 02, request e), whichever function reads it. Of its own new
+-- parameter an edit tells the place 0.
+abbrev pub packedPlace : ℕ → ℕ
+packedPlace r = r / 65536 % 65536
+
+pub record Showing (m : List ℕ) : Type 0 where
+  pub verdict : (p : ℕ) → VerdictPromise m (Refused bad-digit p) → ShownAt m p
+  pub read : (q : Record) (p : ℕ) → ReadPromise m (record { answer = Refused bad-digit p; «record» = q }) → ShownAt m p
+  pub find-common : (h p : ℕ) → FindCommonAnswerPromise m h (Refused bad-digit p) → ShownAt m p
+  pub find-transfer : (x p : ℕ) → FindTransferAnswerPromise m x (Refused bad-digit p) → ShownAt m p
+  pub check : (room p : ℕ) → SpansCheckPromise m room (Refused bad-digit p) → ShownAt m p
+  pub check-order : (room p : ℕ) → OrderCheckPromise m room (Refused bad-digit p) → ShownAt m p
+  pub charging : (p : ℕ) → ChargingPromise m (chargings.Refused bad-digit p) → ShownAt m p
+  pub spans : (table now : List Row) (p : ℕ) → SpansPromise m table (Refused bad-digit p) now → ShownAt m p
+  pub octet-spans : (table now : List ℕ) (p : ℕ) → OctetSpansPromise m table (Refused bad-digit p) now → ShownAt m p
+  pub order : (table now : List Row) (p : ℕ) → OrderPromise m table (Refused bad-digit p) now → ShownAt m p
+  pub octet-order : (table now : List ℕ) (p : ℕ) → OctetOrderPromise m table (Refused bad-digit p) now → ShownAt m p
+  pub octet-charging : (room now : List ℕ) (p : ℕ) → OctetChargingPromise m room (Refused bad-digit p) now → ShownAt m p
+  pub read-image : (room now : List ℕ) (p : ℕ) → ImageReadPromise m room (Refused bad-digit p) now → ShownAt m p
+  pub edit : (e : Edit) (d : List ℕ) (n : ℕ) → take n d ≡ m → (p : ℕ) (now : List ℕ) → EditPromise e d n (Refused bad-digit p) now
+      → (v : Answer) → VerdictPromise m v → (IsAccepted v → p ≡ 0) × ((k q : ℕ) → v ≡ Refused k q → ShownAt m p)
+  pub tk-read : (room : List ℕ) (r : ℕ) (now : List ℕ) → TkReadPromise m room r now → packedNumber r ≡ bad-digit → ShownAt m (packedPlace r)
+  pub tk-rows : (table : List ℕ) (r : ℕ) (now : List ℕ) → TkRowsPromise m table r now → packedNumber r ≡ bad-digit
+      → ShownAt m (packedPlace r)
+  pub tk-find-common : (h r : ℕ) → TkFindCommonPromise m h r → packedNumber r ≡ bad-digit → ShownAt m (packedPlace r)
+  pub tk-find-transfer : (x r : ℕ) → TkFindTransferPromise m x r → packedNumber r ≡ bad-digit → ShownAt m (packedPlace r)
+  pub tk-charging : (room : List ℕ) (r : ℕ) (now : List ℕ) → TkChargingPromise m room r now → packedNumber r ≡ bad-digit
+      → ShownAt m (packedPlace r)
+  pub tk-order : (table : List ℕ) (r : ℕ) (now : List ℕ) → TkOrderPromise m table r now → packedNumber r ≡ bad-digit
+      → ShownAt m (packedPlace r)
+  pub tk-edit : (e : Edit) (d : List ℕ) (n : ℕ) → take n d ≡ m → (r : ℕ) (now : List ℕ) → TkEditPromise e d n r now
+      → packedNumber r ≡ bad-digit → (v : Answer) → VerdictPromise m v
+      → (IsAccepted v → packedPlace r ≡ 0) × ((k q : ℕ) → v ≡ Refused k q → ShownAt m (packedPlace r))
+
 pub record Demand1 : Type 0 where
   pub verdict : (m : List ℕ) → Answering (VerdictPromise m)
   pub read : (m : List ℕ) → Answering (λ a. (q : Record) × ReadPromise m (record { answer = a; «record» = q }))
@@ -155,6 +190,7 @@ pub record Demand1 : Type 0 where
   pub tk-charging : (m room : List ℕ) → PackedLending room (octetCharging m (length room)) (TkChargingPromise m room)
   pub tk-order : (m table : List ℕ) → PackedLending table (octetOrder m (length table)) (TkOrderPromise m table)
   pub tk-edit : (e : Edit) (d : List ℕ) (n : ℕ) → PackedLending d (editingOf e d n) (TkEditPromise e d n)
+  pub showing : (m : List ℕ) → Showing m
   -- the functions that serve these: what does not fit is not stored
   pub stores : (fits : Bool) (stored before : List ℕ) (r : Bool) (now : List ℕ) → Stores fits stored before r now → r ≡ false → now ≡ before
   pub opens : (i : Item) (used : ℕ) (before now : List ℕ) → Gives (valuesWith i used before) now → hasRoom i used before ≡ false

@@ -4,12 +4,12 @@ use native.Mathlib.Omega.{arith}
 use mathlib.Core.Path.{_≡_, refl, sym, ap, _∙_}
 use mathlib.Core.Bool.{Bool, true, false}
 use mathlib.Core.List.{List, [], _∷_, _++_}
-use mathlib.Core.Logic.{_↔_}
+use mathlib.Core.Logic.{_↔_, _⊎_, inl, inr}
 use borrow.Author.Tests.{ltb-true, ltb-false, le-ltb, lt-ltb, ne-eqb}
 use lib.Dec.{ltb}
 use lib.ListN.{length, getD, take, drop}
 use lib.Seq.{take-append-seam, take-at}
-use Rattle.annex.specs.Answers.{absent, no-room, refuse, roomAfter, numberOf, startOf, classNumberOf}
+use Rattle.annex.specs.Answers.{bad-digit, absent, no-room, refuse, roomAfter, numberOf, startOf, classNumberOf}
 use Rattle.annex.specs.Units.{nameOf}
 use Rattle.annex.specs.Rates.{chargesOf}
 use Rattle.annex.specs.Orders.{OpenedOrder, layOrder, orderRight}
@@ -21,8 +21,9 @@ use Rattle.annex.specs.Records.{pack, isWhole, view, readBy, readingOf}
 use Rattle.annex.specs.Writing.{structWriting, writingOf, writtenOf}
 use Rattle.annex.specs.Spans.{rowsOf, spansOf, tableOf, spansBy}
 use Rattle.annex.specs.Finding.{commonFound, transferFound, foundAnswer, findAnswer, findPart}
-use Rattle.annex.specs.Editing.{Edit, edited, bufferOf}
+use Rattle.annex.specs.Editing.{Edit, edited, editingOf, bufferOf}
 use Rattle.annex.specs.Packed.{
+  oneNumber,
   packedAnswer,
   imageReading,
   imageRead,
@@ -61,13 +62,16 @@ use Rattle.annex.specs.declared.Reading.{Reading}
 use Rattle.annex.specs.declared.Record.{Record}
 use Rattle.annex.specs.declared.Row.{Row}
 use Rattle.annex.specs.Heads.{among, end-mark, charging-information, connection-order, formOf}
+use Rattle.annex.specs.Contents.{faultOf}
+use Rattle.annex.specs.BadHalves.{ShownAt}
 use Rattle.annex.specs.Walking.{noRow}
 use Rattle.annex.specs.Classes.{classOf}
 use Rattle.annex.specs.declared.ClassAnswer.{ClassAnswer}
 use Rattle.annex.specs.declared.Imaged.{Imaged}
 use Rattle.laws.specs.Leaves.{as-they-are}
 use Rattle.laws.specs.Members.{sumOf}
-use Rattle.laws.specs.Steps.{passed, then-passed}
+use Rattle.laws.specs.Offsets.{fault-within}
+use Rattle.laws.specs.Steps.{passed, then-passed, verdict-place}
 use Rattle.theorems.specs.Charged.{item-charged, said-again}
 use Rattle.theorems.specs.Ordered.{
   says,
@@ -80,6 +84,17 @@ use Rattle.theorems.specs.Ordered.{
   stretchesOf,
   Following,
   rows-add-up,
+}
+use Rattle.theorems.specs.Shown.{
+  shown,
+  Passes,
+  find-passes,
+  spans-passes,
+  image-passes,
+  order-passes,
+  charging-passes,
+  octet-charging-passes,
+  edit-passes,
 }
 use Rattle.theorems.specs.Lists.{times-append, times-here}
 use Rattle.theorems.specs.Records.{allowed-within, item-allowed, names-append}
@@ -130,8 +145,10 @@ use Rattle.demands.specs.Demands.{
   Answering,
   Lending,
   packedNumber,
+  packedPlace,
   PackedAnswering,
   PackedLending,
+  Showing,
   Demand1,
   Demand2,
   Demand3,
@@ -192,6 +209,85 @@ read-verdict : (m : List ℕ) (r : Reading) → ReadPromise m r → r .answer �
 unfolding readingOf
 read-verdict m r p = ap (λ (x : Reading). x .answer) p ∙ read-answer (verdictOf m) (recordOf m)
 
+-- ---- the place of a 13
+
+-- packed, a place of the message is whole
+packed-shown : (m : List ℕ) (k p : ℕ) → k ≡ bad-digit → verdictOf m ≡ Refused bad-digit p → ShownAt m (packedPlace (oneNumber k p 0))
+packed-shown m k p e v =
+    let few = verdict-place faultOf fault-within m .at bad-digit p v in
+    let same : p ≡ packedPlace (oneNumber k p 0) = omega arith in
+    rw same at (shown m p v)
+
+refused-shown : (m : List ℕ) (a : Answer) → Passes m a → (r : ℕ) → packedNumber r ≡ numberOf a
+    → ((k p : ℕ) → a ≡ Refused k p → r ≡ oneNumber k p 0) → packedNumber r ≡ bad-digit → ShownAt m (packedPlace r)
+refused-shown m (Accepted n) w r e h f = absurd (omega arith)
+refused-shown m (Refused k p) w r e h f =
+    let number : k ≡ bad-digit = sym e ∙ f in
+    rw (h k p refl) (packed-shown m k p number (w p (rw number)))
+
+answer-shown : (m : List ℕ) (a : Answer) → Passes m a → (r : ℕ) → r ≡ packedAnswer a → packedNumber r ≡ bad-digit → ShownAt m (packedPlace r)
+answer-shown m a w r e = refused-shown m a w r (rw e (packed-number a)) (λ k p f. e ∙ rw f)
+
+find-shown : (m : List ℕ) (f : Found) (r : ℕ) → r ≡ packedLength (findAnswer m f) (length (findPart m f)) → packedNumber r ≡ bad-digit
+    → ShownAt m (packedPlace r)
+find-shown m f r e = refused-shown m (findAnswer m f) (find-passes m f) r (rw e (length-number (findAnswer m f) _)) (λ k p g. e ∙ rw g)
+
+-- an edit: of the message, or of its own new parameter, by a place x that is p in both
+edit-shown : (e : Edit) (d : List ℕ) (n p x : ℕ) → editingOf e d n ≡ Refused bad-digit p
+    → (p ≡ 0 → x ≡ 0) → (verdictOf (take n d) ≡ Refused bad-digit p → ShownAt (take n d) x)
+    → (v : Answer) → v ≡ verdictOf (take n d) → (IsAccepted v → x ≡ 0) × ((k q : ℕ) → v ≡ Refused k q → ShownAt (take n d) x)
+edit-shown e d n p x f own passed v w = go (edit-passes e d n p f)
+  where
+    go : (verdictOf (take n d) ≡ Refused bad-digit p) ⊎ (((q : ℕ) × (verdictOf (take n d) ≡ Accepted q)) × (p ≡ 0))
+        → (IsAccepted v → x ≡ 0) × ((k q : ℕ) → v ≡ Refused k q → ShownAt (take n d) x)
+    go (inl g) = (
+      λ a. absurd (let h = sym (a .1) ∙ w ∙ g in let z : _≡_ {A = ℕ} 0 1 = cc in omega arith),
+      λ k q h. passed g,
+    )
+    go (inr g) = (
+      λ a. own (g .1),
+      λ k q h. absurd (let i = sym h ∙ w ∙ g .0 .1 in let z : _≡_ {A = ℕ} 0 1 = cc in omega arith),
+    )
+
+edit-packed : (e : Edit) (d : List ℕ) (n r : ℕ) → r ≡ packedAnswer (editingOf e d n) → packedNumber r ≡ bad-digit
+    → (v : Answer) → v ≡ verdictOf (take n d)
+    → (IsAccepted v → packedPlace r ≡ 0) × ((k q : ℕ) → v ≡ Refused k q → ShownAt (take n d) (packedPlace r))
+edit-packed e d n r f g = go (editingOf e d n) refl f
+  where
+    go : (a : Answer) → editingOf e d n ≡ a → r ≡ packedAnswer a → (v : Answer) → v ≡ verdictOf (take n d)
+        → (IsAccepted v → packedPlace r ≡ 0) × ((k q : ℕ) → v ≡ Refused k q → ShownAt (take n d) (packedPlace r))
+    go (Accepted k) h s = absurd (let i = rw s at g in omega arith)
+    go (Refused k p) h s =
+        let number : k ≡ bad-digit = sym (packed-number (Refused k p)) ∙ rw s at g in
+        edit-shown e d n p (packedPlace r) (h ∙ rw number) (λ z. rw (s, z) (omega arith))
+        (λ i. rw s (packed-shown (take n d) k p number i))
+
+shows : (m : List ℕ) → Showing m
+shows m =
+    record {
+      verdict = λ p e. shown m p (sym e);
+      read = λ q p e. shown m p (sym (read-verdict m _ e));
+      find-common = λ h p e. shown m p (find-passes m (commonFound h m) p (sym e));
+      find-transfer = λ x p e. shown m p (find-passes m (transferFound x 0 m) p (sym e));
+      check = λ room p e. shown m p (spans-passes m room p (sym e));
+      check-order = λ room p e. shown m p (order-passes m room p (sym e));
+      charging = λ p e. shown m p (charging-passes m p (sym e));
+      spans = λ table now p e. shown m p (spans-passes m (length table) p (sym (e .0)));
+      octet-spans = λ table now p e. shown m p (spans-passes m _ p (sym (e .0)));
+      order = λ table now p e. shown m p (order-passes m (length table) p (sym (e .0)));
+      octet-order = λ table now p e. shown m p (order-passes m _ p (sym (e .0)));
+      octet-charging = λ room now p e. shown m p (octet-charging-passes m (length room) p (sym (e .0)));
+      read-image = λ room now p e. shown m p (image-passes m (length room) p (sym (e .0)));
+      edit = λ e d n s p now f. rw s at (edit-shown e d n p p (sym (f .0)) (λ z. z) (shown (take n d) p));
+      tk-read = λ room r now e. answer-shown m (imageReading m (length room)) (image-passes m (length room)) r (e .0);
+      tk-rows = λ table r now e. answer-shown m (octetSpans m (length table)) (spans-passes m _) r (e .0);
+      tk-find-common = λ h r e. find-shown m (commonFound h m) r e;
+      tk-find-transfer = λ x r e. find-shown m (transferFound x 0 m) r e;
+      tk-charging = λ room r now e. answer-shown m (octetCharging m (length room)) (octet-charging-passes m (length room)) r (e .0);
+      tk-order = λ table r now e. answer-shown m (octetOrder m (length table)) (order-passes m _) r (e .0);
+      tk-edit = λ e d n s r now f g. rw s at (edit-packed e d n r (f .0) g);
+    }
+
 pub demand-1 : Demand1
 unfolding tableOf octetTable orderTable octetOrderTable writtenOf bufferOf octetCharged imageRead imageWritten
 demand-1 =
@@ -234,6 +330,7 @@ demand-1 =
           packed-lending (octet-charging-told m (length room)) (after-refusal (octetCharging m (length room)) _ room);
       tk-order = λ m table. packed-lending (order-told m _) (octets-kept (octetOrder m (length table)) _ table);
       tk-edit = λ e d n. packed-lending (editing-told e d n) (λ k q f. buffer-refused e d n k q f);
+      showing = shows;
       stores = λ fits stored before r now p f. rw f at (p .1);
       opens = λ i used before now p f. p ∙ rw f;
     }

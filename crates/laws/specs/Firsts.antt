@@ -14,7 +14,25 @@ use Rattle.annex.specs.Units.{countedBy, wholeCount}
 use Rattle.annex.specs.Heads.{among, clear, added-calling-number, withheld, zeroesOf, formOf}
 use Rattle.annex.specs.Digits.{halves, halvesFault, digitsFault, oddOf, countOf, numberFaultIn, numberFault}
 use Rattle.annex.specs.Rates.{isKind, isRight, drawnFor, kindIn, fieldOctets, drawnFault, checkRight}
-use Rattle.annex.specs.Orders.{orderForms, layoutOf, mayStand, orderSize, isFigure, isAreCharacter, outsideFault, repeatRight, forwardFault, controlFault, logicFault, layoutFault, ordered, ownFault, parameterFault, parametersFault, orderFault}
+use Rattle.annex.specs.Orders.{
+  orderForms,
+  layoutOf,
+  mayStand,
+  orderSize,
+  isFigure,
+  isAreCharacter,
+  outsideFault,
+  repeatRight,
+  forwardFault,
+  controlFault,
+  logicFault,
+  layoutFault,
+  ordered,
+  ownFault,
+  parameterFault,
+  parametersFault,
+  orderFault,
+}
 use Rattle.annex.specs.Contents.{
   presentationOf,
   callingFault,

@@ -36,5 +36,5 @@ pub mod Found
 pub mod Rows
 pub mod Listed
 pub mod Few
--- of places in what is written:
+-- of places in what is written and edited:
 pub mod Places

@@ -138,7 +138,7 @@ pub place-told : (l : ℕ) (a : Answer) → PlaceTo l a → placeOf a ≤ l
 place-told l (Accepted n) g = omega arith
 place-told l (Refused k p) g = g .at k p refl
 
-place-up : (l m : ℕ) (a : Answer) → l ≤ m → PlaceTo l a → PlaceTo m a
+pub place-up : (l m : ℕ) (a : Answer) → l ≤ m → PlaceTo l a → PlaceTo m a
 place-up l m a h g = record { at = λ k p e. omega (arith, g .at k p e) }
 
 -- ---- places in a walk

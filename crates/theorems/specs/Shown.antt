@@ -23,6 +23,7 @@ use Rattle.annex.specs.Answers.{
   repeated-name,
   cut-contents,
   bad-digit,
+  no-room,
   refuse,
   soundThen,
   readingAt,
@@ -50,15 +51,50 @@ use Rattle.annex.specs.Walk.{
   parOf,
   pars,
 }
-use Rattle.annex.specs.Reading.{octetAllowed, commonForm, endOf, commonClose, dataIn, transferOf, transferStep, transfersVerdict, dataOf, commonOf, commonStep, verdictOf, commonsOf, transfersOf, transferBy, transfersVerdictBy, dataBy, messageVerdictBy, verdictBy, commonsBy, transfersBy}
+use Rattle.annex.specs.Reading.{
+  octetAllowed,
+  commonForm,
+  endOf,
+  commonClose,
+  dataIn,
+  transferOf,
+  transferStep,
+  transfersVerdict,
+  dataOf,
+  commonOf,
+  commonStep,
+  verdictOf,
+  recordOf,
+  commonsOf,
+  transfersOf,
+  transferBy,
+  transfersVerdictBy,
+  dataBy,
+  messageVerdictBy,
+  verdictBy,
+  commonsBy,
+  transfersBy,
+}
 use Rattle.annex.specs.BadHalves.{FirstBad, ownContents, NoneBadOf, NoneBadIn, headerIn, startIn, ShownAt}
+use Rattle.annex.specs.Image.{imageOf}
+use Rattle.annex.specs.Finding.{foundAnswer, findAnswer, findPart}
+use Rattle.annex.specs.Spans.{rowsOf, spansOf, spansBy}
+use Rattle.annex.specs.Editing.{Edit, recordEditing, editingOf}
+use Rattle.annex.specs.Charging.{chargingFound, chargingBy, chargingOf, charging-octets, octetChargingBy, octetCharging}
+use Rattle.annex.specs.Opened.{orderFound, orderRowsOf, orderAnswer}
+use Rattle.annex.specs.Packed.{imageReading}
 use Rattle.annex.specs.declared.Answer.{Answer}
 use Rattle.annex.specs.declared.Answer.the-variants.{Accepted, Refused}
+use Rattle.annex.specs.declared.ChargingAnswer.{ChargingAnswer}
+use Rattle.annex.specs.declared.ChargingAnswer.the-variants as chargings
+use Rattle.annex.specs.declared.Found.{Found}
+use Rattle.annex.specs.declared.Found.the-variants.{At, Nowhere}
 use Rattle.annex.specs.declared.Fault.{Fault}
 use Rattle.annex.specs.declared.Fault.the-variants.{Sound, Bad}
 use Rattle.laws.specs.Extents.{lead-within}
 use Rattle.laws.specs.Parts.{from-to}
 use Rattle.laws.specs.Firsts.{first-bad, none-bad}
+use Rattle.laws.specs.Places.{record-place}
 use Rattle.laws.specs.Steps.{transfer-taken, form-taken, common-formed, common-refused}
 use Rattle.theorems.specs.Lists.{each-right, each-so}
 use Rattle.laws.specs.Plain.{Lies, pars-lie, each-listed, transfer-sized, transfers-plain, common-sized, InnerSound, commons-inner}
@@ -399,3 +435,78 @@ shown m p e =
       none-ahead = each-so InnerSound NoneBadIn inner-none (commonsOf m) (commons-inner m);
       none-before = t .none-before;
     }
+
+-- ---- the calls that pass it on
+
+-- an answer that refuses with 13 only where reading does, and at the same place
+abbrev pub Passes : List ℕ → Answer → Type 0
+Passes m a = (p : ℕ) → a ≡ Refused bad-digit p → verdictOf m ≡ Refused bad-digit p
+
+then-passes : (m : List ℕ) (a : Answer) (f : ℕ → Answer) → Passes m a → ((n p : ℕ) → f n ≡ Refused bad-digit p → ⊥) → Passes m (andThen a f)
+then-passes m (Accepted n) f g h p e = absurd (h n p e)
+then-passes m (Refused k q) f g h p e = g p e
+
+-- 16, and 15, are other numbers
+absent-other : (f : Found) (p : ℕ) → foundAnswer f ≡ Refused bad-digit p → ⊥
+absent-other (At s e) p q = absurd (let z : _≡_ {A = ℕ} 0 1 = cc in omega arith)
+absent-other Nowhere p q = let z : _≡_ {A = ℕ} 16 13 = cc in omega arith
+
+room-other : (b : Bool) (n p : ℕ) → refuse b no-room 0 (Accepted n) ≡ Refused bad-digit p → ⊥
+room-other b n p e =
+    let f = other b no-room 0 (Accepted n) bad-digit p (λ z. omega arith) e .1 in
+    absurd (let z : _≡_ {A = ℕ} 0 1 = cc in omega arith)
+
+pub find-passes : (m : List ℕ) (f : Found) → Passes m (findAnswer m f)
+find-passes m f = then-passes m (verdictOf m) (λ _. foundAnswer f) (λ p e. e) (λ n p. absent-other f p)
+
+pub spans-passes : (m : List ℕ) (room : ℕ) → Passes m (spansOf m room)
+unfolding spansBy
+spans-passes m room =
+    then-passes m (verdictOf m) _ (λ p e. e) (λ n p. room-other (ltb room (length (rowsOf m))) (length (rowsOf m)) p)
+
+pub image-passes : (m : List ℕ) (room : ℕ) → Passes m (imageReading m room)
+unfolding imageReading
+image-passes m room =
+    let n = length (imageOf (recordOf m)) in
+    then-passes m (verdictOf m) _ (λ p e. e) (λ _ p. room-other (ltb room n) n p)
+
+pub order-passes : (m : List ℕ) (room : ℕ) → Passes m (orderAnswer m room)
+unfolding orderAnswer
+order-passes m room =
+    let n = length (orderRowsOf m) in
+    then-passes m (findAnswer m (orderFound m)) _ (find-passes m (orderFound m)) (λ _ p. room-other (ltb room n) n p)
+
+pub charging-passes : (m : List ℕ) (p : ℕ) → chargingOf m ≡ chargings.Refused bad-digit p → verdictOf m ≡ Refused bad-digit p
+unfolding chargingOf
+charging-passes m p e = go (findAnswer m (chargingFound m)) (find-passes m (chargingFound m)) e
+  where
+    go : (a : Answer) → Passes m a → chargingBy a (findPart m (chargingFound m)) ≡ chargings.Refused bad-digit p
+        → verdictOf m ≡ Refused bad-digit p
+    go (Accepted n) w e = absurd (let z : _≡_ {A = ℕ} 0 1 = cc in omega arith)
+    go (Refused k q) w e =
+        let number : k ≡ bad-digit = cc in
+        w q (rw number) ∙ (let there : q ≡ p = cc in rw there)
+
+pub octet-charging-passes : (m : List ℕ) (room : ℕ) → Passes m (octetCharging m room)
+unfolding octetCharging
+octet-charging-passes m room p e = go (chargingOf m) (charging-passes m) e
+  where
+    go : (a : ChargingAnswer) → ((p : ℕ) → a ≡ chargings.Refused bad-digit p → verdictOf m ≡ Refused bad-digit p)
+        → octetChargingBy a room ≡ Refused bad-digit p → verdictOf m ≡ Refused bad-digit p
+    go (chargings.Is c) w e = absurd (room-other (ltb room charging-octets) charging-octets p e)
+    go (chargings.Refused k q) w e =
+        let number : k ≡ bad-digit = cc in
+        w q (rw number) ∙ (let there : q ≡ p = cc in rw there)
+
+-- an edit passes on what reading refuses, and tells its own 13 at 0
+pub edit-passes : (e : Edit) (d : List ℕ) (n p : ℕ) → editingOf e d n ≡ Refused bad-digit p
+    → (verdictOf (take n d) ≡ Refused bad-digit p) ⊎ (((q : ℕ) × (verdictOf (take n d) ≡ Accepted q)) × (p ≡ 0))
+unfolding editingOf
+edit-passes e d n p f =
+    go (verdictOf (take n d)) refl (other (ltb (length d) n) no-room 0 _ bad-digit p (λ z. omega arith) f .1)
+  where
+    go : (a : Answer) → verdictOf (take n d) ≡ a
+        → andThen a (λ _. recordEditing e (recordOf (take n d)) (length d)) ≡ Refused bad-digit p
+        → (verdictOf (take n d) ≡ Refused bad-digit p) ⊎ (((q : ℕ) × (verdictOf (take n d) ≡ Accepted q)) × (p ≡ 0))
+    go (Accepted q) v g = inr ((q, v), omega (arith, record-place e (recordOf (take n d)) (length d) .at bad-digit p g))
+    go (Refused k q) v g = inl (v ∙ g)
