@@ -1,5 +1,5 @@
--- Which octet 13 shows: document 02, request e. Of each octet of contents it is said whether it is good, by its halves or as a character; the
--- one that is shown is the first of a parameter that is not. No order of refusals is told here: theorems join this to what reading answers.
+-- Which octet 13 shows: document 02, request e. Of each octet of contents it is said whether it is good, by its halves or as a character;
+-- the one that is shown is the first that is not. No order of refusals is told here: theorems join this to what reading answers.
 use Prim.Native.Nat.{ℕ, _+_, _-_, _*_, _/_, _%_, _≤_, _<_}
 use mathlib.Core.Path.{_≡_}
 use mathlib.Core.Bool.{Bool, true, false, cond, not, _&&_, _||_}

@@ -176,7 +176,8 @@ unfolding editingOf
 editing-place e d n =
     let m = take n d in
     refuse-place farthest (ltb (length d) n) no-room 0 _ (omega arith)
-    (then-place farthest (verdictOf m) _ (verdict-place faultOf fault-within m) (λ q. place-up 0 farthest _ (omega arith) (record-place e (recordOf m) (length d))))
+    (then-place farthest (verdictOf m) _ (verdict-place faultOf fault-within m)
+    (λ q. place-up 0 farthest _ (omega arith) (record-place e (recordOf m) (length d))))
 
 -- the message so edited is that of an allowed record
 pub editing-upto : (e : Edit) (d : List ℕ) (n : ℕ) → every isOctet d ≡ true → OfOctets e → Upto farthest (editingOf e d n)

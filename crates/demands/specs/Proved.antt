@@ -225,7 +225,8 @@ refused-shown m (Refused k p) w r e h f =
     let number : k ≡ bad-digit = sym e ∙ f in
     rw (h k p refl) (packed-shown m k p number (w p (rw number)))
 
-answer-shown : (m : List ℕ) (a : Answer) → Passes m a → (r : ℕ) → r ≡ packedAnswer a → packedNumber r ≡ bad-digit → ShownAt m (packedPlace r)
+answer-shown : (m : List ℕ) (a : Answer) → Passes m a → (r : ℕ) → r ≡ packedAnswer a → packedNumber r ≡ bad-digit
+    → ShownAt m (packedPlace r)
 answer-shown m a w r e = refused-shown m a w r (rw e (packed-number a)) (λ k p f. e ∙ rw f)
 
 find-shown : (m : List ℕ) (f : Found) (r : ℕ) → r ≡ packedLength (findAnswer m f) (length (findPart m f)) → packedNumber r ≡ bad-digit

@@ -98,15 +98,18 @@ Placed size k i = ((k ≡ bad-form) × (i ≡ 0)) ⊎ (i < size)
 
 -- ---- what a fault shows of the octets from a to b
 
+abbrev AllGood : (ℕ → Bool) → ℕ → ℕ → Type 0
+AllGood good a b = (j : ℕ) → a ≤ j → j < b → good j ≡ true
+
 -- of octets by their offsets, whether each is good: where nothing is wrong all are, and 13 has the offset of the first that is not; any
 -- other number is 12 at the start, or stands at one of all the octets
 pub record Shows (good : ℕ → Bool) (size a b : ℕ) (f : Fault) : Type 0 where
-  pub sound : f ≡ Sound → (j : ℕ) → a ≤ j → j < b → good j ≡ true
-  pub bad : (i : ℕ) → f ≡ Bad bad-digit i → (a ≤ i) × (i < b) × (good i ≡ false) × ((j : ℕ) → a ≤ j → j < i → good j ≡ true)
+  pub sound : f ≡ Sound → AllGood good a b
+  pub bad : (i : ℕ) → f ≡ Bad bad-digit i → (a ≤ i) × (i < b) × (good i ≡ false) × AllGood good a i
   pub other : (k i : ℕ) → f ≡ Bad k i → (k ≡ bad-digit) ⊎ Placed size k i
 
 module _ (good : ℕ → Bool) (size : ℕ) where
-  all-good : (a b : ℕ) → ((j : ℕ) → a ≤ j → j < b → good j ≡ true) → Shows good size a b Sound
+  all-good : (a b : ℕ) → AllGood good a b → Shows good size a b Sound
   all-good a b g =
       record {
         sound = λ e. g;
@@ -131,7 +134,8 @@ module _ (good : ℕ → Bool) (size : ℕ) where
   formed-shown a b false f w = form-shown a b
 
   -- one stretch and then the next
-  then-shown : (a b c : ℕ) → a ≤ b → b ≤ c → (f g : Fault) → Shows good size a b f → Shows good size b c g → Shows good size a c (faultThen f g)
+  then-shown : (a b c : ℕ) → a ≤ b → b ≤ c → (f g : Fault) → Shows good size a b f → Shows good size b c g
+      → Shows good size a c (faultThen f g)
   then-shown a b c l m Sound g v w =
       record { sound = λ e j p q. either j p q (λ r. w .sound e j r q); bad = λ i e. later i (w .bad i e); other = w .other }
     where
@@ -142,8 +146,8 @@ module _ (good : ℕ → Bool) (size : ℕ) where
           go true e = v .sound refl j p (ltb-true j b e)
           go false e = h (ltb-false j b e)
 
-      later : (i : ℕ) → (b ≤ i) × (i < c) × (good i ≡ false) × ((j : ℕ) → b ≤ j → j < i → good j ≡ true)
-          → (a ≤ i) × (i < c) × (good i ≡ false) × ((j : ℕ) → a ≤ j → j < i → good j ≡ true)
+      later : (i : ℕ) → (b ≤ i) × (i < c) × (good i ≡ false) × AllGood good b i
+          → (a ≤ i) × (i < c) × (good i ≡ false) × AllGood good a i
       later i s = (omega (arith, s .0), s .1, s .2, λ j p q. either j p (omega (arith, s .1)) (λ r. s .3 j r q))
   then-shown a b c l m (Bad k i) g v w =
       record {
@@ -153,11 +157,12 @@ module _ (good : ℕ → Bool) (size : ℕ) where
       }
 
   -- behind octets that are good
-  front-shown : (a b c : ℕ) → a ≤ b → b ≤ c → (f : Fault) → ((j : ℕ) → a ≤ j → j < b → good j ≡ true) → Shows good size b c f → Shows good size a c f
+  front-shown : (a b c : ℕ) → a ≤ b → b ≤ c → (f : Fault) → AllGood good a b → Shows good size b c f → Shows good size a c f
   front-shown a b c l m f g w = then-shown a b c l m Sound f (all-good a b g) w
 
   -- one octet, and those behind it
-  tested-shown : (a c : ℕ) → a < c → (t : Bool) (f : Fault) → good a ≡ t → Shows good size (a + 1) c f → Shows good size a c (cond t f (Bad bad-digit a))
+  tested-shown : (a c : ℕ) → a < c → (t : Bool) (f : Fault) → good a ≡ t → Shows good size (a + 1) c f
+      → Shows good size a c (cond t f (Bad bad-digit a))
   tested-shown a c l true f e w =
       front-shown a (a + 1) c (omega arith) (omega arith) f
       (λ j p q. let same : j ≡ a = omega arith in ap good same ∙ e) w
@@ -240,16 +245,17 @@ module _ (good : ℕ → Bool) (size : ℕ) where
   halves-shown z n at (x ∷ s) g =
       let end : at + 1 + length s ≡ at + suc (length s) = omega arith in
       let here : at + 0 ≡ at = omega arith in
-      let rest = halves-shown z (n - 2) (at + 1) s (next-agrees at (digitsGood z (record { 0 = n })) (digitsGood z (record { 0 = n - 2 })) x s (fewer z n) g) in
+      let next = next-agrees at (digitsGood z (record { 0 = n })) (digitsGood z (record { 0 = n - 2 })) x s (fewer z n) g in
       rw (digits-turn z n at x s)
-      (tested-shown at (at + suc (length s)) (omega arith) _ _ (rw here at (g 0 (omega arith))) (rw end at rest))
+      (tested-shown at (at + suc (length s)) (omega arith) _ _ (rw here at (g 0 (omega arith))) (rw end at (halves-shown z (n - 2) (at + 1) s next)))
 
   digits-shown : (z : Alphabet) (n : HalfOctets) (at : ℕ) (s : List ℕ) → Agrees at (digitsGood z n) s
       → Shows good size at (at + length s) (digitsFault z n at s)
   unfolding digitsFault
   digits-shown z n at s g = halves-shown z (n .0) at s g
 
-  number-shown : (z : Alphabet) (at : ℕ) (s : List ℕ) → Agrees at (numberGood z s) s → Shows good size at (at + length s) (numberFaultIn z at s)
+  number-shown : (z : Alphabet) (at : ℕ) (s : List ℕ) → Agrees at (numberGood z s) s
+      → Shows good size at (at + length s) (numberFaultIn z at s)
   unfolding numberFaultIn
   number-shown z at s g =
       formed-shown at (at + length s) (not (ltb (length s) 2)) _
@@ -315,7 +321,7 @@ module _ (good : ℕ → Bool) (size : ℕ) where
   cut-shown m a b true g = form-shown a b
   cut-shown m a b false g = other-shown a b wrong-order 0 (λ e. omega arith) (inr m)
 
-  ordered-shown : 0 < size → (a b : ℕ) (t : Bool) → ((j : ℕ) → a ≤ j → j < b → good j ≡ true) → Shows good size a b (ordered t)
+  ordered-shown : 0 < size → (a b : ℕ) (t : Bool) → AllGood good a b → Shows good size a b (ordered t)
   ordered-shown m a b true g = all-good a b g
   ordered-shown m a b false g = other-shown a b wrong-order 0 (λ e. omega arith) (inr m)
 
@@ -340,7 +346,8 @@ module _ (good : ℕ → Bool) (size : ℕ) where
       go : (b : Bool) → leb n (length xs) ≡ b
           → ((j : ℕ) → at + 0 ≤ j → j < at + suc (length xs)
           → good j ≡ parametersGood (cond b (parOf at x n xs ∷ pars orderSize n (at + 1) xs) []) j (getD (x ∷ xs) (j - at) 0))
-          → ((before : List ℕ) → InParameters n (at + 1) xs → Shows good size (at + 1 + n) (at + 1 + length xs) (parametersFault form before n (at + 1) xs))
+          → ((before : List ℕ) → InParameters n (at + 1) xs
+          → Shows good size (at + 1 + n) (at + 1 + length xs) (parametersFault form before n (at + 1) xs))
           → Shows good size (at + 0) (at + suc (length xs))
           (faultThen
           (faultThen (ordered (mayStand form x && not (among x before))) (formedThen b (layoutFault (layoutOf x) (at + 1) (take n xs))))
@@ -365,7 +372,7 @@ module _ (good : ℕ → Bool) (size : ℕ) where
           end : at + 1 + length xs ≡ at + suc (length xs)
           end = omega arith
 
-          header : (j : ℕ) → at + 0 ≤ j → j < at + 1 → good j ≡ true
+          header : AllGood good (at + 0) (at + 1)
           header j p q = g j p (omega arith) ∙ rw (le-leb j (at + length own) (omega arith), lt-ltb j (at + 1) q)
 
           inside : Agrees (at + 1) (layoutGood (layoutOf x) own) own

@@ -349,7 +349,9 @@ inner-none q i five =
 
 -- a part of a part
 part-of : (a n b k : ℕ) (m : List ℕ) → a + n ≤ k → take n (drop a (take k (drop b m))) ≡ take n (drop (b + a) m)
-part-of a n b k m l = ap (take n) (sym (from-to a k (drop b m))) ∙ rw (take-take n (k - a) (drop a (drop b m)) (omega arith), drop-drop a b m)
+part-of a n b k m l =
+    ap (take n) (sym (from-to a k (drop b m)))
+    ∙ rw (take-take n (k - a) (drop a (drop b m)) (omega arith), drop-drop a b m)
 
 module _ (m : List ℕ) (c one : Par) (five : c .head ≡ transfer-data)
     (lies : Lies commonSize m c) (inner : Lies transferSize (dataIn c) one) where
@@ -415,7 +417,8 @@ shown m p e =
     let t = transfers-shown (dataIn c) (w .2) (w .3) in
     let parameters = s .whole n refl (w .1) in
     let lies = each-right (Lies commonSize m) (commonsOf m) _ (rw parameters at (pars-lie commonSize m m 0 0 refl)) .0 in
-    let inner = each-right (Lies transferSize (dataIn c)) (t .front) _ (rw (t .parameters) at (pars-lie transferSize (dataIn c) (dataIn c) 0 0 refl)) .0 in
+    let within = rw (t .parameters) at (pars-lie transferSize (dataIn c) (dataIn c) 0 0 refl) in
+    let inner = each-right (Lies transferSize (dataIn c)) (t .front) _ within .0 in
     record {
       ahead = commonsOf m;
       c = c;
