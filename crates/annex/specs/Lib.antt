@@ -28,6 +28,7 @@ pub mod Bench
 pub mod Tariffs
 pub mod Circles
 pub mod Sequences
+pub mod BadDigits
 -- And what the functions give that serve these: no rules of the documents, and no promise of the product rests on them.
 pub mod Walking
 pub mod Ordering

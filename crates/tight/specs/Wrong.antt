@@ -77,6 +77,10 @@ shorter = Replacing (0x98 ∷ 0x02 ∷ 0x21 ∷ []) 0
 abbrev pub another : Edit
 another = Appending (0x41 ∷ 0x01 ∷ [])
 
+-- 90 with three digits, of which the first is bad, and bad filler: its contents stand from 7 on, its first bad octet is at 8
+abbrev pub bad : List ℕ
+bad = K ++ (0xC5 ∷ 0x04 ∷ 0x90 ∷ 0x03 ∷ 0x20 ∷ 0x1A ∷ 0x00 ∷ [])
+
 -- M with two octets past it
 abbrev pub roomy : List ℕ
 roomy = M ++ (0xEE ∷ 0xEE ∷ [])
@@ -84,6 +88,7 @@ roomy = M ++ (0xEE ∷ 0xEE ∷ [])
 -- what the definitions say, computed once
 pub record Said : Type 0 where
   pub verdict-cut : verdictOf K ≡ Refused 4 4
+  pub verdict-bad : verdictOf bad ≡ Refused 13 8
   pub reading-short : readingOf short .answer ≡ Accepted 5
   pub reading-M : readingOf M .«record» ≡ pack recordOfM
   pub own-call : findPart M (commonFound 0x83 M) ≡ 0x39 ∷ 0x30 ∷ 0x00 ∷ []
@@ -116,6 +121,7 @@ unfolding afterOf leadOf commonExtentOf extentOf nameUsed pliRight oftenOf zeroe
 said =
     record {
       verdict-cut = refl;
+      verdict-bad = refl;
       reading-short = refl;
       reading-M = refl;
       own-call = refl;
@@ -138,13 +144,23 @@ said =
       removed-rest = refl;
     }
 
--- ---- verdict: one that accepts everything; one that places every refusal at 0
+-- ---- verdict: one that accepts everything; one that places every refusal at 0; of 13, one that looks at the filler before the digits, one
+-- that counts the place from the contents, and one that tells the header's
 
 pub accepts-all : (n : ℕ) → VerdictPromise K (Accepted n) → ⊥
 accepts-all n p = let z : _≡_ {A = ℕ} 0 4 = ap numberOf (p ∙ said .verdict-cut) in omega arith
 
 pub places-at-0 : (k : ℕ) → VerdictPromise K (Refused k 0) → ⊥
 places-at-0 k p = let z : _≡_ {A = ℕ} 0 4 = ap placeOf (p ∙ said .verdict-cut) in omega arith
+
+pub filler-first : VerdictPromise bad (Refused 13 9) → ⊥
+filler-first p = let z : _≡_ {A = ℕ} 9 8 = ap placeOf (p ∙ said .verdict-bad) in omega arith
+
+pub counts-from-contents : VerdictPromise bad (Refused 13 1) → ⊥
+counts-from-contents p = let z : _≡_ {A = ℕ} 1 8 = ap placeOf (p ∙ said .verdict-bad) in omega arith
+
+pub tells-the-header : VerdictPromise bad (Refused 13 6) → ⊥
+tells-the-header p = let z : _≡_ {A = ℕ} 6 8 = ap placeOf (p ∙ said .verdict-bad) in omega arith
 
 -- ---- read: one that refuses everything; one that knows only case 2; one that opens only the first transfer parameter
 
