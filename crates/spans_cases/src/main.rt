@@ -10,6 +10,7 @@ fn main() {
     common_part();
     transfer_headers();
     transfer_contents();
+    bad_digits();
     charging();
     connection_order();
 }
@@ -118,6 +119,25 @@ fn transfer_contents() {
     case(
         b"13: code 10 in a number",
         b"\x01\x01\x06\x11\xc5\x05\xd7\x03\x83\x11\x0a\x00",
+    );
+}
+
+fn bad_digits() {
+    case(
+        b"13: a digit and the filler, shown at the digit",
+        b"\x01\x01\x06\x11\xc5\x04\x90\x03\x20\x1a\x00",
+    );
+    case(
+        b"13: the filler alone, in the octet behind",
+        b"\x01\x01\x06\x11\xc5\x04\x90\x03\x21\x1a\x00",
+    );
+    case(
+        b"13: the high half of DC's second digit octet",
+        b"\x01\x01\x06\x11\xc5\x06\xdc\x04\x03\x11\x21\xd0\x00",
+    );
+    case(
+        b"13: DA behind another parameter",
+        b"\x01\x01\x06\x11\xc5\x09\x41\x01\xda\x05\x06\x83\x11\xa1\x13\x00",
     );
 }
 
