@@ -21,7 +21,8 @@ pub(crate) struct Coding {
     digits: [[u8; 2]; 256],
 }
 
-/// Stands where a spare code has no digit value.
+/// Stands where a spare code has no digit value: all bits are set, so that one
+/// of it among digit values shows in their union.
 const SPARE: u8 = 0xFF;
 
 /// The coding under PLI 10: zero is 10, and code 0 is spare.
@@ -59,10 +60,18 @@ impl Coding {
             Some((&last, pairs)) if odd => (pairs, Some(last)),
             _ => (octets, None),
         };
-        let is_bad_pair = |&octet: &u8| self.pair(octet).contains(&SPARE);
+        // All pairs are looked at in one go, which is quick where nothing is wrong
+        // with them; which of them is bad is asked only where one is.
+        let union = pairs.iter().fold(0, |union, &octet| {
+            let [low, high] = self.pair(octet);
+            union | low | high
+        });
+        if union == SPARE {
+            let is_bad = |&octet: &u8| self.pair(octet).contains(&SPARE);
+            return none_bad(pairs.iter().position(is_bad));
+        }
         let is_bad_last = |octet: u8| octet >= 0x10 || !self.lists(octet);
-        let bad_last = || last.is_some_and(is_bad_last).then_some(pairs.len());
-        none_bad(pairs.iter().position(is_bad_pair).or_else(bad_last))
+        none_bad(last.is_some_and(is_bad_last).then_some(pairs.len()))
     }
 
     fn lists(&self, code: u8) -> bool {

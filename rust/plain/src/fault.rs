@@ -1,10 +1,12 @@
-//! What can be wrong with the contents of a transfer parameter.
+//! What can be wrong with a transfer parameter.
 
 use crate::refusal::Refusal;
 
-/// What is wrong with contents.
+/// What is wrong with it.
 #[derive(Clone, Copy, Debug, PartialEq, Eq)]
 pub(crate) enum Fault {
+    /// The number of what is wrong with its header, or 11.
+    Header(u8),
     /// A zero bit is set, or the form is bad.
     Form,
     /// A digit is spare, a character may not be there, or the filler is not 0.
@@ -26,12 +28,23 @@ impl Fault {
             _ => self,
         }
     }
+
+    /// The refusal in reading, of a parameter whose header stands at `offset`: the
+    /// place of 13 is the bad octet's, that of all others the header's.
+    pub(crate) fn placed(self, offset: usize) -> Refusal {
+        let place = match self {
+            Fault::Digit { at } => offset + at,
+            _ => offset,
+        };
+        Refusal::new(self.into(), place)
+    }
 }
 
 /// The number alone: writing and editing tell no more of a fault.
 impl From<Fault> for u8 {
     fn from(fault: Fault) -> u8 {
         match fault {
+            Fault::Header(number) => number,
             Fault::Form => Refusal::BAD_FORM,
             Fault::Digit { .. } => Refusal::SPARE_DIGIT,
             Fault::CheckDigit => Refusal::CHECK_DIGIT,

@@ -110,7 +110,7 @@ fn walk_transfer_data<V: Visitor>(data: Parameter<'_>, visitor: &mut V) -> Resul
     let mut rest = data.contents;
     let mut offset = data.start;
     while let Some(&header) = rest.first() {
-        let contents = check_transfer(rest, offset, &mut names)?;
+        let contents = check_transfer(rest, &mut names).map_err(|fault| fault.placed(offset))?;
         let end = contents.end;
         visitor.transfer(Parameter {
             offset,
@@ -124,27 +124,16 @@ fn walk_transfer_data<V: Visitor>(data: Parameter<'_>, visitor: &mut V) -> Resul
     Ok(())
 }
 
-/// Tries 8 to 13, 18 and 19 on the transfer parameter that begins `octets`, whose
-/// header stands at `offset` in the message; gives where in `octets` its contents
-/// stand. The place of 13 is the bad octet's, that of all others the header's.
-fn check_transfer(
-    octets: &[u8],
-    offset: usize,
-    names: &mut Names,
-) -> Result<Range<usize>, Refusal> {
-    let at_header = |number| Refusal::new(number, offset);
+/// Tries 8 to 13, 18 and 19 on the transfer parameter that begins `octets`;
+/// gives where its contents stand.
+fn check_transfer(octets: &[u8], names: &mut Names) -> Result<Range<usize>, Fault> {
     let header = octets[0];
-    let layout = transfer::check_header(header).map_err(at_header)?;
-    names.enter(header).map_err(at_header)?;
-    let contents = transfer::contents_of(octets).ok_or(at_header(Refusal::CONTENTS_CUT))?;
-    match transfer::check_contents(layout, &octets[contents.clone()]) {
-        Ok(()) => Ok(contents),
-        Err(Fault::Digit { at }) => {
-            let place = offset + contents.start + at;
-            Err(Refusal::new(Refusal::SPARE_DIGIT, place))
-        }
-        Err(fault) => Err(at_header(fault.into())),
-    }
+    let layout = transfer::check_header(header).map_err(Fault::Header)?;
+    names.enter(header).map_err(Fault::Header)?;
+    let contents = transfer::contents_of(octets).ok_or(Fault::Header(Refusal::CONTENTS_CUT))?;
+    transfer::check_contents(layout, &octets[contents.clone()])
+        .map_err(|fault| fault.behind(contents.start))?;
+    Ok(contents)
 }
 
 /// A visitor that wants to know nothing.
