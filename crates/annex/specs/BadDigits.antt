@@ -1,6 +1,6 @@
 -- Examples of what 13 shows: document 02, request e: of each kind of contents a bad low half, a bad high half, bad filler and more than one
--- of these; the numbers that stay at the header; writing and edits; and which octets are bad, under one statement. The request's own example
--- is case 13 of the bench table; each character of F7 and E0 is in Tariffs and Circles.
+-- of these; the numbers that stay at the header; writing and edits; and which octets are bad, under one statement. The request's own
+-- example is case 13 of the bench table; each character of F7 and E0 is in Tariffs and Circles.
 use Prim.Native.Nat.{ℕ, _+_}
 use mathlib.Core.Path.{_≡_, refl}
 use mathlib.Core.Bool.{cond}

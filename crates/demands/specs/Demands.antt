@@ -127,12 +127,13 @@ pub record PackedLending (before : List ℕ) (d : Answer) (P : ℕ → List ℕ 
   pub numbered : HasNumber d
   pub kept : (r : ℕ) (now : List ℕ) → P r now → 0 < packedNumber r → now ≡ before
 
--- And the place of a 13 shows the first bad octet of the message (document 02, request e), whichever function reads it. Of its own new
--- parameter an edit tells the place 0.
+-- And the place of a 13 shows the first bad octet of the message (document 02, request e), whichever function reads it; there is one such
+-- place at most. Of its own new parameter an edit tells the place 0.
 abbrev pub packedPlace : ℕ → ℕ
 packedPlace r = r / 65536 % 65536
 
 pub record Showing (m : List ℕ) : Type 0 where
+  pub one-place : (p q : ℕ) → ShownAt m p → ShownAt m q → p ≡ q
   pub verdict : (p : ℕ) → VerdictPromise m (Refused bad-digit p) → ShownAt m p
   pub read : (q : Record) (p : ℕ) → ReadPromise m (record { answer = Refused bad-digit p; «record» = q }) → ShownAt m p
   pub find-common : (h p : ℕ) → FindCommonAnswerPromise m h (Refused bad-digit p) → ShownAt m p

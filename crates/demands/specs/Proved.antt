@@ -87,6 +87,7 @@ use Rattle.theorems.specs.Ordered.{
 }
 use Rattle.theorems.specs.Shown.{
   shown,
+  one-shown,
   Passes,
   find-passes,
   spans-passes,
@@ -266,6 +267,7 @@ edit-packed e d n r f g = go (editingOf e d n) refl f
 shows : (m : List ℕ) → Showing m
 shows m =
     record {
+      one-place = one-shown m;
       verdict = λ p e. shown m p (sym e);
       read = λ q p e. shown m p (sym (read-verdict m _ e));
       find-common = λ h p e. shown m p (find-passes m (commonFound h m) p (sym e));

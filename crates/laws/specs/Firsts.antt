@@ -247,7 +247,8 @@ module _ (good : ℕ → Bool) (size : ℕ) where
       let here : at + 0 ≡ at = omega arith in
       let next = next-agrees at (digitsGood z (record { 0 = n })) (digitsGood z (record { 0 = n - 2 })) x s (fewer z n) g in
       rw (digits-turn z n at x s)
-      (tested-shown at (at + suc (length s)) (omega arith) _ _ (rw here at (g 0 (omega arith))) (rw end at (halves-shown z (n - 2) (at + 1) s next)))
+      (tested-shown at (at + suc (length s)) (omega arith) _ _ (rw here at (g 0 (omega arith)))
+      (rw end at (halves-shown z (n - 2) (at + 1) s next)))
 
   digits-shown : (z : Alphabet) (n : HalfOctets) (at : ℕ) (s : List ℕ) → Agrees at (digitsGood z n) s
       → Shows good size at (at + length s) (digitsFault z n at s)

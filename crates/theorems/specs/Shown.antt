@@ -2,11 +2,11 @@
 -- parameter before that one has a bad octet. Any other number of a transfer parameter is told at its header.
 use Prim.Native.Nat.{ℕ, zero, suc, _+_, _-_, _≤_}
 use native.Mathlib.Omega.{arith}
-use mathlib.Core.Path.{_≡_, refl, sym, ap, _∙_}
+use mathlib.Core.Path.{_≡_, refl, sym, ap, subst, _∙_}
 use mathlib.Core.Bool.{Bool, true, false, cond, not, _||_}
 use mathlib.Core.List.{List, [], _∷_, _++_}
 use mathlib.Core.Logic.{_⊎_, inl, inr}
-use borrow.Author.Tests.{ltb-false, le-leb, eqb-true}
+use borrow.Author.Tests.{ltb-true, ltb-false, le-leb, eqb-true}
 use lib.Dec.{eqb, leb, ltb}
 use lib.ListN.{length, getD, take, drop, length-drop}
 use lib.Seq.{getD-take, getD-drop, take-take, drop-drop}
@@ -75,7 +75,7 @@ use Rattle.annex.specs.Reading.{
   commonsBy,
   transfersBy,
 }
-use Rattle.annex.specs.BadHalves.{FirstBad, ownContents, NoneBadOf, NoneBadIn, headerIn, startIn, ShownAt}
+use Rattle.annex.specs.BadHalves.{badAt, FirstBad, transferPars, ownContents, NoneBadOf, NoneBadIn, headerIn, startIn, ShownAt}
 use Rattle.annex.specs.Image.{imageOf}
 use Rattle.annex.specs.Finding.{foundAnswer, findAnswer, findPart}
 use Rattle.annex.specs.Spans.{rowsOf, spansOf, spansBy}
@@ -438,6 +438,50 @@ shown m p e =
       none-ahead = each-so InnerSound NoneBadIn inner-none (commonsOf m) (commons-inner m);
       none-before = t .none-before;
     }
+
+-- ---- there is one such place
+
+-- the first of a list that some property does not hold of
+first-same : {A : Type 0} (P : A → Type 0) (front : List A) (x : A) (back other : List A) (y : A) (rest : List A)
+    → front ++ (x ∷ back) ≡ other ++ (y ∷ rest) → Each P front → Each P other → (P x → ⊥) → (P y → ⊥) → x ≡ y
+first-same P [] x back [] y rest e f o m n = cc
+first-same P [] x back (z ∷ other) y rest e f o m n = absurd (let same : z ≡ x = cc in m (subst P same (o .0)))
+first-same P (z ∷ front) x back [] y rest e f o m n = absurd (let same : z ≡ y = cc in n (subst P same (f .0)))
+first-same P (z ∷ front) x back (w ∷ other) y rest e f o m n =
+    let behind : front ++ (x ∷ back) ≡ other ++ (y ∷ rest) = cc in
+    first-same P front x back other y rest behind (f .1) (o .1) m n
+
+first-offset : (h : ℕ) (s : List ℕ) (i j : ℕ) → FirstBad h s i → FirstBad h s j → i ≡ j
+first-offset h s i j a b = go (ltb i j) refl (ltb j i) refl
+  where
+    both : (k : ℕ) → badAt h s k ≡ true → badAt h s k ≡ false → ⊥
+    both k t f = absurd (let z : _≡_ {A = ℕ} 0 1 = cc in omega arith)
+
+    go : (t : Bool) → ltb i j ≡ t → (u : Bool) → ltb j i ≡ u → i ≡ j
+    go true e u f = absurd (both i (a .bad) (b .before i (ltb-true i j e)))
+    go false e true f = absurd (both j (b .bad) (a .before j (ltb-true j i f)))
+    go false e false f = omega (arith, ltb-false i j e, ltb-false j i f)
+
+-- a parameter, and transfer data, with a bad octet
+one-bad : (q : Par) (i : ℕ) → FirstBad (q .head) (ownContents q) i → NoneBadOf q → ⊥
+one-bad q i f n = let g = n i (f .within) in let b = f .bad in absurd (let z : _≡_ {A = ℕ} 0 1 = cc in omega arith)
+
+data-bad : (m : List ℕ) (p : ℕ) → (w : ShownAt m p) → NoneBadIn (w .c) → ⊥
+data-bad m p w n = one-bad (w .one) (w .offset) (w .first) (each-right NoneBadOf (w .front) _ (rw (w .parameters) at (n (w .transfers))) .0)
+
+pub one-shown : (m : List ℕ) (p q : ℕ) → ShownAt m p → ShownAt m q → p ≡ q
+one-shown m p q v w =
+    let same-c =
+    first-same NoneBadIn (v .ahead) (v .c) (v .rest) (w .ahead) (w .c) (w .rest) (sym (v .commons) ∙ w .commons) (v .none-ahead)
+    (w .none-ahead) (data-bad m p v) (data-bad m q w) in
+    let same-one =
+    first-same NoneBadOf (v .front) (v .one) (v .back) (w .front) (w .one) (w .back)
+    (sym (v .parameters) ∙ ap transferPars same-c ∙ w .parameters) (v .none-before) (w .none-before)
+    (one-bad (v .one) (v .offset) (v .first)) (one-bad (w .one) (w .offset) (w .first)) in
+    let first = subst (λ (r : Par). FirstBad (r .head) (ownContents r) (w .offset)) (sym same-one) (w .first) in
+    let same-offset = first-offset (v .one .head) (ownContents (v .one)) (v .offset) (w .offset) (v .first) first in
+    v .place ∙ ap (λ (c : Par). startIn c (v .one) + v .offset) same-c ∙ ap (λ (r : Par). startIn (w .c) r + v .offset) same-one
+    ∙ ap (λ (i : ℕ). startIn (w .c) (w .one) + i) same-offset ∙ sym (w .place)
 
 -- ---- the calls that pass it on
 
