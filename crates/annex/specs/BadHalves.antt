@@ -100,9 +100,11 @@ parametersGood (q ∷ qs) j x =
     cond (leb j (q .place + length (q .own))) (behind (q .place + 1) (layoutGood (layoutOf (q .head)) (q .own)) j x)
     (parametersGood qs j x)
 
+-- E0: its parameters behind the form, by the length rule
 abbrev pub orderGood : List ℕ → Good
 orderGood s = parametersGood (orderPars s)
 
+-- contents that a record holds as they are, by their check; and all contents, by their form
 abbrev pub checkGood : Check → List ℕ → Good
 checkGood Nothing s = unread
 checkGood (Long n) s = unread
@@ -147,12 +149,13 @@ NoneBadOf q = NoneBad (q .head) (ownContents q)
 abbrev pub NoneBadIn : Par → Type 0
 NoneBadIn c = c .head ≡ transfer-data → Each NoneBadOf (transferPars c)
 
--- where the header of one stands in the message, and where its contents start
+-- where the header of one stands in the message, in transfer data behind the header and the length octet of C5; and where its contents
+-- start
 abbrev pub headerIn : Par → Par → ℕ
 headerIn c q = c .place + 2 + q .place
 
-abbrev pub startIn : Par → Par → ℕ
-startIn c q = headerIn c q + 1 + leadOf (extentOf (q .head))
+abbrev pub contentsStart : Par → Par → ℕ
+contentsStart c q = headerIn c q + 1 + leadOf (extentOf (q .head))
 
 -- the place p of the message m is that of the first bad octet of `one`, a parameter of the transfer data c, and no parameter before it has
 -- a bad octet
@@ -168,11 +171,11 @@ pub record ShownAt (m : List ℕ) (p : ℕ) : Type 0 where
   pub parameters : transferPars c ≡ front ++ (one ∷ back)
   -- `one` stands in the message, its header and its contents from end to end
   pub header : getD m (headerIn c one) 0 ≡ one .head
-  pub contents : ownContents one ≡ take (length (ownContents one)) (drop (startIn c one) m)
-  pub inside : startIn c one + length (ownContents one) ≤ length m
+  pub contents : ownContents one ≡ take (length (ownContents one)) (drop (contentsStart c one) m)
+  pub inside : contentsStart c one + length (ownContents one) ≤ length m
   -- the octet at p is its first bad one
   pub offset : ℕ
-  pub place : p ≡ startIn c one + offset
+  pub place : p ≡ contentsStart c one + offset
   pub first : FirstBad (one .head) (ownContents one) offset
   -- and nothing before is bad
   pub none-ahead : Each NoneBadIn ahead

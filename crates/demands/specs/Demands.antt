@@ -116,6 +116,10 @@ pub record Lending {A : Type 0} (before : List A) (P : Answer → List A → Typ
 abbrev pub packedNumber : ℕ → ℕ
 packedNumber r = r / 4294967296
 
+-- and its place
+abbrev pub packedPlace : ℕ → ℕ
+packedPlace r = r / 65536 % 65536
+
 -- of a function for Rust and C, whose number is that of an answer
 pub record PackedAnswering (number : ℕ) (P : ℕ → Type 0) : Type 0 where
   pub fixed : (r s : ℕ) → P r → P s → r ≡ s
@@ -129,9 +133,6 @@ pub record PackedLending (before : List ℕ) (d : Answer) (P : ℕ → List ℕ 
 
 -- And the place of a 13 shows the first bad octet of the message (document 02, request e), whichever function reads it; there is one such
 -- place at most. Of its own new parameter an edit tells the place 0.
-abbrev pub packedPlace : ℕ → ℕ
-packedPlace r = r / 65536 % 65536
-
 pub record Showing (m : List ℕ) : Type 0 where
   pub one-place : (p q : ℕ) → ShownAt m p → ShownAt m q → p ≡ q
   pub verdict : (p : ℕ) → VerdictPromise m (Refused bad-digit p) → ShownAt m p

@@ -93,8 +93,48 @@ use Rattle.laws.specs.Halves.{first-left, half-turn}
 use Rattle.laws.specs.Orders.{after-some}
 
 -- 12 at the start of contents of so many octets, though there may be none, or at an octet
-abbrev pub Placed : ℕ → ℕ → ℕ → Type 0
-Placed size k i = ((k ≡ bad-form) × (i ≡ 0)) ⊎ (i < size)
+abbrev pub LiesIn : ℕ → ℕ → ℕ → Type 0
+LiesIn size k i = ((k ≡ bad-form) × (i ≡ 0)) ⊎ (i < size)
+
+-- ---- octets that are good
+
+-- both halves of one octet
+both : (l h : Bool) (f : Fault) (a : ℕ) → cond l (cond h f (Bad bad-digit a)) (Bad bad-digit a) ≡ cond (l && h) f (Bad bad-digit a)
+both true h f a = refl
+both false h f a = refl
+
+digits-turn : (z : Alphabet) (n at x : ℕ) (s : List ℕ)
+    → halvesFault z n (2 * at) (halves (x ∷ s))
+    ≡ cond (digitsGood z (record { 0 = n }) 0 x) (halvesFault z (n - 2) (2 * (at + 1)) (halves s)) (Bad bad-digit at)
+unfolding halves
+digits-turn z n at x s =
+    let low : 2 * at / 2 ≡ at = omega arith in
+    let high : (2 * at + 1) / 2 ≡ at = omega arith in
+    let next : 2 * at + 1 + 1 ≡ 2 * (at + 1) = omega arith in
+    half-turn z n (2 * at) (x % 16) (x / 16 ∷ halves s) (ltb 0 n) (n - 1) refl refl
+    ∙ rw (half-turn z (n - 1) (2 * at + 1) (x / 16) (halves s) (ltb 1 n) (n - 2) (first-left 1 n) (omega arith), low, high, next)
+    (both (halfGood z (record { 0 = n }) 0 (x % 16)) (halfGood z (record { 0 = n }) 1 (x / 16)) _ at)
+
+fewer : (z : Alphabet) (n j y : ℕ) → digitsGood z (record { 0 = n }) (suc j) y ≡ digitsGood z (record { 0 = n - 2 }) j y
+fewer z n j y = rw (less (2 * j) (2 * suc j) (omega arith), less (2 * j + 1) (2 * suc j + 1) (omega arith))
+  where
+    less : (i k : ℕ) → k ≡ i + 2 → ltb k n ≡ ltb i (n - 2)
+    less i k e = go (ltb i (n - 2)) refl
+      where
+        go : (b : Bool) → ltb i (n - 2) ≡ b → ltb k n ≡ b
+        go true t = lt-ltb k n (omega (arith, ltb-true i (n - 2) t))
+        go false t = le-ltb k n (omega (arith, ltb-false i (n - 2) t))
+
+-- octets before the first parameter
+early-good : (at j y : ℕ) (xs : List ℕ) → j < at → parametersGood (pars orderSize 0 at xs) j y ≡ true
+unfolding pars parametersGood
+early-good at j y [] l = refl
+early-good at j y (x ∷ xs) l = go (leb (orderSize x xs) (length xs))
+  where
+    go : (b : Bool)
+        → parametersGood (cond b (parOf at x (orderSize x xs) xs ∷ pars orderSize (orderSize x xs) (at + 1) xs) []) j y ≡ true
+    go true = rw (le-leb j (at + length (take (orderSize x xs) xs)) (omega arith), lt-ltb j (at + 1) (omega arith))
+    go false = refl
 
 -- ---- what a fault shows of the octets from a to b
 
@@ -106,7 +146,7 @@ AllGood good a b = (j : ℕ) → a ≤ j → j < b → good j ≡ true
 pub record Shows (good : ℕ → Bool) (size a b : ℕ) (f : Fault) : Type 0 where
   pub sound : f ≡ Sound → AllGood good a b
   pub bad : (i : ℕ) → f ≡ Bad bad-digit i → (a ≤ i) × (i < b) × (good i ≡ false) × AllGood good a i
-  pub other : (k i : ℕ) → f ≡ Bad k i → (k ≡ bad-digit) ⊎ Placed size k i
+  pub other : (k i : ℕ) → f ≡ Bad k i → (k ≡ bad-digit) ⊎ LiesIn size k i
 
 module _ (good : ℕ → Bool) (size : ℕ) where
   all-good : (a b : ℕ) → AllGood good a b → Shows good size a b Sound
@@ -118,7 +158,7 @@ module _ (good : ℕ → Bool) (size : ℕ) where
       }
 
   -- another number shows nothing
-  other-shown : (a b k i : ℕ) → (k ≡ bad-digit → ⊥) → Placed size k i → Shows good size a b (Bad k i)
+  other-shown : (a b k i : ℕ) → (k ≡ bad-digit → ⊥) → LiesIn size k i → Shows good size a b (Bad k i)
   other-shown a b k i n p =
       record {
         sound = λ e. absurd (let z : _≡_ {A = ℕ} 0 1 = cc in omega arith);
@@ -210,33 +250,6 @@ module _ (good : ℕ → Bool) (size : ℕ) where
       ∙ rw (le-ltb (k + j) k (omega arith), less, getD-drop k s j 0))))
 
   -- ---- digits, characters and drawn octets
-
-  -- both halves of one octet
-  both : (l h : Bool) (f : Fault) (a : ℕ) → cond l (cond h f (Bad bad-digit a)) (Bad bad-digit a) ≡ cond (l && h) f (Bad bad-digit a)
-  both true h f a = refl
-  both false h f a = refl
-
-  digits-turn : (z : Alphabet) (n at x : ℕ) (s : List ℕ)
-      → halvesFault z n (2 * at) (halves (x ∷ s))
-      ≡ cond (digitsGood z (record { 0 = n }) 0 x) (halvesFault z (n - 2) (2 * (at + 1)) (halves s)) (Bad bad-digit at)
-  unfolding halves
-  digits-turn z n at x s =
-      let low : 2 * at / 2 ≡ at = omega arith in
-      let high : (2 * at + 1) / 2 ≡ at = omega arith in
-      let next : 2 * at + 1 + 1 ≡ 2 * (at + 1) = omega arith in
-      half-turn z n (2 * at) (x % 16) (x / 16 ∷ halves s) (ltb 0 n) (n - 1) refl refl
-      ∙ rw (half-turn z (n - 1) (2 * at + 1) (x / 16) (halves s) (ltb 1 n) (n - 2) (first-left 1 n) (omega arith), low, high, next)
-      (both (halfGood z (record { 0 = n }) 0 (x % 16)) (halfGood z (record { 0 = n }) 1 (x / 16)) _ at)
-
-  fewer : (z : Alphabet) (n j y : ℕ) → digitsGood z (record { 0 = n }) (suc j) y ≡ digitsGood z (record { 0 = n - 2 }) j y
-  fewer z n j y = rw (less (2 * j) (2 * suc j) (omega arith), less (2 * j + 1) (2 * suc j + 1) (omega arith))
-    where
-      less : (i k : ℕ) → k ≡ i + 2 → ltb k n ≡ ltb i (n - 2)
-      less i k e = go (ltb i (n - 2)) refl
-        where
-          go : (b : Bool) → ltb i (n - 2) ≡ b → ltb k n ≡ b
-          go true t = lt-ltb k n (omega (arith, ltb-true i (n - 2) t))
-          go false t = le-ltb k n (omega (arith, ltb-false i (n - 2) t))
 
   halves-shown : (z : Alphabet) (n at : ℕ) (s : List ℕ) → Agrees at (digitsGood z (record { 0 = n })) s
       → Shows good size at (at + length s) (halvesFault z n (2 * at) (halves s))
@@ -393,17 +406,6 @@ module _ (good : ℕ → Bool) (size : ℕ) where
           later j p q =
               let next : j - at ≡ suc (j - (at + 1)) = omega arith in
               g j (omega arith) (omega arith) ∙ rw (lt-leb j (at + length own) (omega (arith, long)), next)
-
-  -- octets before the first parameter
-  early-good : (at j y : ℕ) (xs : List ℕ) → j < at → parametersGood (pars orderSize 0 at xs) j y ≡ true
-  unfolding pars parametersGood
-  early-good at j y [] l = refl
-  early-good at j y (x ∷ xs) l = go (leb (orderSize x xs) (length xs))
-    where
-      go : (b : Bool)
-          → parametersGood (cond b (parOf at x (orderSize x xs) xs ∷ pars orderSize (orderSize x xs) (at + 1) xs) []) j y ≡ true
-      go true = rw (le-leb j (at + length (take (orderSize x xs) xs)) (omega arith), lt-ltb j (at + 1) (omega arith))
-      go false = refl
 
   order-shown : (s : List ℕ) → length s ≤ size → Agrees 0 (orderGood s) s → Shows good size 0 (0 + length s) (orderFault s)
   unfolding orderFault

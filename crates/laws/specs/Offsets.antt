@@ -33,11 +33,11 @@ use Rattle.annex.specs.declared.Alphabet.{Alphabet}
 use Rattle.annex.specs.declared.Alphabet.the-variants.{Dialled, Decimal}
 use Rattle.annex.specs.declared.Fault.{Fault}
 use Rattle.annex.specs.declared.Fault.the-variants.{Sound, Bad}
-use Rattle.laws.specs.Firsts.{Placed, Shows, fault-shown}
+use Rattle.laws.specs.Firsts.{LiesIn, Shows, fault-shown}
 
--- a fault of contents of n octets
+-- a fault of contents of n octets lies in them
 pub record Within (n : ℕ) (f : Fault) : Type 0 where
-  pub at : (k j : ℕ) → f ≡ Bad k j → Placed n k j
+  pub at : (k j : ℕ) → f ≡ Bad k j → LiesIn n k j
 
 pub fault-within : (h : ℕ) (s : List ℕ) → Within (length s) (faultOf h s)
 fault-within h s = record { at = λ k j e. by k j e (shown .other k j e) }
@@ -45,7 +45,7 @@ fault-within h s = record { at = λ k j e. by k j e (shown .other k j e) }
     shown : Shows (λ j. goodBy (formOf h) s j (getD s j 0)) (length s) 0 (0 + length s) (faultOf h s)
     shown = fault-shown h s
 
-    by : (k j : ℕ) → faultOf h s ≡ Bad k j → (k ≡ bad-digit) ⊎ Placed (length s) k j → Placed (length s) k j
+    by : (k j : ℕ) → faultOf h s ≡ Bad k j → (k ≡ bad-digit) ⊎ LiesIn (length s) k j → LiesIn (length s) k j
     by k j e (inl q) = inr (omega (arith, shown .bad j (e ∙ rw q) .1))
     by k j e (inr p) = p
 
@@ -58,7 +58,7 @@ pub offset-within : (n : ℕ) (f : Fault) → Within n f → offsetOf f < 1 + n
 offset-within n Sound w = omega arith
 offset-within n (Bad k i) w = go (w .at k i refl)
   where
-    go : Placed n k i → i < 1 + n
+    go : LiesIn n k i → i < 1 + n
     go (inl o) = omega (arith, o .1)
     go (inr l) = omega arith
 
@@ -66,7 +66,7 @@ offset-within n (Bad k i) w = go (w .at k i refl)
 pub reading-within : (lead n : ℕ) (f : Fault) → Within n f → (k i : ℕ) → f ≡ Bad k i → readingAt (1 + lead) k i ≤ lead + n
 reading-within lead n f w k i e = go (eqb k bad-digit) refl (w .at k i e)
   where
-    go : (b : Bool) → eqb k bad-digit ≡ b → Placed n k i → cond b (1 + lead + i) 0 ≤ lead + n
+    go : (b : Bool) → eqb k bad-digit ≡ b → LiesIn n k i → cond b (1 + lead + i) 0 ≤ lead + n
     go false t o = omega arith
     go true t (inl o) = absurd (omega (arith, eqb-true k bad-digit t, o .0))
     go true t (inr l) = omega arith

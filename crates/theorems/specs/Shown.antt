@@ -75,7 +75,7 @@ use Rattle.annex.specs.Reading.{
   commonsBy,
   transfersBy,
 }
-use Rattle.annex.specs.BadHalves.{badAt, FirstBad, transferPars, ownContents, NoneBadOf, NoneBadIn, headerIn, startIn, ShownAt}
+use Rattle.annex.specs.BadHalves.{badAt, FirstBad, transferPars, ownContents, NoneBadOf, NoneBadIn, headerIn, contentsStart, ShownAt}
 use Rattle.annex.specs.Image.{imageOf}
 use Rattle.annex.specs.Finding.{foundAnswer, findAnswer, findPart}
 use Rattle.annex.specs.Spans.{rowsOf, spansOf, spansBy}
@@ -118,7 +118,7 @@ placed s (Bad k i) n q e =
 -- ---- a walk that is refused
 
 -- it stops at a parameter with the header x at the place `at`, before the octets ys, behind those that are listed
-pub record Stops (step : Step) (size : Size) (seen : Seen) (k p : ℕ) (xs : List ℕ) (num pl : ℕ) : Type 0 where
+record Stops (step : Step) (size : Size) (seen : Seen) (k p : ℕ) (xs : List ℕ) (num pl : ℕ) : Type 0 where
   pub at : ℕ
   pub x : ℕ
   pub ys : List ℕ
@@ -241,7 +241,7 @@ at-the-header times h xs =
     (refuse-header (ltb (length xs) (transferSize h xs)) cut-contents _
     (sound-header (1 + leadOf (extentOf h)) (faultOf h (contentsIn (extentOf h) (take (transferSize h xs) xs))) (transferSize h xs)))))
 
--- 13 of transfer data that starts at s of a message
+-- 13 of the transfer data t, at the place p counted from its start
 record TransferShown (t : List ℕ) (p : ℕ) : Type 0 where
   pub front : List Par
   pub one : Par
@@ -353,7 +353,7 @@ part-of a n b k m l =
     ap (take n) (sym (from-to a k (drop b m)))
     ∙ rw (take-take n (k - a) (drop a (drop b m)) (omega arith), drop-drop a b m)
 
-module _ (m : List ℕ) (c one : Par) (five : c .head ≡ transfer-data)
+module _ (m : List ℕ) (c one : Par)
     (lies : Lies commonSize m c) (inner : Lies transferSize (dataIn c) one) where
   data-there : dataIn c ≡ take (length (c .own) - 1) (drop (c .place + 2) m)
   unfolding commonExtentOf leadOf
@@ -382,12 +382,12 @@ module _ (m : List ℕ) (c one : Par) (five : c .head ≡ transfer-data)
   abbrev lead : ℕ
   lead = leadOf (extentOf (one .head))
 
-  contents-there : ownContents one ≡ take (length (ownContents one)) (drop (startIn c one) m)
+  contents-there : ownContents one ≡ take (length (ownContents one)) (drop (contentsStart c one) m)
   contents-there =
       ap (drop lead) own-there ∙ sym (from-to lead (length (one .own)) (drop (headerIn c one + 1) m))
       ∙ rw (drop-drop lead (headerIn c one + 1) m, length-drop lead (one .own))
 
-  contents-inside : startIn c one + length (ownContents one) ≤ length m
+  contents-inside : contentsStart c one + length (ownContents one) ≤ length m
   contents-inside =
       omega (
         arith,
@@ -429,9 +429,9 @@ shown m p e =
       one = t .one;
       back = t .back;
       parameters = t .parameters;
-      header = header-there m c (t .one) (w .0) lies inner;
-      contents = contents-there m c (t .one) (w .0) lies inner;
-      inside = contents-inside m c (t .one) (w .0) lies inner;
+      header = header-there m c (t .one) lies inner;
+      contents = contents-there m c (t .one) lies inner;
+      inside = contents-inside m c (t .one) lies inner;
       offset = t .offset;
       place = omega (arith, s .place, w .4, t .place);
       first = t .first;
@@ -478,10 +478,9 @@ one-shown m p q v w =
     first-same NoneBadOf (v .front) (v .one) (v .back) (w .front) (w .one) (w .back)
     (sym (v .parameters) ∙ ap transferPars same-c ∙ w .parameters) (v .none-before) (w .none-before)
     (one-bad (v .one) (v .offset) (v .first)) (one-bad (w .one) (w .offset) (w .first)) in
-    let first = subst (λ (r : Par). FirstBad (r .head) (ownContents r) (w .offset)) (sym same-one) (w .first) in
-    let same-offset = first-offset (v .one .head) (ownContents (v .one)) (v .offset) (w .offset) (v .first) first in
-    v .place ∙ ap (λ (c : Par). startIn c (v .one) + v .offset) same-c ∙ ap (λ (r : Par). startIn (w .c) r + v .offset) same-one
-    ∙ ap (λ (i : ℕ). startIn (w .c) (w .one) + i) same-offset ∙ sym (w .place)
+    let first = rw same-one at (v .first) in
+    let same-offset = first-offset (w .one .head) (ownContents (w .one)) (v .offset) (w .offset) first (w .first) in
+    v .place ∙ rw (same-c, same-one, same-offset) (sym (w .place))
 
 -- ---- the calls that pass it on
 

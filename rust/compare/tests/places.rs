@@ -43,6 +43,9 @@ const COUNTED: [&[u8]; 24] = [
     b"\xE0\x08\x2E\x43\x81\x92\x03\x81\x10\x05",
 ];
 
+/// Where the header stands in a message with nothing before it in C5.
+const FIRST: usize = 6;
+
 /// All sound parameters, those under PLI 10 with an even and with an odd count.
 fn sound() -> Vec<Vec<u8>> {
     let mut all = Vec::new();
@@ -184,14 +187,14 @@ fn anywhere_in_the_longest() {
     }
 }
 
-/// Two bad parameters: the place is in the first, also where its last octet is bad
-/// and the first of the other.
+/// Two bad parameters, the last octet of the one and the first of the other: the
+/// place is in the first.
 #[test]
 fn two_parameters() {
-    let headers = |one: &[u8], other: &[u8]| one[0] & 0x3F != other[0] & 0x3F;
+    let differ = |one: &[u8], other: &[u8]| one[0] & 0x3F != other[0] & 0x3F;
     let all: Vec<Vec<u8>> = sound();
     for one in all.iter().step_by(2) {
-        for other in all.iter().skip(1).step_by(2).filter(|o| headers(one, o)) {
+        for other in all.iter().skip(1).step_by(2).filter(|o| differ(one, o)) {
             let (last, first) = (slots(one)[slots(one).len() - 1], slots(other)[0]);
             let data = [spoilt(one, last), spoilt(other, first)].concat();
             let message = with_alone(&[&[0x41, 0x00], &data[..]].concat());
@@ -203,7 +206,10 @@ fn two_parameters() {
 /// Other numbers have the place of the header, also beside bad digits.
 #[test]
 fn other_numbers_at_the_header() {
-    let faults: [(&[u8], u8); 15] = [
+    let faults: [(&[u8], u8); 18] = [
+        (b"\x88\x01\x00", 8),
+        (b"\x81\x01\x00", 9),
+        (b"\x90\x3F\x00", 11),
         (b"\x90\x41\x00", 12),
         (b"\xA3\x81\x1D", 12),
         (b"\xD7\x02\x83\x11", 12),
@@ -224,6 +230,8 @@ fn other_numbers_at_the_header() {
         let (message, header) = message(parameter);
         refused(&all_readers(&message), number, header);
     }
+    let repeated = with_alone(b"\x90\x01\x01\x90\x01\x00");
+    refused(&all_readers(&repeated), 10, FIRST + 3);
 }
 
 /// In a connection order 13 of one parameter comes before 12 and 19 of a later one.
@@ -239,9 +247,6 @@ fn before_other_faults_of_an_order() {
         refused(&all_readers(&message), 13, header + at);
     }
 }
-
-/// Where the header stands in a message with nothing before it in C5.
-const FIRST: usize = 6;
 
 #[test]
 fn digits_written_at_the_header() {

@@ -1,4 +1,4 @@
--- `at_octet` meets its contract: each arm is a case of the definition, and which of two a bad octet is told at is its test.
+-- `at_octet` meets its contract: each arm is a case of the definition, and its test is that of the placing.
 use native.Mathlib.Omega.{arith}
 use borrow.Author.Needs.{needs}
 use borrow.Author.Tests.{ne-eqb}
