@@ -142,7 +142,7 @@ transferPars c = pars transferSize 0 0 (dataIn c)
 abbrev pub ownContents : Par → List ℕ
 ownContents q = contentsIn (extentOf (q .head)) (q .own)
 
--- none of them is bad
+-- no octet of one is bad; none of those in a common parameter, if that is C5
 abbrev pub NoneBadOf : Par → Type 0
 NoneBadOf q = NoneBad (q .head) (ownContents q)
 
