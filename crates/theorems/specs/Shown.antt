@@ -150,9 +150,6 @@ module _ (step : Step) (close : Seen → ℕ → Answer) (size : Size)
       }
   stops (x ∷ xs) seen zero p pl e = go (step seen x xs) refl e (λ n. stops xs (counted seen x) n (p + 1) pl)
     where
-      rest : ℕ → List Par
-      rest n = walk (listing step) (counted seen x) n (p + 1) xs
-
       go : (a : Answer) → step seen x xs ≡ a
           → byStep a (λ k q. Refused k (p + q)) (λ n. walk (judging step close) (counted seen x) n (p + 1) xs) ≡ Refused num pl
           → ((n : ℕ) → walk (judging step close) (counted seen x) n (p + 1) xs ≡ Refused num pl
