@@ -93,6 +93,10 @@ check-digit = 18
 abbrev pub wrong-order : ℕ
 wrong-order = 19
 
+-- 20: a rule of the mobile call profile is not kept (document 02, request f)
+abbrev pub outside-profile : ℕ
+outside-profile = 20
+
 -- the number of an answer, 0 where accepted; its place, 0 where accepted; and the count that it gives, 0 where refused
 abbrev pub numberOf : Answer → ℕ
 numberOf (Accepted n) = 0

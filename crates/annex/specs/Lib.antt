@@ -22,6 +22,7 @@ pub mod Classes
 pub mod Charging
 pub mod Opened
 pub mod BadHalves
+pub mod Profile
 pub mod Packed
 pub mod Promises
 pub mod Bench
@@ -29,6 +30,7 @@ pub mod Tariffs
 pub mod Circles
 pub mod Sequences
 pub mod BadDigits
+pub mod Enquiries
 -- And what the functions give that serve these: no rules of the documents, and no promise of the product rests on them.
 pub mod Walking
 pub mod Ordering

@@ -23,6 +23,7 @@ use Rattle.annex.specs.Writing.{writingOf}
 use Rattle.annex.specs.Image.{twoOctets, imageOf, imagedOf}
 use Rattle.annex.specs.Spans.{rowsOf, spansOf}
 use Rattle.annex.specs.Opened.{orderRowsOf, orderAnswer}
+use Rattle.annex.specs.Profile.{profileVerdict, profileWriting}
 use Rattle.annex.specs.declared.Answer.{Answer}
 use Rattle.annex.specs.declared.Answer.the-variants.{Accepted, Refused}
 use Rattle.annex.specs.declared.ClassAnswer.{ClassAnswer}
@@ -70,6 +71,22 @@ imageWriting image room = andThen (imagedOf image .answer) (λ _. writingOf (ima
 -- what the room then holds
 unfoldable pub imageWritten : List ℕ → List ℕ → List ℕ
 imageWritten image room = roomAfter (imageWriting image (length room)) (layout (view (imagedOf image .held))) room
+
+-- ---- the same by the mobile call profile
+
+-- the profile's refusals, 20 the last of them, then 15
+unfoldable pub profileImageReading : List ℕ → ℕ → Answer
+profileImageReading m room = andThen (profileVerdict m) (λ _. imageReading m room)
+
+unfoldable pub profileImageRead : List ℕ → List ℕ → List ℕ
+profileImageRead m room = roomAfter (profileImageReading m (length room)) (imageOf (recordOf m)) room
+
+-- 1 where the octets are no image, then the refusals of the profile's writing
+unfoldable pub profileImageWriting : List ℕ → ℕ → Answer
+profileImageWriting image room = andThen (imagedOf image .answer) (λ _. profileWriting (imagedOf image .held) room)
+
+unfoldable pub profileImageWritten : List ℕ → List ℕ → List ℕ
+profileImageWritten image room = roomAfter (profileImageWriting image (length room)) (layout (view (imagedOf image .held))) room
 
 -- ---- a message's rows
 

@@ -15,6 +15,14 @@ use Rattle.annex.specs.Editing.{Edit, editingOf, bufferOf}
 use Rattle.annex.specs.Classes.{classOf}
 use Rattle.annex.specs.Charging.{chargingOf, octetCharging, octetCharged}
 use Rattle.annex.specs.Opened.{orderAnswer, orderTable}
+use Rattle.annex.specs.Profile.{
+  profileVerdict,
+  profileWriting,
+  profileWritten,
+  profileReading,
+  classesAnswer,
+  classesGiven,
+}
 use Rattle.annex.specs.Packed.{
   packedAnswer,
   packedStretch,
@@ -23,6 +31,10 @@ use Rattle.annex.specs.Packed.{
   imageRead,
   imageWriting,
   imageWritten,
+  profileImageReading,
+  profileImageRead,
+  profileImageWriting,
+  profileImageWritten,
   octetSpans,
   octetTable,
   octetOrder,
@@ -36,6 +48,7 @@ use Rattle.annex.specs.declared.Imaged.{Imaged}
 use Rattle.annex.specs.declared.Row.{Row}
 use Rattle.annex.specs.declared.ClassAnswer.{ClassAnswer}
 use Rattle.annex.specs.declared.ChargingAnswer.{ChargingAnswer}
+use Rattle.annex.specs.declared.ProfileReading.{ProfileReading}
 
 -- reader::verdict::verdict
 abbrev pub VerdictPromise : List ℕ → Answer → Type 0
@@ -109,6 +122,33 @@ ChargingPromise m r = r ≡ chargingOf m
 abbrev pub OctetChargingPromise : List ℕ → List ℕ → Answer → List ℕ → Type 0
 OctetChargingPromise m room r now = (r ≡ octetCharging m (length room)) × (now ≡ octetCharged m room)
 
+-- ---- the mobile call profile
+
+-- profile::verdict::profile_verdict
+abbrev pub ProfileVerdictPromise : List ℕ → Answer → Type 0
+ProfileVerdictPromise m r = r ≡ profileVerdict m
+
+-- profile::read
+abbrev pub ProfileReadPromise : List ℕ → ProfileReading → Type 0
+ProfileReadPromise m r = r ≡ profileReading m
+
+-- profile::writing::write
+abbrev pub ProfileWritePromise : Record → List ℕ → Answer → List ℕ → Type 0
+ProfileWritePromise s room r now = (r ≡ profileWriting s (length room)) × (now ≡ profileWritten s room)
+
+-- profile::images::read_image
+abbrev pub ProfileImageReadPromise : List ℕ → List ℕ → Answer → List ℕ → Type 0
+ProfileImageReadPromise m room r now = (r ≡ profileImageReading m (length room)) × (now ≡ profileImageRead m room)
+
+-- profile::writing::write_image
+abbrev pub ProfileImageWritePromise : List ℕ → List ℕ → Answer → List ℕ → Type 0
+ProfileImageWritePromise image room r now =
+    (r ≡ profileImageWriting image (length room)) × (now ≡ profileImageWritten image room)
+
+-- profile::images::added_classes
+abbrev pub ClassesPromise : List ℕ → List ℕ → Answer → List ℕ → Type 0
+ClassesPromise m room r now = (r ≡ classesAnswer m (length room)) × (now ≡ classesGiven m room)
+
 -- ---- a record's image
 
 -- image_reader::read_image
@@ -156,6 +196,19 @@ TkChargingPromise m room r now = (r ≡ packedAnswer (octetCharging m (length ro
 -- tk_order
 abbrev pub TkOrderPromise : List ℕ → List ℕ → ℕ → List ℕ → Type 0
 TkOrderPromise m table r now = (r ≡ packedAnswer (octetOrder m (length table))) × (now ≡ octetOrderTable m table)
+
+-- tk_profile_read
+abbrev pub TkProfileReadPromise : List ℕ → List ℕ → ℕ → List ℕ → Type 0
+TkProfileReadPromise m room r now = (r ≡ packedAnswer (profileImageReading m (length room))) × (now ≡ profileImageRead m room)
+
+-- tk_profile_write
+abbrev pub TkProfileWritePromise : List ℕ → List ℕ → ℕ → List ℕ → Type 0
+TkProfileWritePromise image room r now =
+    (r ≡ packedAnswer (profileImageWriting image (length room))) × (now ≡ profileImageWritten image room)
+
+-- tk_added_classes
+abbrev pub TkClassesPromise : List ℕ → List ℕ → ℕ → List ℕ → Type 0
+TkClassesPromise m room r now = (r ≡ packedAnswer (classesAnswer m (length room))) × (now ≡ classesGiven m room)
 
 -- tk_replace, tk_append, tk_remove
 abbrev pub TkEditPromise : Edit → List ℕ → ℕ → ℕ → List ℕ → Type 0

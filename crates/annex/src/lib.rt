@@ -4,6 +4,7 @@ ghost use Rattle.annex.specs.Promises.{Gives};
 ghost use Rattle.annex.specs.Answers.{formed};
 ghost use Rattle.annex.specs.Units.{countedBy, wholeCount, octetsOf, halvesIn};
 ghost use Rattle.annex.specs.Records.{valueHead, octetHead, dataHead, carriedHead, dialledHead, numberHead, noCommon, noTransfer};
+ghost use Rattle.annex.specs.Profile.{noClass};
 
 // What a call answers: accepted, with a count, or refused, with a number and a place.
 pub enum Answer {
@@ -50,6 +51,8 @@ impl Answer {
     pub const CHECK_DIGIT: u8 = 18;
 
     pub const CONNECTION_ORDER: u8 = 19;
+
+    pub const PROFILE: u8 = 20;
 }
 
 // What is wrong with contents: nothing, or the refusal's number and the offset of the octet in the contents.
@@ -717,4 +720,67 @@ pub enum Class {
 pub enum ClassAnswer {
     Is(Class),
     Refused(u8, usize),
+}
+
+// The network that a call enquiry comes from, as the mobile call profile knows it.
+pub enum Network {
+    Other,
+    Phs,
+    Mobile,
+}
+
+impl Network {
+    // what 7E says
+    pub const PHS: u8 = 2;
+
+    pub const MOBILE: u8 = 3;
+}
+
+// An added user class: a pair of D6, its name and its value.
+pub struct AddedClass {
+    pub name: u8,
+    pub value: u8,
+}
+
+impl AddedClass {
+    // the names
+    pub const LONG_DISTANCE_1: u8 = 0x01;
+
+    pub const LONG_DISTANCE_2: u8 = 0x02;
+
+    pub const MOBILE_3: u8 = 0xFB;
+
+    pub const MOBILE_2: u8 = 0xFC;
+
+    pub const MOBILE_1: u8 = 0xFD;
+
+    pub const FIXED_1: u8 = 0xFE;
+
+    // how many these are
+    pub const MOST: usize = 6;
+
+    // the octets of a pair
+    pub const OCTETS: usize = 2;
+
+    // The zero that fills unused room.
+    pub fn none() -> AddedClass
+        ensures { λ r. ⌜ Gives noClass r ⌝ }
+    {
+        AddedClass { name: 0, value: 0 }
+    }
+}
+
+// What a call enquiry of the profile tells beside its record: its network, and the first `classes` of `class`, in the order of arrival.
+// Unused room is zero.
+pub struct Profile {
+    pub network: Network,
+    pub classes: u8,
+    pub class: [AddedClass; AddedClass::MOST],
+}
+
+// What reading by the profile gives: the verdict, and beside it the record and what it tells, those of nothing where refused.
+pub struct ProfileReading {
+    pub answer: Answer,
+    pub record: Record,
+    pub profile: Profile,
 }
