@@ -1,3 +1,4 @@
 -- A record's struct walked along, and its limits, with their laws.
 pub mod Along
 pub mod Limits
+pub mod Typed

@@ -268,6 +268,9 @@ pub record Fit (m : List ℕ) (n : ℕ) : Type 0 where
   pub few : n ≤ most-octets
   pub octets : every isOctet (layout (imageRecord m)) ≡ true
 
+nothing-held : Held (view (pack []))
+nothing-held = rw (view-own [] tt) tt
+
 image-held : (m : List ℕ) → every isOctet m ≡ true → Held (imageRecord m)
 image-held [] o = tt
 image-held (n ∷ s) o = go (partsFront n s) (parts-octets n s (and-right (isOctet n) (every isOctet s) o))
@@ -275,6 +278,20 @@ image-held (n ∷ s) o = go (partsFront n s) (parts-octets n s (and-right (isOct
     go : (f : Front Part) → EachFront OctetPart f → Held (ownParts (frontParts f))
     go (Taken r k) h = parts-held r h
     go Short h = tt
+
+-- the same of the struct, whatever the octets are
+pub image-view-held : (m : List ℕ) → every isOctet m ≡ true → Held (view (imagedOf m .held))
+unfolding imagedOf
+image-view-held [] o = nothing-held
+image-view-held (n ∷ s) o = go (partsFront n s) (parts-only n s) (parts-octets n s (and-right (isOctet n) (every isOctet s) o))
+  where
+    go : (f : Front Part) → EachFront OnlyData f → EachFront OctetPart f → Held (view (imagedBy (length s) f .held))
+    go Short h p = nothing-held
+    go (Taken r k) h p = told (eqb k (length s) && isWithin r)
+      where
+        told : (b : Bool) → Held (view (cond b (record { answer = Accepted (length r); held = pack r }) noImage .held))
+        told true = rw (view-own r h) (parts-held r p)
+        told false = nothing-held
 
 pub image-fit : (m : List ℕ) → every isOctet m ≡ true → imageCut m ≡ false → (n : ℕ) → partsWriting unseen 0 (imageRecord m) ≡ Accepted n
     → Fit m n

@@ -26,7 +26,9 @@ pub mod Splices
 pub mod Undone
 pub mod Listings
 pub mod Finds
+pub mod Headed
 pub mod InPlace
 pub mod Charged
 pub mod Ordered
 pub mod Shown
+pub mod Profiles

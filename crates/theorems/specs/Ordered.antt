@@ -13,7 +13,7 @@ use lib.ListN.{length, getD, take, drop, length-append, length-map, take-append-
 use lib.Seq.{length-take-le, drop-nil, drop-drop, take-append-seam, drop-append-seam, getD-take}
 use Rattle.annex.specs.Answers.{no-room, refuse, andThen, givenOf, isSound, startOf, stopOf}
 use Rattle.annex.specs.Units.{nameOf}
-use Rattle.annex.specs.Heads.{among, connection-order, heads, pliRight, zeroesOf, formOf}
+use Rattle.annex.specs.Heads.{among, connection-order, zeroesOf, formOf}
 use Rattle.annex.specs.Orders.{
   orderForms,
   orderHeaders,
@@ -67,7 +67,7 @@ use Rattle.laws.specs.Offsets.{layout-alike}
 use Rattle.laws.specs.Orders.{after-some, in-order, parameters-skip, size-own, stands-listed, few-stand}
 use Rattle.laws.specs.Headers.{none-asked}
 use Rattle.laws.specs.Leaves.{as-they-are}
-use Rattle.laws.specs.Members.{among-every, sumOf, once-few}
+use Rattle.laws.specs.Members.{sumOf, once-few}
 use Rattle.laws.specs.Plain.{pars-head}
 use Rattle.laws.specs.Rows.{parAt}
 use Rattle.laws.specs.Steps.{passed, then-passed}
@@ -77,6 +77,7 @@ use Rattle.theorems.specs.Messages.{read-then-laid}
 use Rattle.theorems.specs.Named.{choose}
 use Rattle.theorems.specs.Places.{found-at, name-there}
 use Rattle.theorems.specs.Finds.{transfer-contents}
+use Rattle.theorems.specs.Headed.{named-alone}
 
 -- ---- what is asked of the parameters together
 
@@ -320,14 +321,6 @@ parameters-few o e =
 
 -- ---- in a message
 
--- E0 alone has its name
-named-order : (h : ℕ) → pliRight h ≡ true → nameOf h ≡ nameOf connection-order → h ≡ connection-order
-unfolding pliRight
-named-order h p n =
-    let headers = map (λ r. r .header) heads in
-    let one : ℕ → Bool = λ k. not (eqb (nameOf k) (nameOf connection-order)) || eqb k connection-order in
-    eqb-true h connection-order (rw n at (among-every one headers refl h (rw n at p)))
-
 -- what is wrong with its contents is what is wrong with an order
 pub order-asked : (t : List ℕ) → faultOf connection-order t ≡ orderFault t
 unfolding faultOf formOf zeroesOf
@@ -351,7 +344,7 @@ found-order m o n e =
     let there = sym (name-there x 0 m o (v .0) (v .1)) ∙ found-at (orderFound m) n (v .2) .0 in
     let c = choose x 0 (itemsIn r) (ltb-true 0 (timesIn x (namesOf (itemsIn r))) there) in
     let a = item-allowed r (w .1) (c .front) (c .one) (c .back) (c .whole) in
-    let i = item-ordered (c .one) a (named-order (c .one .header) (a .pli) (c .named)) in
+    let i = item-ordered (c .one) a (named-alone connection-order refl (c .one .header) (a .pli) (c .named)) in
     let part = transfer-contents r (w .1) x 0 (c .front) (c .one) (c .back) (c .whole) (c .named) (c .before) in
     rw (rw (w .2) at part, i .0) (i .1)
 

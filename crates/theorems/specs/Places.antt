@@ -248,14 +248,14 @@ found-at (At s e) k p = (refl, ap givenOf p)
 found-at Nowhere k p = absurd (let z : _≡_ {A = ℕ} 0 1 = cc in omega arith)
 
 -- a header that stands in a record stands in one of its parts
-record Holds (h : ℕ) (r : List Part) : Type 0 where
-  ahead : List Part
-  one : Part
-  behind : List Part
-  whole : r ≡ ahead ++ (one ∷ behind)
-  headed : one .header ≡ h
+pub record Holds (h : ℕ) (r : List Part) : Type 0 where
+  pub ahead : List Part
+  pub one : Part
+  pub behind : List Part
+  pub whole : r ≡ ahead ++ (one ∷ behind)
+  pub headed : one .header ≡ h
 
-holds : (h : ℕ) (r : List Part) → among h (headersOf r) ≡ true → Holds h r
+pub holds : (h : ℕ) (r : List Part) → among h (headersOf r) ≡ true → Holds h r
 holds h [] m = absurd (let z : _≡_ {A = ℕ} 0 1 = cc in omega arith)
 holds h (p ∷ r) m = go (eqb h (p .header)) refl m (holds h r)
   where
@@ -274,7 +274,7 @@ common-is h r a n = go (among h (headersOf r)) refl
     go true e = let w = holds h r e in rw (← w .headed, common-found r a (w .ahead) (w .one) (w .behind) (w .whole))
     go false e = rw (common-nowhere h r a (no-header h r e) n)
 
-name-is : (x which : ℕ) (r : List Part) → Allowed r
+pub name-is : (x which : ℕ) (r : List Part) → Allowed r
     → isFound (transferFound x which (layout r)) ≡ ltb which (timesIn x (namesOf (itemsIn r)))
 name-is x which r a = go (among transfer-data (headersOf r)) refl
   where

@@ -29,11 +29,13 @@ use Rattle.annex.specs.Answers.{
   readingAt,
   andThen,
   shifted,
+  outside-profile,
+  absent,
 }
 use Rattle.annex.specs.Units.{nameOf, leadOf, extentOf, commonExtentOf, contentsIn}
 use Rattle.annex.specs.Heads.{among, listedHeaders, end-mark, transfer-data, most-octets, nameUsed, pliRight, oftenOf}
 use Rattle.annex.specs.Contents.{faultOf}
-use Rattle.annex.specs.Allowed.{Each}
+use Rattle.annex.specs.Allowed.{Each, itemsIn}
 use Rattle.annex.specs.Walk.{
   Seen,
   unseen,
@@ -82,7 +84,19 @@ use Rattle.annex.specs.Spans.{rowsOf, spansOf, spansBy}
 use Rattle.annex.specs.Editing.{Edit, recordEditing, editingOf}
 use Rattle.annex.specs.Charging.{chargingFound, chargingBy, chargingOf, charging-octets, octetChargingBy, octetCharging}
 use Rattle.annex.specs.Opened.{orderFound, orderRowsOf, orderAnswer}
-use Rattle.annex.specs.Packed.{imageReading}
+use Rattle.annex.specs.Packed.{imageReading, profileImageReading}
+use Rattle.annex.specs.Profile.{
+  pairOctets,
+  added-class,
+  some,
+  isHeaded,
+  isInProfile,
+  profileVerdict,
+  classesOf,
+  profileBy,
+  profileReading,
+  classesAnswer,
+}
 use Rattle.annex.specs.declared.Answer.{Answer}
 use Rattle.annex.specs.declared.Answer.the-variants.{Accepted, Refused}
 use Rattle.annex.specs.declared.ChargingAnswer.{ChargingAnswer}
@@ -494,10 +508,13 @@ absent-other : (f : Found) (p : ℕ) → foundAnswer f ≡ Refused bad-digit p �
 absent-other (At s e) p q = absurd (let z : _≡_ {A = ℕ} 0 1 = cc in omega arith)
 absent-other Nowhere p q = let z : _≡_ {A = ℕ} 16 13 = cc in omega arith
 
-room-other : (b : Bool) (n p : ℕ) → refuse b no-room 0 (Accepted n) ≡ Refused bad-digit p → ⊥
-room-other b n p e =
-    let f = other b no-room 0 (Accepted n) bad-digit p (λ z. omega arith) e .1 in
+number-other : (k : ℕ) → (k ≡ bad-digit → ⊥) → (b : Bool) (q n p : ℕ) → refuse b k q (Accepted n) ≡ Refused bad-digit p → ⊥
+number-other k o b q n p e =
+    let f = other b k q (Accepted n) bad-digit p o e .1 in
     absurd (let z : _≡_ {A = ℕ} 0 1 = cc in omega arith)
+
+room-other : (b : Bool) (n p : ℕ) → refuse b no-room 0 (Accepted n) ≡ Refused bad-digit p → ⊥
+room-other b n p e = number-other no-room (λ z. omega arith) b 0 n p e
 
 pub find-passes : (m : List ℕ) (f : Found) → Passes m (findAnswer m f)
 find-passes m f = then-passes m (verdictOf m) (λ _. foundAnswer f) (λ p e. e) (λ n p. absent-other f p)
@@ -512,6 +529,36 @@ unfolding imageReading
 image-passes m room =
     let n = length (imageOf (recordOf m)) in
     then-passes m (verdictOf m) _ (λ p e. e) (λ _ p. room-other (ltb room n) n p)
+
+pub profile-passes : (m : List ℕ) → Passes m (profileVerdict m)
+unfolding profileVerdict
+profile-passes m =
+    then-passes m (verdictOf m) _ (λ p e. e)
+    (λ n p. number-other outside-profile (λ z. omega arith) (not (isInProfile (recordOf m))) (n - 1) n p)
+
+pub profile-image-passes : (m : List ℕ) (room : ℕ) → Passes m (profileImageReading m room)
+unfolding profileImageReading
+profile-image-passes m room p e = go (profileVerdict m) (profile-passes m) e
+  where
+    go : (a : Answer) → Passes m a → andThen a (λ _. imageReading m room) ≡ Refused bad-digit p → verdictOf m ≡ Refused bad-digit p
+    go (Accepted n) w f = image-passes m room p f
+    go (Refused k q) w f = w p f
+
+pub profile-read-passes : (m : List ℕ) → Passes m (profileReading m .answer)
+unfolding profileReading
+profile-read-passes m = go (profileVerdict m) (profile-passes m)
+  where
+    go : (a : Answer) → Passes m a → Passes m (profileBy a (recordOf m) .answer)
+    go (Accepted n) w = w
+    go (Refused k q) w = w
+
+pub classes-passes : (m : List ℕ) (room : ℕ) → Passes m (classesAnswer m room)
+unfolding classesAnswer
+classes-passes m room =
+    let n = length (pairOctets (classesOf (recordOf m))) in
+    let none = not (some (isHeaded added-class) (itemsIn (recordOf m))) in
+    then-passes m (profileVerdict m) _ (profile-passes m)
+    (λ _ p e. room-other (ltb room n) n p (other none absent 0 _ bad-digit p (λ z. omega arith) e .1))
 
 pub order-passes : (m : List ℕ) (room : ℕ) → Passes m (orderAnswer m room)
 unfolding orderAnswer

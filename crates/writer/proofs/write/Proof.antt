@@ -1,42 +1,21 @@
 -- `write` meets its contract: what is accepted is laid out, and for that its numbers are octets; else the room stays.
-use Prim.Native.Nat.{ℕ, _<_}
 use native.Mathlib.Omega.{arith}
 use mathlib.Core.Path.{_≡_, sym, _∙_}
 use mathlib.Core.List.{_++_}
-use mir.Syntax.{w8}
-use borrow.Author.Needs.{needs, elem-fits-field}
+use borrow.Author.Needs.{needs}
 use borrow.Author.Tests.{lt-ltb}
-use lib.ListN.{length, getD, drop}
+use lib.ListN.{length, drop}
 use Rattle.annex.specs.Layout.{layout}
 use Rattle.annex.specs.Records.{view}
 use Rattle.annex.specs.Writing.{structWriting, writingOf, writtenOf}
 use Rattle.annex.specs.Memory.{atFront}
 use Rattle.annex.specs.declared.Answer.the-variants.{Accepted}
-use Rattle.annex.proofs.Common.{the-field as common-field}
-use Rattle.annex.proofs.Transfer.{the-field as transfer-field}
-use Rattle.laws.specs.Written.{low-octets, octets-every}
+use Rattle.laws.specs.Written.{low-octets}
 use Rattle.theorems.specs.Writings.{StructWritten, struct-written, with-room, room-after}
-use Rattle.theorems.specs.Views.{FitsStruct, OctetCommon, OctetTransfer}
 use Rattle.limits.specs.Limits.{told-whole}
-use Rattle.limits.specs.Along.{length-mapped}
-use Rattle.laws.specs.Fields.{each-element}
+use Rattle.limits.specs.Typed.{fits-struct}
 use Rattle.writer.proofs.write.Statement.{statement}
 use Rattle.writer.proofs.write.Tie as tie
-
--- what the struct has by its types
-fits-struct : (st : tie.Start) → FitsStruct (st .args .held)
-fits-struct st =
-    let g = st .good .0 .1 .1 in
-    let q = st .args .held in
-    let small : (i : ℕ) → getD (q .values) i 0 < 256 = λ i. omega (arith, elem-fits-field w8 w8 (q .values) _ i (g .1 .1 .1 .0 .1 .1) tt) in
-    record {
-      commons-long = search (needs, length-mapped);
-      transfers-long = search (needs, length-mapped);
-      values-long = search needs;
-      common-octets = each-element common-field OctetCommon (λ c u p. omega (arith, p)) (q .common) _ (g .1 .0 .1 .1);
-      transfer-octets = each-element transfer-field OctetTransfer (λ t u p. omega (arith, p)) (q .transfer) _ (g .1 .1 .0 .1 .1);
-      value-octets = octets-every (q .values) small;
-    }
 
 returns : tie.Need-returns
 unfolding writingOf writtenOf
@@ -60,7 +39,9 @@ returns-2 c =
 
 -- so it lies within its limits, and lays out to octets of the given length
 written : (c : tie.After-known-told) → StructWritten (c .before .before .before .before .before .args .held) (c .before .a .given .0 .0)
-written c = struct-written _ (fits-struct (c .before .before .before .before .before)) _ (accepted c)
+written c =
+    let st = c .before .before .before .before .before in
+    struct-written _ (fits-struct (st .args .held) _ (st .good .0)) _ (accepted c)
 
 put-parts-requires : tie.Need-put-parts-requires
 put-parts-requires c κs =
