@@ -1,0 +1,41 @@
+// Reading by the profile for Rust and C: the record's image, and the added user classes as octets.
+use crate::keeping::is_found;
+use crate::keeping::part;
+use crate::keeping::sought;
+use crate::verdict::profile_verdict;
+use annex::Answer;
+use annex::Transfer;
+use octets::copy_in;
+ghost use Rattle.annex.specs.Promises.{ProfileImageReadPromise, ClassesPromise};
+
+// The record of a message that keeps the profile, as its image at the front of the lent octets: how many octets it has. A refusal leaves
+// them as they were.
+pub fn read_image(m: &[u8], image: &mut [u8]) -> Answer
+    ensures { λ r. ⌜ ProfileImageReadPromise (now (m .entry)) (now (image .entry)) r (now (image .exit)) ⌝ }
+{
+    let a = profile_verdict(m);
+    let Answer::Accepted(_) = a else {
+        return a;
+    };
+    image_reader::read_image(m, image)
+}
+
+// The pairs of D6 at the front of the lent octets, each name before its value: how many octets there are. A refusal leaves them as they
+// were.
+pub fn added_classes(m: &[u8], out: &mut [u8]) -> Answer
+    ensures { λ r. ⌜ ClassesPromise (now (m .entry)) (now (out .entry)) r (now (out .exit)) ⌝ }
+{
+    let a = profile_verdict(m);
+    let Answer::Accepted(_) = a else {
+        return a;
+    };
+    let added = sought(m, Transfer::ADDED_USER_CLASS);
+    if !is_found(added) {
+        return Answer::Refused(Answer::ABSENT, 0);
+    }
+    let pairs = part(m, added);
+    if !copy_in(out, 0, pairs) {
+        return Answer::Refused(Answer::NO_ROOM, 0);
+    }
+    Answer::Accepted(pairs.len())
+}
