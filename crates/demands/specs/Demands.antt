@@ -7,9 +7,9 @@ use Prim.Native.Nat.{ℕ, _+_, _*_, _/_, _%_, _≤_, _<_}
 use mathlib.Core.Path.{_≡_}
 use mathlib.Core.Bool.{Bool, true, false}
 use mathlib.Core.List.{List, [], _∷_, _++_}
-use mathlib.Core.Logic.{_↔_}
+use mathlib.Core.Logic.{_↔_, _⊎_}
 use lib.ListN.{length, getD, take, drop}
-use Rattle.annex.specs.Answers.{bad-digit, absent, numberOf, classNumberOf}
+use Rattle.annex.specs.Answers.{bad-digit, absent, outside-profile, numberOf, classNumberOf}
 use Rattle.annex.specs.Units.{nameOf}
 use Rattle.annex.specs.Heads.{among, end-mark, sequence, sequence-number, charging-information, connection-order}
 use Rattle.annex.specs.Rates.{chargesOf, chargedContents, Chargeable}
@@ -23,7 +23,8 @@ use Rattle.annex.specs.Finding.{commonFound, transferFound, findAnswer}
 use Rattle.annex.specs.Editing.{Edit, edited, editingOf}
 use Rattle.annex.specs.Classes.{classOf}
 use Rattle.annex.specs.Charging.{octetCharging}
-use Rattle.annex.specs.Packed.{imageReading, imageWriting, octetSpans, octetOrder}
+use Rattle.annex.specs.Profile.{OfPairs, adjacent-network, phs, mobile, added-class, InProfile, profileOf, classesAnswer}
+use Rattle.annex.specs.Packed.{imageReading, imageWriting, profileImageReading, profileImageWriting, octetSpans, octetOrder}
 use Rattle.annex.specs.BadHalves.{ShownAt}
 use Rattle.annex.specs.Walking.{noRow}
 use Rattle.annex.specs.Opened.{formRow}
@@ -42,6 +43,12 @@ use Rattle.annex.specs.Promises.{
   WritePromise,
   EditPromise,
   OctetChargingPromise,
+  ProfileVerdictPromise,
+  ProfileReadPromise,
+  ProfileWritePromise,
+  ProfileImageReadPromise,
+  ProfileImageWritePromise,
+  ClassesPromise,
   ImageReadPromise,
   ImageWritePromise,
   TkReadPromise,
@@ -52,6 +59,9 @@ use Rattle.annex.specs.Promises.{
   TkClassPromise,
   TkChargingPromise,
   TkOrderPromise,
+  TkProfileReadPromise,
+  TkProfileWritePromise,
+  TkClassesPromise,
   TkEditPromise,
   Gives,
   Stores,
@@ -69,6 +79,9 @@ use Rattle.annex.specs.declared.ChargingAnswer.{ChargingAnswer}
 use Rattle.annex.specs.declared.ChargingAnswer.the-variants as chargings
 use Rattle.annex.specs.declared.ClassAnswer.{ClassAnswer}
 use Rattle.annex.specs.declared.Fault.the-variants.{Sound}
+use Rattle.annex.specs.declared.Network.the-variants.{Phs, Mobile}
+use Rattle.annex.specs.declared.Profile.{Profile}
+use Rattle.annex.specs.declared.ProfileReading.{ProfileReading}
 use Rattle.annex.specs.declared.Reading.{Reading}
 use Rattle.annex.specs.declared.Record.{Record}
 use Rattle.annex.specs.declared.Row.{Row}
@@ -142,12 +155,17 @@ pub record Showing (m : List ℕ) : Type 0 where
   pub check : (room p : ℕ) → SpansCheckPromise m room (Refused bad-digit p) → ShownAt m p
   pub check-order : (room p : ℕ) → OrderCheckPromise m room (Refused bad-digit p) → ShownAt m p
   pub charging : (p : ℕ) → ChargingPromise m (chargings.Refused bad-digit p) → ShownAt m p
+  pub profile-verdict : (p : ℕ) → ProfileVerdictPromise m (Refused bad-digit p) → ShownAt m p
+  pub profile-read : (q : Record) (t : Profile) (p : ℕ)
+      → ProfileReadPromise m (record { answer = Refused bad-digit p; «record» = q; profile = t }) → ShownAt m p
   pub spans : (table now : List Row) (p : ℕ) → SpansPromise m table (Refused bad-digit p) now → ShownAt m p
   pub octet-spans : (table now : List ℕ) (p : ℕ) → OctetSpansPromise m table (Refused bad-digit p) now → ShownAt m p
   pub order : (table now : List Row) (p : ℕ) → OrderPromise m table (Refused bad-digit p) now → ShownAt m p
   pub octet-order : (table now : List ℕ) (p : ℕ) → OctetOrderPromise m table (Refused bad-digit p) now → ShownAt m p
   pub octet-charging : (room now : List ℕ) (p : ℕ) → OctetChargingPromise m room (Refused bad-digit p) now → ShownAt m p
   pub read-image : (room now : List ℕ) (p : ℕ) → ImageReadPromise m room (Refused bad-digit p) now → ShownAt m p
+  pub profile-read-image : (room now : List ℕ) (p : ℕ) → ProfileImageReadPromise m room (Refused bad-digit p) now → ShownAt m p
+  pub added-classes : (room now : List ℕ) (p : ℕ) → ClassesPromise m room (Refused bad-digit p) now → ShownAt m p
   pub edit : (e : Edit) (d : List ℕ) (n : ℕ) → take n d ≡ m → (p : ℕ) (now : List ℕ) → EditPromise e d n (Refused bad-digit p) now
       → (v : Answer) → VerdictPromise m v → (IsAccepted v → p ≡ 0) × ((k q : ℕ) → v ≡ Refused k q → ShownAt m p)
   pub tk-read : (room : List ℕ) (r : ℕ) (now : List ℕ) → TkReadPromise m room r now → packedNumber r ≡ bad-digit → ShownAt m (packedPlace r)
@@ -158,6 +176,10 @@ pub record Showing (m : List ℕ) : Type 0 where
   pub tk-charging : (room : List ℕ) (r : ℕ) (now : List ℕ) → TkChargingPromise m room r now → packedNumber r ≡ bad-digit
       → ShownAt m (packedPlace r)
   pub tk-order : (table : List ℕ) (r : ℕ) (now : List ℕ) → TkOrderPromise m table r now → packedNumber r ≡ bad-digit
+      → ShownAt m (packedPlace r)
+  pub tk-profile-read : (room : List ℕ) (r : ℕ) (now : List ℕ) → TkProfileReadPromise m room r now → packedNumber r ≡ bad-digit
+      → ShownAt m (packedPlace r)
+  pub tk-added-classes : (room : List ℕ) (r : ℕ) (now : List ℕ) → TkClassesPromise m room r now → packedNumber r ≡ bad-digit
       → ShownAt m (packedPlace r)
   pub tk-edit : (e : Edit) (d : List ℕ) (n : ℕ) → take n d ≡ m → (r : ℕ) (now : List ℕ) → TkEditPromise e d n r now
       → packedNumber r ≡ bad-digit → (v : Answer) → VerdictPromise m v
@@ -174,6 +196,9 @@ pub record Demand1 : Type 0 where
   pub from-image : (image : List ℕ) → Answering (λ a. (q : Record) × FromImagePromise image (record { answer = a; held = q }))
   pub class : (h x : ℕ) (r s : ClassAnswer) → ClassPromise h x r → ClassPromise h x s → ClassHasNumber r × (r ≡ s)
   pub charging : (m : List ℕ) (r s : ChargingAnswer) → ChargingPromise m r → ChargingPromise m s → ChargingHasNumber r × (r ≡ s)
+  pub profile-verdict : (m : List ℕ) → Answering (ProfileVerdictPromise m)
+  pub profile-read : (m : List ℕ)
+      → Answering (λ a. (q : Record) × (t : Profile) × ProfileReadPromise m (record { answer = a; «record» = q; profile = t }))
   pub spans : (m : List ℕ) (table : List Row) → Lending table (SpansPromise m table)
   pub octet-spans : (m table : List ℕ) → Lending table (OctetSpansPromise m table)
   pub order : (m : List ℕ) (table : List Row) → Lending table (OrderPromise m table)
@@ -183,6 +208,10 @@ pub record Demand1 : Type 0 where
   pub octet-charging : (m room : List ℕ) → Lending room (OctetChargingPromise m room)
   pub read-image : (m room : List ℕ) → Lending room (ImageReadPromise m room)
   pub write-image : (image room : List ℕ) → Lending room (ImageWritePromise image room)
+  pub profile-write : (q : Record) (room : List ℕ) → Lending room (ProfileWritePromise q room)
+  pub profile-read-image : (m room : List ℕ) → Lending room (ProfileImageReadPromise m room)
+  pub profile-write-image : (image room : List ℕ) → Lending room (ProfileImageWritePromise image room)
+  pub added-classes : (m room : List ℕ) → Lending room (ClassesPromise m room)
   pub tk-read : (m room : List ℕ) → PackedLending room (imageReading m (length room)) (TkReadPromise m room)
   pub tk-write : (image room : List ℕ) → PackedLending room (imageWriting image (length room)) (TkWritePromise image room)
   pub tk-rows : (m table : List ℕ) → PackedLending table (octetSpans m (length table)) (TkRowsPromise m table)
@@ -191,6 +220,10 @@ pub record Demand1 : Type 0 where
   pub tk-class : (h x : ℕ) → PackedAnswering (classNumberOf (classOf h x)) (TkClassPromise h x)
   pub tk-charging : (m room : List ℕ) → PackedLending room (octetCharging m (length room)) (TkChargingPromise m room)
   pub tk-order : (m table : List ℕ) → PackedLending table (octetOrder m (length table)) (TkOrderPromise m table)
+  pub tk-profile-read : (m room : List ℕ) → PackedLending room (profileImageReading m (length room)) (TkProfileReadPromise m room)
+  pub tk-profile-write : (image room : List ℕ)
+      → PackedLending room (profileImageWriting image (length room)) (TkProfileWritePromise image room)
+  pub tk-added-classes : (m room : List ℕ) → PackedLending room (classesAnswer m (length room)) (TkClassesPromise m room)
   pub tk-edit : (e : Edit) (d : List ℕ) (n : ℕ) → PackedLending d (editingOf e d n) (TkEditPromise e d n)
   pub showing : (m : List ℕ) → Showing m
   -- the functions that serve these: what does not fit is not stored
@@ -285,6 +318,59 @@ pub record Demand2 : Type 0 where
       → (start : ℕ) → FindTransferAnswerPromise m (nameOf connection-order) (Accepted start)
       → (stretchesOf m (take n now) ≡ part) × Following start (take n now) × (sumOf octetsTold (take n now) ≡ length part)
       × (getD (take n now) 0 noRow ≡ formRow start (getD part 0 0))
+  -- And by the mobile call profile (document 02, request f) a message is accepted exactly if some record that is allowed and in the
+  -- profile lays out to these octets. The answer is that record, the only one (`one-record` above says so), and what it tells. What
+  -- reading refuses is refused the same; the message of a record that is not in the profile is refused with 20, at its end mark; and
+  -- beside a refusal stands the empty record, and what that tells.
+  pub profile-accepted : (m : List ℕ) → Octetwise m → (r : ProfileReading) → ProfileReadPromise m r
+      → IsAccepted (r .answer) ↔ ((s : List Part) × Allowed s × InProfile s × (layout s ≡ m))
+  pub profile-record : (s : List Part) → Allowed s → InProfile s → (r : ProfileReading) → ProfileReadPromise (layout s) r
+      → r ≡ record { answer = Accepted (length (layout s)); «record» = pack s; profile = profileOf s }
+  pub profile-passed : (m : List ℕ) (k p : ℕ) → VerdictPromise m (Refused k p) → (r : ProfileReading) → ProfileReadPromise m r
+      → r .answer ≡ Refused k p
+  pub profile-outside : (s : List Part) → Allowed s → (InProfile s → ⊥) → (r : ProfileReading) → ProfileReadPromise (layout s) r
+      → (p : ℕ) × (r .answer ≡ Refused outside-profile p) × (drop p (layout s) ≡ end-mark ∷ [])
+  pub profile-none : (m : List ℕ) (r : ProfileReading) → ProfileReadPromise m r → (k p : ℕ) → r .answer ≡ Refused k p
+      → (r .«record» ≡ pack []) × (r .profile ≡ profileOf [])
+  -- The network told is the one that 7E says. D6's contents are pairs laid out, and the pairs told are the only ones that lay out to them.
+  pub profile-network : (s : List Part) → Allowed s → InProfile s → (front : List Item) (one : Item) (back : List Item)
+      → itemsIn s ≡ front ++ (one ∷ back) → one .header ≡ adjacent-network
+      → ((one .values ≡ phs ∷ []) × (profileOf s .network ≡ Phs)) ⊎ ((one .values ≡ mobile ∷ []) × (profileOf s .network ≡ Mobile))
+  pub profile-pairs : (s : List Part) → Allowed s → InProfile s → (front : List Item) (one : Item) (back : List Item)
+      → itemsIn s ≡ front ++ (one ∷ back) → one .header ≡ added-class → OfPairs (one .values)
+  pub profile-classes : (s : List Part) → Allowed s → InProfile s → (front : List Item) (one : Item) (back : List Item)
+      → itemsIn s ≡ front ++ (one ∷ back) → one .header ≡ added-class
+      → (c : OfPairs (one .values)) → take (profileOf s .classes) (profileOf s .class) ≡ c .pairs
+  pub profile-unclassed : (s : List Part) → Allowed s → timesIn (nameOf added-class) (namesOf (itemsIn s)) ≡ 0 → profileOf s .classes ≡ 0
+  -- Writing that record by the profile gives the message back. Each record that may be written and is in the profile is written where
+  -- the lent room suffices, and no other struct is: its message, and past it the room. And by the profile it reads back as itself. What
+  -- refuses a struct, room aside, refuses it here; and one that may be written but is not in the profile is refused with 20, where the
+  -- end mark would stand, whatever the room.
+  pub profile-written-back : (m : List ℕ) → Octetwise m → (r : ProfileReading) → ProfileReadPromise m r → IsAccepted (r .answer)
+      → (room : List ℕ) → length m ≤ length room → (w : Answer) (now : List ℕ) → ProfileWritePromise (r .«record») room w now
+      → (w ≡ Accepted (length m)) × (now ≡ m ++ drop (length m) room)
+  pub profile-written : (q : Record) → FitsStruct q → (room : List ℕ) (w : Answer) (now : List ℕ) → ProfileWritePromise q room w now
+      → IsAccepted w ↔ ((isWhole q ≡ true) × Writable (view q) × InProfile (view q) × (length (layout (view q)) ≤ length room))
+  pub profile-written-allowed : (s : List Part) → Writable s → InProfile s → (room : List ℕ) → length (layout s) ≤ length room
+      → (w : Answer) (now : List ℕ) → ProfileWritePromise (pack s) room w now
+      → (w ≡ Accepted (length (layout s))) × (now ≡ layout s ++ drop (length (layout s)) room)
+  pub profile-message : (q : Record) → FitsStruct q → (room : List ℕ) (n : ℕ) (now : List ℕ) → ProfileWritePromise q room (Accepted n) now
+      → (n ≡ length (layout (view q))) × (now ≡ layout (view q) ++ drop n room)
+  pub profile-reads-back : (q : Record) → FitsStruct q → (room : List ℕ) (n : ℕ) (now : List ℕ)
+      → ProfileWritePromise q room (Accepted n) now → (r : ProfileReading) → ProfileReadPromise (take n now) r
+      → r ≡ record { answer = Accepted n; «record» = pack (view q); profile = profileOf (view q) }
+  pub profile-write-passed : (q : Record) (k p : ℕ) → RecordRefusalPromise q (Refused k p) → (room : List ℕ) (w : Answer) (now : List ℕ)
+      → ProfileWritePromise q room w now → w ≡ Refused k p
+  pub profile-write-outside : (q : Record) → isWhole q ≡ true → Writable (view q) → (InProfile (view q) → ⊥)
+      → (room : List ℕ) (w : Answer) (now : List ℕ) → ProfileWritePromise q room w now
+      → (p : ℕ) × (w ≡ Refused outside-profile p) × (drop p (layout (view q)) ≡ end-mark ∷ [])
+  -- The pairs as octets are D6's contents, where the lent room suffices for them. 16 is answered exactly if there is no D6.
+  pub classes-told : (s : List Part) → Allowed s → InProfile s → (front : List Item) (one : Item) (back : List Item)
+      → itemsIn s ≡ front ++ (one ∷ back) → one .header ≡ added-class
+      → (room : List ℕ) → length (one .values) ≤ length room → (r : Answer) (now : List ℕ) → ClassesPromise (layout s) room r now
+      → (r ≡ Accepted (length (one .values))) × (now ≡ one .values ++ drop (length (one .values)) room)
+  pub classes-there : (s : List Part) → Allowed s → InProfile s → (room : List ℕ) (r : Answer) (now : List ℕ)
+      → ClassesPromise (layout s) room r now → (r ≡ Refused absent 0) ↔ (timesIn (nameOf added-class) (namesOf (itemsIn s)) ≡ 0)
 
 -- ---- Demand 3
 

@@ -2,7 +2,7 @@
 use Prim.Native.Nat.{ℕ, _+_, _≤_, _<_}
 use native.Mathlib.Omega.{arith}
 use mathlib.Core.Path.{_≡_, refl, sym, ap, _∙_}
-use mathlib.Core.Bool.{Bool, true, false}
+use mathlib.Core.Bool.{true}
 use mathlib.Core.List.{List, [], _∷_, _++_}
 use mathlib.Core.Logic.{_↔_, _⊎_, inl, inr}
 use borrow.Author.Tests.{ltb-true, ltb-false, le-ltb, lt-ltb, ne-eqb}
@@ -29,6 +29,10 @@ use Rattle.annex.specs.Packed.{
   imageRead,
   imageWriting,
   imageWritten,
+  profileImageReading,
+  profileImageRead,
+  profileImageWriting,
+  profileImageWritten,
   octetSpans,
   octetsBy,
   octetTable,
@@ -39,6 +43,7 @@ use Rattle.annex.specs.Packed.{
 }
 use Rattle.annex.specs.Opened.{formRow, orderListing, orderFound, orderRowsOf, orderAnswer, orderTable}
 use Rattle.annex.specs.Charging.{chargingFound, chargingBy, chargingOf, octetCharging, octetCharged}
+use Rattle.annex.specs.Profile.{profileWriting, profileWritten, classesAnswer, classesGiven}
 use Rattle.annex.specs.Promises.{
   ReadPromise,
   FindTransferAnswerPromise,
@@ -58,6 +63,7 @@ use Rattle.annex.specs.declared.ChargingAnswer.the-variants as chargings
 use Rattle.annex.specs.declared.Check.the-variants.{Charging}
 use Rattle.annex.specs.declared.Found.{Found}
 use Rattle.annex.specs.declared.Found.the-variants.{At, Nowhere}
+use Rattle.annex.specs.declared.ProfileReading.{ProfileReading}
 use Rattle.annex.specs.declared.Reading.{Reading}
 use Rattle.annex.specs.declared.Record.{Record}
 use Rattle.annex.specs.declared.Row.{Row}
@@ -92,6 +98,10 @@ use Rattle.theorems.specs.Shown.{
   find-passes,
   spans-passes,
   image-passes,
+  profile-passes,
+  profile-read-passes,
+  profile-image-passes,
+  classes-passes,
   order-passes,
   charging-passes,
   octet-charging-passes,
@@ -136,6 +146,11 @@ use Rattle.tight.specs.Told.{
   charging-told,
   octet-charging-told,
   order-told,
+  profile-verdict-told,
+  profile-writing-told,
+  profile-image-reading-told,
+  profile-image-writing-told,
+  classes-told,
 }
 use Rattle.tight.specs.Numbers.{read-answer}
 use Rattle.demands.specs.Demands.{
@@ -153,6 +168,28 @@ use Rattle.demands.specs.Demands.{
   Demand1,
   Demand2,
   Demand3,
+}
+use Rattle.demands.specs.ProvedProfile.{
+  profile-verdict-so,
+  profile-accepted-so,
+  profile-record-so,
+  profile-passed-so,
+  profile-outside-so,
+  profile-none-so,
+  profile-network-so,
+  profile-pairs-so,
+  profile-classes-so,
+  profile-unclassed-so,
+  profile-back-so,
+  profile-written-so,
+  profile-allowed-so,
+  profile-message-so,
+  profile-reads-so,
+  profile-write-passed-so,
+  profile-write-outside-so,
+  classes-told-so,
+  classes-there-so,
+  room-alone,
 }
 
 -- an answer that refuses leaves the room
@@ -275,12 +312,16 @@ shows m =
       check = λ room p e. shown m p (spans-passes m room p (sym e));
       check-order = λ room p e. shown m p (order-passes m room p (sym e));
       charging = λ p e. shown m p (charging-passes m p (sym e));
+      profile-verdict = λ p e. shown m p (profile-passes m p (sym e));
+      profile-read = λ q t p e. shown m p (profile-read-passes m p (ap (λ (x : ProfileReading). x .answer) (sym e)));
       spans = λ table now p e. shown m p (spans-passes m (length table) p (sym (e .0)));
       octet-spans = λ table now p e. shown m p (spans-passes m _ p (sym (e .0)));
       order = λ table now p e. shown m p (order-passes m (length table) p (sym (e .0)));
       octet-order = λ table now p e. shown m p (order-passes m _ p (sym (e .0)));
       octet-charging = λ room now p e. shown m p (octet-charging-passes m (length room) p (sym (e .0)));
       read-image = λ room now p e. shown m p (image-passes m (length room) p (sym (e .0)));
+      profile-read-image = λ room now p e. shown m p (profile-image-passes m (length room) p (sym (e .0)));
+      added-classes = λ room now p e. shown m p (classes-passes m (length room) p (sym (e .0)));
       edit = λ e d n s p now f. rw s at (edit-shown e d n p p (sym (f .0)) (λ z. z) (shown (take n d) p));
       tk-read = λ room r now e. answer-shown m (imageReading m (length room)) (image-passes m (length room)) r (e .0);
       tk-rows = λ table r now e. answer-shown m (octetSpans m (length table)) (spans-passes m _) r (e .0);
@@ -288,11 +329,15 @@ shows m =
       tk-find-transfer = λ x r e. find-shown m (transferFound x 0 m) r e;
       tk-charging = λ room r now e. answer-shown m (octetCharging m (length room)) (octet-charging-passes m (length room)) r (e .0);
       tk-order = λ table r now e. answer-shown m (octetOrder m (length table)) (order-passes m _) r (e .0);
+      tk-profile-read = λ room r now e.
+          answer-shown m (profileImageReading m (length room)) (profile-image-passes m (length room)) r (e .0);
+      tk-added-classes = λ room r now e. answer-shown m (classesAnswer m (length room)) (classes-passes m (length room)) r (e .0);
       tk-edit = λ e d n s r now f g. rw s at (edit-packed e d n r (f .0) g);
     }
 
 pub demand-1 : Demand1
-unfolding tableOf octetTable orderTable octetOrderTable writtenOf bufferOf octetCharged imageRead imageWritten
+unfolding tableOf octetTable orderTable octetOrderTable writtenOf bufferOf octetCharged imageRead imageWritten profileWritten
+    profileImageRead profileImageWritten classesGiven
 demand-1 =
     record {
       verdict = λ m. answering (verdict-told m);
@@ -313,6 +358,12 @@ demand-1 =
           };
       class = λ h x r s p q. (rw p (class-told h x), p ∙ sym q);
       charging = λ m r s p q. (rw p (charging-told m), p ∙ sym q);
+      profile-verdict = λ m. answering (profile-verdict-told m);
+      profile-read = λ m.
+          record {
+            fixed = λ r s p q. profile-verdict-so m _ (p .2) ∙ sym (profile-verdict-so m _ (q .2));
+            numbered = λ r p. rw (profile-verdict-so m _ (p .2)) (profile-verdict-told m);
+          };
       spans = λ m table. lending (spans-told m (length table)) (after-refusal (spansOf m (length table)) (rowsOf m) table);
       octet-spans = λ m table. lending (spans-told m _) (octets-kept (octetSpans m (length table)) _ table);
       order = λ m table. lending (order-told m (length table)) (after-refusal (orderAnswer m (length table)) (orderRowsOf m) table);
@@ -322,6 +373,12 @@ demand-1 =
       octet-charging = λ m room. lending (octet-charging-told m (length room)) (after-refusal (octetCharging m (length room)) _ room);
       read-image = λ m room. lending (read-image-told m (length room)) (after-refusal (imageReading m (length room)) _ room);
       write-image = λ image room. lending (write-image-told image (length room)) (after-refusal (imageWriting image (length room)) _ room);
+      profile-write = λ q room. lending (profile-writing-told q (length room)) (after-refusal (profileWriting q (length room)) _ room);
+      profile-read-image = λ m room.
+          lending (profile-image-reading-told m (length room)) (after-refusal (profileImageReading m (length room)) _ room);
+      profile-write-image = λ image room.
+          lending (profile-image-writing-told image (length room)) (after-refusal (profileImageWriting image (length room)) _ room);
+      added-classes = λ m room. lending (classes-told m (length room)) (after-refusal (classesAnswer m (length room)) _ room);
       tk-read = λ m room. packed-lending (read-image-told m (length room)) (after-refusal (imageReading m (length room)) _ room);
       tk-write = λ image room.
           packed-lending (write-image-told image (length room)) (after-refusal (imageWriting image (length room)) _ room);
@@ -332,6 +389,11 @@ demand-1 =
       tk-charging = λ m room.
           packed-lending (octet-charging-told m (length room)) (after-refusal (octetCharging m (length room)) _ room);
       tk-order = λ m table. packed-lending (order-told m _) (octets-kept (octetOrder m (length table)) _ table);
+      tk-profile-read = λ m room.
+          packed-lending (profile-image-reading-told m (length room)) (after-refusal (profileImageReading m (length room)) _ room);
+      tk-profile-write = λ image room.
+          packed-lending (profile-image-writing-told image (length room)) (after-refusal (profileImageWriting image (length room)) _ room);
+      tk-added-classes = λ m room. packed-lending (classes-told m (length room)) (after-refusal (classesAnswer m (length room)) _ room);
       tk-edit = λ e d n. packed-lending (editing-told e d n) (λ k q f. buffer-refused e d n k q f);
       showing = shows;
       stores = λ fits stored before r now p f. rw f at (p .1);
@@ -491,11 +553,6 @@ order-listed-so s a front one back w h b o right e start at table l r now p =
     let given : orderAnswer m (length table) ≡ Accepted n = rw (sym at, count, le-ltb (length table) n l) in
     (p .0 ∙ given, p .1 ∙ rw (given, rows))
 
--- with E0 found, no answer is 16
-room-alone : (b : Bool) (n : ℕ) → refuse b no-room 0 (Accepted n) ≡ Refused absent 0 → ⊥
-room-alone true n e = let z : _≡_ {A = ℕ} 15 16 = ap numberOf e in omega arith
-room-alone false n e = let z : _≡_ {A = ℕ} 0 16 = ap numberOf e in omega arith
-
 order-there-so : (s : List Part) → Allowed s → (room : ℕ) (r : Answer) → OrderCheckPromise (layout s) room r
     → (r ≡ Refused absent 0) ↔ (timesIn (nameOf connection-order) (namesOf (itemsIn s)) ≡ 0)
 unfolding orderAnswer
@@ -581,6 +638,24 @@ demand-2 =
       order-listed = order-listed-so;
       order-there = order-there-so;
       order-rows = order-rows-so;
+      profile-accepted = profile-accepted-so;
+      profile-record = profile-record-so;
+      profile-passed = profile-passed-so;
+      profile-outside = profile-outside-so;
+      profile-none = profile-none-so;
+      profile-network = profile-network-so;
+      profile-pairs = profile-pairs-so;
+      profile-classes = profile-classes-so;
+      profile-unclassed = profile-unclassed-so;
+      profile-written-back = profile-back-so;
+      profile-written = profile-written-so;
+      profile-written-allowed = profile-allowed-so;
+      profile-message = profile-message-so;
+      profile-reads-back = profile-reads-so;
+      profile-write-passed = profile-write-passed-so;
+      profile-write-outside = profile-write-outside-so;
+      classes-told = classes-told-so;
+      classes-there = classes-there-so;
     }
 
 edited-so : (s : List Part) → Allowed s → (e : Edit) → OfOctets e → (d : List ℕ) → Octetwise d → (n : ℕ) → take n d ≡ layout s

@@ -1,6 +1,6 @@
 -- Wrong programs for each function that serves the product's. A row of the table has two inputs of a function and what its own definition
 -- gives at each; `shut-out` says of every row: a program that answers the same at both inputs breaks the promise, and of a function that
--- stores, so does one that says the same at both, and one that stores nothing. For `Common::none`, `Transfer::none`,
+-- stores, so does one that says the same at both, and one that stores nothing. For `Common::none`, `Transfer::none`, `AddedClass::none`,
 -- `walk::cursor::first`, `reader::reading::empty` and, in the base, where every name may stand once, for `often_of` a constant is right,
 -- and they have no row.
 use Prim.Native.Nat.{ℕ, _+_, min}

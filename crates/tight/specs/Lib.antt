@@ -8,4 +8,5 @@ pub mod WrongClasses
 pub mod WrongPacked
 pub mod WrongCharging
 pub mod WrongOrders
+pub mod WrongProfile
 pub mod Constants

@@ -28,11 +28,24 @@ use Rattle.annex.specs.Charging.{
   octetCharged,
 }
 use Rattle.annex.specs.Opened.{orderAnswer, orderTable}
+use Rattle.annex.specs.Profile.{
+  profileVerdict,
+  profileWriting,
+  profileWritten,
+  profileBy,
+  profileReading,
+  classesAnswer,
+  classesGiven,
+}
 use Rattle.annex.specs.Packed.{
   imageReading,
   imageRead,
   imageWriting,
   imageWritten,
+  profileImageReading,
+  profileImageRead,
+  profileImageWriting,
+  profileImageWritten,
   octetSpans,
   octetTable,
   octetOrder,
@@ -55,6 +68,12 @@ use Rattle.annex.specs.Promises.{
   ClassPromise,
   ChargingPromise,
   OctetChargingPromise,
+  ProfileVerdictPromise,
+  ProfileReadPromise,
+  ProfileWritePromise,
+  ProfileImageReadPromise,
+  ProfileImageWritePromise,
+  ClassesPromise,
   ImageReadPromise,
   ImageWritePromise,
   FromImagePromise,
@@ -69,6 +88,7 @@ use Rattle.annex.specs.declared.Class.the-variants.{Named, HeldBack, Spare}
 use Rattle.annex.specs.declared.ClassAnswer.{ClassAnswer}
 use Rattle.annex.specs.declared.ClassAnswer.the-variants as classes
 use Rattle.annex.specs.declared.Imaged.{Imaged}
+use Rattle.annex.specs.declared.ProfileReading.{ProfileReading}
 use Rattle.annex.specs.declared.Reading.{Reading}
 use Rattle.annex.specs.declared.Record.{Record}
 use Rattle.annex.specs.declared.Row.{Row}
@@ -90,6 +110,11 @@ use Rattle.tight.specs.Told.{
   charging-told,
   octet-charging-told,
   order-told,
+  profile-verdict-told,
+  profile-writing-told,
+  profile-image-reading-told,
+  profile-image-writing-told,
+  classes-told,
 }
 
 -- ---- an answer by its number, place and value
@@ -173,6 +198,30 @@ pub octet-charging-numbers : (m room : List ℕ) (r : Answer) (now : List ℕ)
 octet-charging-numbers m room r now =
     right-with (octetCharging m (length room)) r (octetCharged m room) now (octet-charging-told m (length room))
 
+pub profile-verdict-numbers : (m : List ℕ) (r : Answer) → ProfileVerdictPromise m r ↔ Right (profileVerdict m) r
+profile-verdict-numbers m r = right (profileVerdict m) r (profile-verdict-told m)
+
+pub profile-writing-numbers : (held : Record) (room : List ℕ) (r : Answer) (now : List ℕ)
+    → ProfileWritePromise held room r now ↔ (Right (profileWriting held (length room)) r × (now ≡ profileWritten held room))
+profile-writing-numbers held room r now =
+    right-with (profileWriting held (length room)) r (profileWritten held room) now (profile-writing-told held (length room))
+
+pub profile-imaging-numbers : (m room : List ℕ) (r : Answer) (now : List ℕ)
+    → ProfileImageReadPromise m room r now ↔ (Right (profileImageReading m (length room)) r × (now ≡ profileImageRead m room))
+profile-imaging-numbers m room r now =
+    right-with (profileImageReading m (length room)) r (profileImageRead m room) now (profile-image-reading-told m (length room))
+
+pub profile-image-writing-numbers : (image room : List ℕ) (r : Answer) (now : List ℕ) → ProfileImageWritePromise image room r now
+    ↔ (Right (profileImageWriting image (length room)) r × (now ≡ profileImageWritten image room))
+profile-image-writing-numbers image room r now =
+    right-with (profileImageWriting image (length room)) r (profileImageWritten image room) now
+    (profile-image-writing-told image (length room))
+
+pub classes-numbers : (m room : List ℕ) (r : Answer) (now : List ℕ)
+    → ClassesPromise m room r now ↔ (Right (classesAnswer m (length room)) r × (now ≡ classesGiven m room))
+classes-numbers m room r now =
+    right-with (classesAnswer m (length room)) r (classesGiven m room) now (classes-told m (length room))
+
 -- an answer with a record beside it
 same-reading : (r d : Reading) → (r .answer ≡ d .answer) × (r .«record» ≡ d .«record») → r ≡ d
 same-reading r d e =
@@ -193,6 +242,28 @@ read-numbers m r =
     let e = right-with (verdictOf m) (r .answer) (readingOf m .«record») (r .«record») (verdict-told m) in (
       λ p. e .0 (ap (λ (q : Reading). q .answer) p ∙ a, ap (λ (q : Reading). q .«record») p),
       λ p. let b = e .1 p in same-reading r (readingOf m) (b .0 ∙ sym a, b .1),
+    )
+
+pub profile-answer : (a : Answer) (r : List Part) → profileBy a r .answer ≡ a
+profile-answer (Accepted n) r = refl
+profile-answer (Refused k p) r = refl
+
+same-profile : (r d : ProfileReading)
+    → (r .answer ≡ d .answer) × (r .«record» ≡ d .«record») × (r .profile ≡ d .profile) → r ≡ d
+same-profile r d e = rw (← e .0, ← e .1, ← e .2)
+
+pub profile-numbers : (m : List ℕ) (r : ProfileReading) → ProfileReadPromise m r
+    ↔ (Right (profileVerdict m) (r .answer) × (r .«record» ≡ profileReading m .«record») × (r .profile ≡ profileReading m .profile))
+unfolding profileReading
+profile-numbers m r =
+    let a = profile-answer (profileVerdict m) (recordOf m) in
+    let e = right (profileVerdict m) (r .answer) (profile-verdict-told m) in (
+      λ p. (
+        e .0 (ap (λ (q : ProfileReading). q .answer) p ∙ a),
+        ap (λ (q : ProfileReading). q .«record») p,
+        ap (λ (q : ProfileReading). q .profile) p,
+      ),
+      λ p. same-profile r (profileReading m) (e .1 (p .0) ∙ sym a, p .1, p .2),
     )
 
 pub imaged-numbers : (image : List ℕ) (r : Imaged)

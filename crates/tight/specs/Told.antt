@@ -21,6 +21,7 @@ use Rattle.annex.specs.Answers.{
   transfer-over,
   no-room,
   absent,
+  outside-profile,
   refuse,
   soundThen,
   headerAt,
@@ -135,13 +136,26 @@ use Rattle.annex.specs.Writing.{
 use Rattle.annex.specs.Image.{Front, imageOf, partsFront, noImage, isWithin, imagedBy, imagedOf}
 use Rattle.annex.specs.Image.Front.{Taken, Short}
 use Rattle.annex.specs.Finding.{foundAnswer, findAnswer, findPart}
-use Rattle.annex.specs.Packed.{imageReading, imageWriting}
+use Rattle.annex.specs.Packed.{imageReading, imageWriting, profileImageReading, profileImageWriting}
 use Rattle.annex.specs.Opened.{orderFound, orderRowsOf, orderAnswer}
 use Rattle.annex.specs.Spans.{rowsOf, spansOf, spansBy}
 use Rattle.annex.specs.Editing.{Edit, newHeader, newAfter, newHead, newContents, editRefusal, edited, recordEditing, editingOf}
 use Rattle.annex.specs.Editing.Edit.{Replacing, Appending, Removing}
 use Rattle.annex.specs.Classes.{ClassList, classLists, classBy, classIn, classOf}
 use Rattle.annex.specs.Charging.{chargingFound, charging-octets, chargingBy, chargingOf, octetChargingBy, octetCharging}
+use Rattle.annex.specs.Profile.{
+  pairOctets,
+  added-class,
+  some,
+  isHeaded,
+  isInProfile,
+  profiled,
+  profileVerdict,
+  profileRefusal,
+  profileWriting,
+  classesOf,
+  classesAnswer,
+}
 use Rattle.annex.specs.declared.Alphabet.{Alphabet}
 use Rattle.annex.specs.declared.Alphabet.the-variants.{Dialled, Numbered, Decimal}
 use Rattle.annex.specs.declared.Answer.{Answer}
@@ -563,3 +577,37 @@ unfolding orderAnswer
 order-told m room =
     followed (findAnswer m (orderFound m)) _ (find-told m (orderFound m))
     (λ _. refused (ltb room (length (orderRowsOf m))) no-room 0 (Accepted (length (orderRowsOf m))) (omega arith) (record {}))
+
+-- ---- the mobile call profile
+
+-- where what comes before has a number, so has what the profile adds
+profiled-told : (r : List Part) (a : Answer) → HasNumber a → HasNumber (profiled r a)
+profiled-told r a t =
+    followed a _ t (λ n. refused (not (isInProfile r)) outside-profile (n - 1) (Accepted n) (omega arith) (record {}))
+
+pub profile-verdict-told : (m : List ℕ) → HasNumber (profileVerdict m)
+unfolding profileVerdict
+profile-verdict-told m = profiled-told (recordOf m) (verdictOf m) (verdict-told m)
+
+pub profile-writing-told : (s : Record) (room : ℕ) → HasNumber (profileWriting s room)
+unfolding profileWriting profileRefusal
+profile-writing-told s room =
+    followed (profileRefusal s) _ (profiled-told (view s) (structWriting s) (struct-told s))
+    (λ n. refused (ltb room n) no-room 0 (Accepted n) (omega arith) (record {}))
+
+pub profile-image-reading-told : (m : List ℕ) (room : ℕ) → HasNumber (profileImageReading m room)
+unfolding profileImageReading
+profile-image-reading-told m room = followed (profileVerdict m) _ (profile-verdict-told m) (λ _. read-image-told m room)
+
+pub profile-image-writing-told : (image : List ℕ) (room : ℕ) → HasNumber (profileImageWriting image room)
+unfolding profileImageWriting
+profile-image-writing-told image room =
+    followed (imagedOf image .answer) _ (imaged-told image) (λ _. profile-writing-told (imagedOf image .held) room)
+
+pub classes-told : (m : List ℕ) (room : ℕ) → HasNumber (classesAnswer m room)
+unfolding classesAnswer
+classes-told m room =
+    let n = length (pairOctets (classesOf (recordOf m))) in
+    followed (profileVerdict m) _ (profile-verdict-told m)
+    (λ _. refused (not (some (isHeaded added-class) (itemsIn (recordOf m)))) absent 0 _ (omega arith)
+    (refused (ltb room n) no-room 0 (Accepted n) (omega arith) (record {})))

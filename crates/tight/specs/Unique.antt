@@ -28,6 +28,12 @@ use Rattle.annex.specs.Promises.{
   ClassPromise,
   ChargingPromise,
   OctetChargingPromise,
+  ProfileVerdictPromise,
+  ProfileReadPromise,
+  ProfileWritePromise,
+  ProfileImageReadPromise,
+  ProfileImageWritePromise,
+  ClassesPromise,
   ImageReadPromise,
   ImageWritePromise,
   FromImagePromise,
@@ -39,6 +45,9 @@ use Rattle.annex.specs.Promises.{
   TkClassPromise,
   TkChargingPromise,
   TkOrderPromise,
+  TkProfileReadPromise,
+  TkProfileWritePromise,
+  TkClassesPromise,
   TkEditPromise,
   Gives,
   Stores,
@@ -50,6 +59,7 @@ use Rattle.annex.specs.declared.Imaged.{Imaged}
 use Rattle.annex.specs.declared.Row.{Row}
 use Rattle.annex.specs.declared.ClassAnswer.{ClassAnswer}
 use Rattle.annex.specs.declared.ChargingAnswer.{ChargingAnswer}
+use Rattle.annex.specs.declared.ProfileReading.{ProfileReading}
 use Rattle.laws.specs.Found.{stretchFrom, part-where}
 
 -- what is equal to the same is equal
@@ -131,6 +141,30 @@ pub one-octet-charging : (m room : List ℕ) (a b : Answer) (s t : List ℕ) →
     → OctetChargingPromise m room b t → (a ≡ b) × (s ≡ t)
 one-octet-charging m room a b s t p q = both p q
 
+-- ---- the mobile call profile
+
+pub one-profile-verdict : (m : List ℕ) (a b : Answer) → ProfileVerdictPromise m a → ProfileVerdictPromise m b → a ≡ b
+one-profile-verdict m a b p q = same p q
+
+pub one-profile-reading : (m : List ℕ) (a b : ProfileReading) → ProfileReadPromise m a → ProfileReadPromise m b → a ≡ b
+one-profile-reading m a b p q = same p q
+
+pub one-profile-writing : (held : Record) (room : List ℕ) (a b : Answer) (s t : List ℕ) → ProfileWritePromise held room a s
+    → ProfileWritePromise held room b t → (a ≡ b) × (s ≡ t)
+one-profile-writing held room a b s t p q = both p q
+
+pub one-profile-imaging : (m room : List ℕ) (a b : Answer) (s t : List ℕ) → ProfileImageReadPromise m room a s
+    → ProfileImageReadPromise m room b t → (a ≡ b) × (s ≡ t)
+one-profile-imaging m room a b s t p q = both p q
+
+pub one-profile-image-writing : (image room : List ℕ) (a b : Answer) (s t : List ℕ) → ProfileImageWritePromise image room a s
+    → ProfileImageWritePromise image room b t → (a ≡ b) × (s ≡ t)
+one-profile-image-writing image room a b s t p q = both p q
+
+pub one-classes : (m room : List ℕ) (a b : Answer) (s t : List ℕ) → ClassesPromise m room a s → ClassesPromise m room b t
+    → (a ≡ b) × (s ≡ t)
+one-classes m room a b s t p q = both p q
+
 -- ---- a record's image
 
 pub one-imaging : (m room : List ℕ) (a b : Answer) (s t : List ℕ) → ImageReadPromise m room a s → ImageReadPromise m room b t
@@ -172,6 +206,18 @@ one-tk-charging m room a b s t p q = both p q
 pub one-tk-order : (m table : List ℕ) (a b : ℕ) (s t : List ℕ) → TkOrderPromise m table a s → TkOrderPromise m table b t
     → (a ≡ b) × (s ≡ t)
 one-tk-order m table a b s t p q = both p q
+
+pub one-tk-profile-read : (m room : List ℕ) (a b : ℕ) (s t : List ℕ) → TkProfileReadPromise m room a s → TkProfileReadPromise m room b t
+    → (a ≡ b) × (s ≡ t)
+one-tk-profile-read m room a b s t p q = both p q
+
+pub one-tk-profile-write : (image room : List ℕ) (a b : ℕ) (s t : List ℕ) → TkProfileWritePromise image room a s
+    → TkProfileWritePromise image room b t → (a ≡ b) × (s ≡ t)
+one-tk-profile-write image room a b s t p q = both p q
+
+pub one-tk-classes : (m room : List ℕ) (a b : ℕ) (s t : List ℕ) → TkClassesPromise m room a s → TkClassesPromise m room b t
+    → (a ≡ b) × (s ≡ t)
+one-tk-classes m room a b s t p q = both p q
 
 pub one-tk-edit : (e : Edit) (buffer : List ℕ) (n a b : ℕ) (s t : List ℕ) → TkEditPromise e buffer n a s → TkEditPromise e buffer n b t
     → (a ≡ b) × (s ≡ t)

@@ -1,7 +1,8 @@
 -- Wrong programs that the promises shut out, each with the input at which it breaks one: those that document 01 names under "How tight each
 -- promise is", and two for every other public function. Those about a record's image and about the functions for Rust and C stand in
 -- WrongPacked, the listing's in WrongRows, the classes' in WrongClasses, those about charging information in WrongCharging, those about
--- connection orders in WrongOrders, those of the functions that serve these in Constants.
+-- connection orders in WrongOrders, those about the mobile call profile in WrongProfile, those of the functions that serve these in
+-- Constants.
 use Prim.Native.Nat.{ℕ}
 use native.Mathlib.Omega.{arith}
 use mathlib.Core.Path.{_≡_, refl, ap, _∙_}
