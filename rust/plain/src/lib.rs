@@ -4,7 +4,8 @@
 //! them, the transfer data, holds transfer parameters of its own. This crate
 //! reads a message to a [`Record`], writes a record, finds a parameter's
 //! contents, lists the spans of all parameters, classes code values, opens the
-//! charging information and the connection order, and edits a message in place.
+//! charging information and the connection order, edits a message in place, and
+//! reads and writes by the mobile call profile, which asks for more.
 //!
 //! Every question is answered with what was asked for, or with a [`Refusal`]:
 //! a number that says why, and a place that says where. No call changes lent
@@ -35,6 +36,7 @@ pub mod image;
 pub mod listing;
 mod number;
 pub mod order;
+pub mod profile;
 pub mod reading;
 pub mod record;
 pub mod refusal;
@@ -48,6 +50,8 @@ pub use finding::{find_common, find_transfer};
 pub use image::{from_image, image};
 pub use listing::{rows, spans, Row};
 pub use order::{order, order_spans};
+pub use profile::{added_classes, profile_read, profile_write};
+pub use profile::{AddedClass, AddedName, Network, Profile};
 pub use reading::{read, verdict};
 pub use record::{Common, Record, Transfer};
 pub use refusal::Refusal;

@@ -3,7 +3,7 @@
 /// Why a call was refused, and where in the message.
 #[derive(Clone, Copy, Debug, PartialEq, Eq, Hash)]
 pub struct Refusal {
-    /// One of the refusal numbers 1 to 19, the constants below.
+    /// One of the refusal numbers 1 to 20, the constants below.
     pub number: u8,
     /// The offset that the number's rule names; 0 where it names none.
     pub place: usize,
@@ -53,6 +53,8 @@ impl Refusal {
     /// 19: a form or a header of the connection order is not listed, not under
     /// that form, or repeated.
     pub const CONNECTION_ORDER: u8 = 19;
+    /// 20: a rule of the mobile call profile is not kept.
+    pub const PROFILE: u8 = 20;
 
     /// The refusal `number` at `place`.
     pub const fn new(number: u8, place: usize) -> Self {

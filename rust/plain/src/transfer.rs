@@ -18,6 +18,12 @@ pub const DIGIT_LIMIT: usize = 63;
 pub const CHARGING: u8 = 0xF7;
 /// Header of the connection order.
 pub const ORDER: u8 = 0xE0;
+/// Header of the kind of network next to ours.
+pub const NETWORK: u8 = 0x7E;
+/// Header of the information on the area that a call comes from.
+pub const AREA_INFORMATION: u8 = 0xFD;
+/// Header of the added classes of the calling user.
+pub const ADDED_CLASSES: u8 = 0xD6;
 /// The first octet of a DA whose rest is a number.
 pub const GENERIC_IS_NUMBER: u8 = 0x06;
 
@@ -80,7 +86,7 @@ const IN_USE: [(u8, Layout); NAME_COUNT] = [
     (0x79, Layout::Octet { zero: 0x00 }),
     (0x7A, Layout::Octet { zero: 0x00 }),
     (0x7C, Layout::Octet { zero: 0x00 }),
-    (0x7E, Layout::Octet { zero: 0x00 }),
+    (NETWORK, Layout::Octet { zero: 0x00 }),
     (0x90, Layout::Digits { zero: 0x40 }),
     (0x91, Layout::Digits { zero: 0x00 }),
     (0x95, Layout::Digits { zero: 0x40 }),
@@ -91,7 +97,7 @@ const IN_USE: [(u8, Layout); NAME_COUNT] = [
     (0xCE, Layout::Carried),
     (0xCF, Layout::Two { zero: 0x08 }),
     (0xD3, Layout::Carried),
-    (0xD6, Layout::Carried),
+    (ADDED_CLASSES, Layout::Carried),
     (0xD7, Layout::UserNumber),
     (0xD9, Layout::Carried),
     (0xDA, Layout::GenericNumber),
@@ -107,7 +113,7 @@ const IN_USE: [(u8, Layout); NAME_COUNT] = [
     (0xF6, Layout::Carried),
     (CHARGING, Layout::Charging),
     (0xF8, Layout::Carried),
-    (0xFD, Layout::Carried),
+    (AREA_INFORMATION, Layout::Carried),
     (0x07, Layout::Open),
     (0x24, Layout::Open),
     (0x30, Layout::Open),

@@ -39,6 +39,16 @@ impl Draft {
 /// stand, 1, 2, 3, 5, 8 to 13, 18 and 19; after the last transfer parameter 14;
 /// at the end 6, then 15.
 pub fn write(record: &Record, room: &mut [u8]) -> Result<usize, Refusal> {
+    write_checked(record, room, |_| Ok(()))
+}
+
+/// The same with one more check, between 6 and 15, which is told where the end
+/// mark stands.
+pub(crate) fn write_checked(
+    record: &Record,
+    room: &mut [u8],
+    check: impl FnOnce(usize) -> Result<(), Refusal>,
+) -> Result<usize, Refusal> {
     if !record.within_limits() {
         return Err(Refusal::new(Refusal::LIMITS, 0));
     }
@@ -53,6 +63,7 @@ pub fn write(record: &Record, room: &mut [u8]) -> Result<usize, Refusal> {
     if !seen.complete() {
         return Err(Refusal::new(Refusal::MISSING, draft.len));
     }
+    check(draft.len)?;
     draft.put(&[END_MARK]);
     room.get_mut(..draft.len)
         .ok_or(Refusal::placeless(Refusal::ROOM_SHORT))?
