@@ -28,36 +28,30 @@ extern "C" {
     fn tk_order(message: *const u8, len: usize, table: *mut u8, table_len: usize) -> u64;
 }
 
+/// A function of the static library that reads one stretch of octets and writes
+/// into the front of another, each told by its pointer and its length.
+type Filling = unsafe extern "C" fn(*const u8, usize, *mut u8, usize) -> u64;
+
+/// Calls such a function of the static library.
+fn fill(function: Filling, octets: &[u8], lent: &mut [u8]) -> u64 {
+    let (front, len) = (lent.as_mut_ptr(), lent.len());
+    // SAFETY: each pointer and length is a slice's, and `lent` overlaps nothing.
+    unsafe { function(octets.as_ptr(), octets.len(), front, len) }
+}
+
 /// The record's image of `message`, into the front of `image`; value: its length.
 pub fn read(message: &[u8], image: &mut [u8]) -> u64 {
-    // SAFETY: each pointer and length is a slice's, and `image` overlaps nothing.
-    unsafe {
-        tk_read(
-            message.as_ptr(),
-            message.len(),
-            image.as_mut_ptr(),
-            image.len(),
-        )
-    }
+    fill(tk_read, message, image)
 }
 
 /// The message of a record's `image`, into the front of `room`; value: its length.
 pub fn write(image: &[u8], room: &mut [u8]) -> u64 {
-    // SAFETY: each pointer and length is a slice's, and `room` overlaps nothing.
-    unsafe { tk_write(image.as_ptr(), image.len(), room.as_mut_ptr(), room.len()) }
+    fill(tk_write, image, room)
 }
 
 /// The rows of `message`, 5 octets each, into the front of `table`; value: their count.
 pub fn rows(message: &[u8], table: &mut [u8]) -> u64 {
-    // SAFETY: each pointer and length is a slice's, and `table` overlaps nothing.
-    unsafe {
-        tk_rows(
-            message.as_ptr(),
-            message.len(),
-            table.as_mut_ptr(),
-            table.len(),
-        )
-    }
+    fill(tk_rows, message, table)
 }
 
 /// Where the contents of a common parameter stand; place and value: offset and length.
@@ -104,17 +98,13 @@ pub fn remove(buffer: &mut [u8], n: usize, name: u8) -> u64 {
 /// The charging information of `message`, opened, into the front of `out`; value:
 /// how many octets it takes.
 pub fn charging(message: &[u8], out: &mut [u8]) -> u64 {
-    let (octets, len) = (out.as_mut_ptr(), out.len());
-    // SAFETY: each pointer and length is a slice's, and `out` overlaps nothing.
-    unsafe { tk_charging(message.as_ptr(), message.len(), octets, len) }
+    fill(tk_charging, message, out)
 }
 
 /// The rows of the connection order of `message`, 5 octets each, into the front
 /// of `table`; value: their count.
 pub fn order(message: &[u8], table: &mut [u8]) -> u64 {
-    let (octets, len) = (table.as_mut_ptr(), table.len());
-    // SAFETY: each pointer and length is a slice's, and `table` overlaps nothing.
-    unsafe { tk_order(message.as_ptr(), message.len(), octets, len) }
+    fill(tk_order, message, table)
 }
 
 /// Memory for octets. It is not cleared first: an octet of it is set or not.
@@ -126,25 +116,28 @@ impl<const N: usize> Room<N> {
         Room([MaybeUninit::uninit(); N])
     }
 
-    /// What `call` writes at the front of the memory. It is handed the memory's
-    /// pointer and length, and answers as the static library does.
+    /// What `function` writes at the front of the memory, of `octets`.
     ///
     /// # Safety
     ///
-    /// Where `call` accepts, it must have set `unit` octets for each of its value,
-    /// from the first on.
+    /// Where `function` accepts, it must have set `unit` octets for each of its
+    /// value, from the first on.
     unsafe fn filled(
         &mut self,
         unit: usize,
-        call: impl FnOnce(*mut u8, usize) -> u64,
+        function: Filling,
+        octets: &[u8],
     ) -> Result<&[u8], Refusal> {
         if cfg!(not(target_arch = "x86_64")) {
             // `far` reads what is lent to it.
             self.0.fill(MaybeUninit::new(0));
         }
-        let value = unpack(call(self.0.as_mut_ptr().cast(), N))?.value;
+        let lent = self.0.as_mut_ptr().cast();
+        // SAFETY: each pointer and length is a stretch's, and the memory overlaps
+        // nothing.
+        let value = unpack(function(octets.as_ptr(), octets.len(), lent, N))?.value;
         let front = self.0.get(..unit * value).unwrap_or_default();
-        // SAFETY: `call` has set them.
+        // SAFETY: `function` has set them.
         Ok(all_set(front))
     }
 }
@@ -158,14 +151,9 @@ pub(crate) fn read_into<'r>(
     message: &[u8],
     room: &'r mut Room<IMAGE_MAX>,
 ) -> Result<&'r [u8], Refusal> {
-    // SAFETY: each pointer and length is a slice's, and `room` overlaps nothing.
-    // Where the call is accepted, its value counts the octets of the image, which
-    // then stands at the front. This is proved: `TkReadPromise`.
-    unsafe {
-        room.filled(1, |image, len| {
-            tk_read(message.as_ptr(), message.len(), image, len)
-        })
-    }
+    // SAFETY: where the call is accepted, its value counts the octets of the image,
+    // which then stands at the front. This is proved: `TkReadPromise`.
+    unsafe { room.filled(1, tk_read, message) }
 }
 
 /// The message of a record's `image`, in `room`.
@@ -178,11 +166,7 @@ pub(crate) fn write_into<'r>(
     room: &'r mut Room<MESSAGE_MAX>,
 ) -> Result<&'r [u8], Refusal> {
     // SAFETY: as in `read_into`, of the message's octets: `TkWritePromise`.
-    unsafe {
-        room.filled(1, |message, len| {
-            tk_write(image.as_ptr(), image.len(), message, len)
-        })
-    }
+    unsafe { room.filled(1, tk_write, image) }
 }
 
 /// The table of the rows of `message`, in `room`.
@@ -195,11 +179,7 @@ pub(crate) fn rows_into<'r>(
     room: &'r mut Room<TABLE_MAX>,
 ) -> Result<&'r [u8], Refusal> {
     // SAFETY: as in `read_into`, of the rows, which the value counts: `TkRowsPromise`.
-    unsafe {
-        room.filled(ROW_LEN, |table, len| {
-            tk_rows(message.as_ptr(), message.len(), table, len)
-        })
-    }
+    unsafe { room.filled(ROW_LEN, tk_rows, message) }
 }
 
 /// Octets that are set, as such.
