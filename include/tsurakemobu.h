@@ -30,29 +30,32 @@ extern "C" {
 #define TK_CHARGING_LEN 23
 /* The most rows of an opened connection order: its form, and as many parameters as can stand under one form. */
 #define TK_ORDER_ROWS_MAX 5
+/* The most octets of the added classes of D6 in the mobile call profile: a name and a value for each of six names. */
+#define TK_ADDED_MAX 12
 
 /* Why a call was refused. */
 enum tk_number {
-    TK_ACCEPTED = 0,         /* not refused */
-    TK_OVER_LIMITS = 1,      /* a message without octets or with more than 272, or a record beyond what a record may hold */
-    TK_UNLISTED = 2,         /* a common header that is not in the list */
-    TK_REPEATED = 3,         /* a common parameter for the second time */
-    TK_CUT_SHORT = 4,        /* no end mark, or a common parameter runs past the message's end */
-    TK_NOT_ALLOWED = 5,      /* a user class or signal kind that is not among those allowed, or a sequence with another number than 1 */
-    TK_MISSING = 6,          /* the end mark comes without user class or signal kind before it */
-    TK_LEFT_OVER = 7,        /* something follows the end mark */
-    TK_UNUSED_NAME = 8,      /* a transfer name that is not in use */
-    TK_OTHER_PLI = 9,        /* a transfer name under a PLI that it does not have */
-    TK_REPEATED_NAME = 10,   /* a transfer name for the second time */
-    TK_CUT_CONTENTS = 11,    /* contents that run past their end, or are not as long as their PLI says */
-    TK_BAD_FORM = 12,        /* a bit that must be 0 is not, contents of the wrong form, or a value too large for its bits */
-    TK_BAD_DIGIT = 13,       /* a digit code without a meaning, a character that may not be there, or a half left over that is not 0 */
-    TK_TRANSFER_OVER = 14,   /* transfer data longer than 255 octets */
-    TK_NO_ROOM = 15,         /* what is lent is too short */
-    TK_ABSENT = 16,          /* the parameter, or the transfer data, is not there */
-    TK_NO_CLASS_LIST = 17,   /* the header's code values have no classes */
-    TK_CHECK_DIGIT = 18,     /* the check digit of the charging information is wrong */
-    TK_CONNECTION_ORDER = 19 /* a form or header of the connection order is not listed, not under that form, or repeated */
+    TK_ACCEPTED = 0,          /* not refused */
+    TK_OVER_LIMITS = 1,       /* a message without octets or with more than 272, or a record beyond what a record may hold */
+    TK_UNLISTED = 2,          /* a common header that is not in the list */
+    TK_REPEATED = 3,          /* a common parameter for the second time */
+    TK_CUT_SHORT = 4,         /* no end mark, or a common parameter runs past the message's end */
+    TK_NOT_ALLOWED = 5,       /* a user class or signal kind that is not among those allowed, or a sequence with another number than 1 */
+    TK_MISSING = 6,           /* the end mark comes without user class or signal kind before it */
+    TK_LEFT_OVER = 7,         /* something follows the end mark */
+    TK_UNUSED_NAME = 8,       /* a transfer name that is not in use */
+    TK_OTHER_PLI = 9,         /* a transfer name under a PLI that it does not have */
+    TK_REPEATED_NAME = 10,    /* a transfer name for the second time */
+    TK_CUT_CONTENTS = 11,     /* contents that run past their end, or are not as long as their PLI says */
+    TK_BAD_FORM = 12,         /* a bit that must be 0 is not, contents of the wrong form, or a value too large for its bits */
+    TK_BAD_DIGIT = 13,        /* a digit code without a meaning, a character that may not be there, or a half left over that is not 0 */
+    TK_TRANSFER_OVER = 14,    /* transfer data longer than 255 octets */
+    TK_NO_ROOM = 15,          /* what is lent is too short */
+    TK_ABSENT = 16,           /* the parameter, or the transfer data, is not there */
+    TK_NO_CLASS_LIST = 17,    /* the header's code values have no classes */
+    TK_CHECK_DIGIT = 18,      /* the check digit of the charging information is wrong */
+    TK_CONNECTION_ORDER = 19, /* a form or header of the connection order is not listed, not under that form, or repeated */
+    TK_PROFILE = 20           /* a rule of the mobile call profile is not kept */
 };
 
 /* The class of a code value. */
@@ -74,6 +77,22 @@ enum tk_order_header {
     TK_ORDER_CALLED_GUIDANCE = 0xCE,  /* guidance on the called side: a length octet and carried octets */
     TK_ORDER_TIMEOUT_GUIDANCE = 0xCF, /* guidance when waiting times out: the same */
     TK_ORDER_WAITING_TIME = 0xD2      /* waiting time: three IA5 digits, in half seconds */
+};
+
+/* The network that a call comes from: the octet of 7E in the mobile call profile. */
+enum tk_network {
+    TK_NETWORK_PHS = 0x02,   /* a PHS network */
+    TK_NETWORK_MOBILE = 0x03 /* a mobile network */
+};
+
+/* The names of the added classes of D6. */
+enum tk_added_name {
+    TK_ADDED_LONG_DISTANCE_1 = 0x01, /* NTT long-distance added class 1: authentication */
+    TK_ADDED_LONG_DISTANCE_2 = 0x02, /* NTT long-distance added class 2: service */
+    TK_ADDED_MOBILE_3 = 0xFB,        /* mobile added class 3: charging method */
+    TK_ADDED_MOBILE_2 = 0xFC,        /* mobile added class 2: communication system */
+    TK_ADDED_MOBILE_1 = 0xFD,        /* mobile added class 1: service */
+    TK_ADDED_FIXED_1 = 0xFE          /* fixed added class 1 */
 };
 
 /*
@@ -172,6 +191,26 @@ uint64_t tk_charging(const uint8_t *message, size_t message_len, uint8_t *out, s
  * count octet among them. The rows' counts, and 1 for each row, add up to the contents of E0.
  * Refused: reading's; 16 at 0 if there is no E0; 15 at 0 if `table` is too short. */
 uint64_t tk_order(const uint8_t *message, size_t message_len, uint8_t *table, size_t table_len);
+
+/*
+ * The mobile call profile asks more of a message, or of a record, than reading and writing do: the signal kind (06) is 11; 7E is
+ * there, and is a tk_network; FD is there, with any contents; and so is D6, where 7E is TK_NETWORK_MOBILE. A D6, under either network,
+ * is pairs of a name, which is a tk_added_name, and a value, which is any octet; the names stand in any order, each at most once; D6
+ * may be empty. TK_PROFILE, 20, says that one of these rules is not kept, and not which.
+ */
+
+/* The record of a message in the profile. Value and image as in tk_read; 7E and D6 are held in it as their contents.
+ * Refused: reading's; 20 at the end mark; 15 at 0 if `image` is too short. */
+uint64_t tk_profile_read(const uint8_t *message, size_t message_len, uint8_t *image, size_t image_len);
+
+/* The message of a record in the profile. Value and room as in tk_write.
+ * Refused: tk_write's, and before 15 comes 20 where the end mark would stand. */
+uint64_t tk_profile_write(const uint8_t *image, size_t image_len, uint8_t *room, size_t room_len);
+
+/* The added classes, D6, of a message in the profile. Value: how many octets they take, at most TK_ADDED_MAX, at the front of `out`;
+ * those behind them stay. They are a name (a tk_added_name) and a value for each class, in the order of D6; none if D6 is empty.
+ * Refused: tk_profile_read's but for 15; 16 at 0 if there is no D6; 15 at 0 if `out` is too short. */
+uint64_t tk_added_classes(const uint8_t *message, size_t message_len, uint8_t *out, size_t out_len);
 
 /*
  * Edits of the message in the first `n` octets of `buffer`. Value: the message's new length. Octets between the new end and a later

@@ -7,7 +7,8 @@
  */
 #include "tsurakemobu.h"
 
-enum { READ, WRITE, ROWS, FIND_COMMON, FIND_TRANSFER, CLASS, REPLACE, APPEND, REMOVE, CHARGING, ORDER };
+enum { READ, WRITE, ROWS, FIND_COMMON, FIND_TRANSFER, CLASS, REPLACE, APPEND, REMOVE, CHARGING, ORDER, PROFILE_READ, PROFILE_WRITE,
+       ADDED_CLASSES };
 
 /* What comes first in a request. */
 struct head {
@@ -124,6 +125,9 @@ static uint64_t call(const struct head *h, const uint8_t *fixed, uint8_t *lent) 
     case REMOVE: return tk_remove(lent, h->lent_len, h->first, (uint8_t)h->second);
     case CHARGING: return tk_charging(fixed, h->fixed_len, lent, h->lent_len);
     case ORDER: return tk_order(fixed, h->fixed_len, lent, h->lent_len);
+    case PROFILE_READ: return tk_profile_read(fixed, h->fixed_len, lent, h->lent_len);
+    case PROFILE_WRITE: return tk_profile_write(fixed, h->fixed_len, lent, h->lent_len);
+    case ADDED_CLASSES: return tk_added_classes(fixed, h->fixed_len, lent, h->lent_len);
     default: leave(1);
     }
 }

@@ -2,3 +2,4 @@
 pub mod Round
 pub mod Small
 pub mod SmallImages
+pub mod SmallProfile

@@ -183,27 +183,36 @@ record-upto r =
         upto-more (partsWriting unseen 0 r) (0 + length (layout r)) most-written
         (omega (arith, parts-few r, items-few (itemsIn r), h refl, i refl, j refl)) (parts-upto r unseen 0)
 
-writing-upto : (s : Record) (room : ℕ) → Upto most-written (writingOf s room)
-unfolding writingOf structWriting
-writing-upto s room =
-    upto-then (structWriting s) (λ n. refuse (ltb room n) no-room 0 (Accepted n)) most-written most-written (omega arith)
-    (upto-refuse (not (isWhole s)) over-limits 0 most-written (recordWriting (view s)) (omega arith) (record-upto (view s)))
+pub struct-upto : (s : Record) → Upto most-written (structWriting s)
+unfolding structWriting
+struct-upto s = upto-refuse (not (isWhole s)) over-limits 0 most-written (recordWriting (view s)) (omega arith) (record-upto (view s))
+
+-- then the room
+pub room-upto : (a : Answer) (room : ℕ) → Upto most-written a
+    → Upto most-written (andThen a (λ n. refuse (ltb room n) no-room 0 (Accepted n)))
+room-upto a room u =
+    upto-then a (λ n. refuse (ltb room n) no-room 0 (Accepted n)) most-written most-written (omega arith) u
     (λ n h. upto-refuse (ltb room n) no-room 0 most-written (Accepted n) (omega arith) (omega arith, h))
 
 -- ---- written from an image
 
-pub write-upto : (image : List ℕ) (room : ℕ) → Upto most-written (imageWriting image room)
-unfolding imageWriting imagedOf
-write-upto [] room = (omega arith, omega arith)
-write-upto (n ∷ s) room = go (partsFront n s)
+-- 1 at 0 where the octets are none
+pub imaged-upto : (image : List ℕ) (a : Answer) → Upto most-written a → Upto most-written (andThen (imagedOf image .answer) (λ _. a))
+unfolding imagedOf
+imaged-upto [] a u = (omega arith, omega arith)
+imaged-upto (n ∷ s) a u = go (partsFront n s)
   where
-    go : (f : Front Part) → Upto most-written (andThen (imagedBy (length s) f .answer) (λ _. writingOf (imagedBy (length s) f .held) room))
+    go : (f : Front Part) → Upto most-written (andThen (imagedBy (length s) f .answer) (λ _. a))
     go Short = (omega arith, omega arith)
     go (Taken r k) = told (eqb k (length s) && isWithin r)
       where
         told : (b : Bool)
-            → Upto most-written
-            (andThen (cond b (record { answer = Accepted (length r); held = pack r }) noImage .answer)
-            (λ _. writingOf (cond b (record { answer = Accepted (length r); held = pack r }) noImage .held) room))
-        told true = writing-upto (pack r) room
+            → Upto most-written (andThen (cond b (record { answer = Accepted (length r); held = pack r }) noImage .answer) (λ _. a))
+        told true = u
         told false = (omega arith, omega arith)
+
+pub write-upto : (image : List ℕ) (room : ℕ) → Upto most-written (imageWriting image room)
+unfolding imageWriting writingOf
+write-upto image room =
+    let s = imagedOf image .held in
+    imaged-upto image (writingOf s room) (room-upto (structWriting s) room (struct-upto s))

@@ -11,6 +11,8 @@ use editor::remove;
 use editor::replace;
 use image_reader::read_image;
 use image_writer::write_image;
+use profile::images;
+use profile::writing;
 use reader::finding::find_both;
 use rows::octets::octet_order;
 use rows::octets::octet_spans;
@@ -27,6 +29,9 @@ ghost use Rattle.annex.specs.Promises.{
   TkClassPromise,
   TkChargingPromise,
   TkOrderPromise,
+  TkProfileReadPromise,
+  TkProfileWritePromise,
+  TkClassesPromise,
   TkEditPromise,
 };
 
@@ -137,6 +142,31 @@ pub extern "C" fn tk_order(message: &[u8], table: &mut [u8]) -> u64
     ensures { λ r. ⌜ TkOrderPromise (now (message .entry)) (now (table .entry)) r (now (table .exit)) ⌝ }
 {
     pack_answer(octet_order(message, table))
+}
+
+// The record of a message that keeps the mobile call profile, as tk_read gives it. A refusal leaves the lent octets as they were.
+#[no_mangle]
+pub extern "C" fn tk_profile_read(message: &[u8], image: &mut [u8]) -> u64
+    ensures { λ r. ⌜ TkProfileReadPromise (now (message .entry)) (now (image .entry)) r (now (image .exit)) ⌝ }
+{
+    pack_answer(images::read_image(message, image))
+}
+
+// The message of a record that keeps the profile, as tk_write gives it. A refusal leaves the room as it was.
+#[no_mangle]
+pub extern "C" fn tk_profile_write(image: &[u8], room: &mut [u8]) -> u64
+    ensures { λ r. ⌜ TkProfileWritePromise (now (image .entry)) (now (room .entry)) r (now (room .exit)) ⌝ }
+{
+    pack_answer(writing::write_image(image, room))
+}
+
+// The added user classes of a message that keeps the profile, each name before its value, from the front of the lent octets on: how many
+// octets there are. A refusal leaves them as they were.
+#[no_mangle]
+pub extern "C" fn tk_added_classes(message: &[u8], out: &mut [u8]) -> u64
+    ensures { λ r. ⌜ TkClassesPromise (now (message .entry)) (now (out .entry)) r (now (out .exit)) ⌝ }
+{
+    pack_answer(images::added_classes(message, out))
 }
 
 // The parameter of the new octets in the place of the one with its name, in the message that the buffer's first n octets hold.

@@ -26,6 +26,9 @@ extern "C" {
     fn tk_remove(buffer: *mut u8, len: usize, n: usize, name: u8) -> u64;
     fn tk_charging(message: *const u8, len: usize, out: *mut u8, out_len: usize) -> u64;
     fn tk_order(message: *const u8, len: usize, table: *mut u8, table_len: usize) -> u64;
+    fn tk_profile_read(message: *const u8, len: usize, image: *mut u8, image_len: usize) -> u64;
+    fn tk_profile_write(image: *const u8, len: usize, room: *mut u8, room_len: usize) -> u64;
+    fn tk_added_classes(message: *const u8, len: usize, out: *mut u8, out_len: usize) -> u64;
 }
 
 /// A function of the static library that reads one stretch of octets and writes
@@ -107,6 +110,24 @@ pub fn order(message: &[u8], table: &mut [u8]) -> u64 {
     fill(tk_order, message, table)
 }
 
+/// The record's image of `message`, which is in the mobile call profile, into the
+/// front of `image`; value: its length.
+pub fn profile_read(message: &[u8], image: &mut [u8]) -> u64 {
+    fill(tk_profile_read, message, image)
+}
+
+/// The message of a record's `image`, which is in the mobile call profile, into
+/// the front of `room`; value: its length.
+pub fn profile_write(image: &[u8], room: &mut [u8]) -> u64 {
+    fill(tk_profile_write, image, room)
+}
+
+/// The added classes of `message`, which is in the mobile call profile, 2 octets
+/// each, into the front of `out`; value: how many octets they take.
+pub fn added_classes(message: &[u8], out: &mut [u8]) -> u64 {
+    fill(tk_added_classes, message, out)
+}
+
 /// Memory for octets. It is not cleared first: an octet of it is set or not.
 pub(crate) struct Room<const N: usize>([MaybeUninit<u8>; N]);
 
@@ -167,6 +188,33 @@ pub(crate) fn write_into<'r>(
 ) -> Result<&'r [u8], Refusal> {
     // SAFETY: as in `read_into`, of the message's octets: `TkWritePromise`.
     unsafe { room.filled(1, tk_write, image) }
+}
+
+/// The record's image of `message`, read by the mobile call profile, in `room`.
+///
+/// # Errors
+///
+/// Those of [`profile_read`](crate::profile_read).
+pub(crate) fn profile_read_into<'r>(
+    message: &[u8],
+    room: &'r mut Room<IMAGE_MAX>,
+) -> Result<&'r [u8], Refusal> {
+    // SAFETY: as in `read_into`: `TkProfileReadPromise`.
+    unsafe { room.filled(1, tk_profile_read, message) }
+}
+
+/// The message of a record's `image`, written by the mobile call profile, in
+/// `room`.
+///
+/// # Errors
+///
+/// Those of [`profile_write_to_vec`](crate::profile_write_to_vec).
+pub(crate) fn profile_write_into<'r>(
+    image: &[u8],
+    room: &'r mut Room<MESSAGE_MAX>,
+) -> Result<&'r [u8], Refusal> {
+    // SAFETY: as in `read_into`, of the message's octets: `TkProfileWritePromise`.
+    unsafe { room.filled(1, tk_profile_write, image) }
 }
 
 /// The table of the rows of `message`, in `room`.

@@ -31,11 +31,13 @@ pub mod boundary;
 mod charging;
 mod image;
 mod order;
+mod profile;
 pub mod record;
 mod refusal;
 
 pub use charging::Charging;
 pub use order::{Order, OrderHeader, OrderParameter};
+pub use profile::{AddedClass, AddedClassName, Network, Profile};
 pub use record::{Common, Record, Stretch, Transfer};
 pub use refusal::Refusal;
 
@@ -61,6 +63,9 @@ pub const CHARGING_LEN: usize = 1 + 11 * 2;
 /// The most rows of an opened connection order: its form, and as many parameters
 /// as can stand under one form.
 pub const ORDER_ROWS_MAX: usize = 5;
+/// The most octets of the added classes of D6 in the mobile call profile: a name
+/// and a value for each of six names.
+pub const ADDED_MAX: usize = 6 * 2;
 /// Octets of a row in the table that the static library fills.
 const ROW_LEN: usize = 5;
 /// The most octets of that table.
@@ -244,6 +249,91 @@ pub fn order(message: &[u8]) -> Result<Order<'_>, Refusal> {
     let count = unpack(boundary::order(message, &mut table))?.value;
     let rows = table.chunks_exact(ROW_LEN).take(count).map(row_of);
     Ok(Order::of(message, rows))
+}
+
+/// The record of a message in the mobile call profile, with the network that the
+/// call comes from and the added classes of D6.
+///
+/// The profile asks for the signal kind 11, for 7E with 2 (PHS) or 3 (mobile), for
+/// FD, and where 7E is 3 for D6. A D6, wherever it stands, is pairs of a name, each
+/// at most once, and a value.
+///
+/// ```
+/// use codec::{AddedClassName, Network, Refusal};
+///
+/// let message = [
+///     0x01, 0x01, 0x06, 0x11, 0xC5, 0x0A, 0x7E, 0x03, 0xFD, 0x00, 0xD6, 0x04, 0xFD, 0x01, 0xFE,
+///     0x02, 0x00,
+/// ];
+/// let profile = codec::profile_read(&message)?;
+/// assert_eq!(profile.network, Network::Mobile);
+/// assert_eq!(profile.added_class(AddedClassName::Mobile1), Some(0x01));
+/// assert_eq!(profile.added_class(AddedClassName::Fixed1), Some(0x02));
+/// assert_eq!(codec::profile_write_to_vec(&profile.record)?, message);
+///
+/// let mut other = message;
+/// other[3] = 0x12;
+/// let refusal = codec::profile_read(&other).unwrap_err();
+/// assert_eq!(refusal, Refusal::new(Refusal::PROFILE, 16));
+/// assert_eq!(codec::read(&other)?.common[1].value, 0x12);
+/// # Ok::<(), codec::Refusal>(())
+/// ```
+///
+/// # Errors
+///
+/// Those of [`read`], then 20 at the end mark if a rule of the profile is not kept.
+pub fn profile_read(message: &[u8]) -> Result<Profile, Refusal> {
+    let mut memory = Room::new();
+    let image = boundary::profile_read_into(message, &mut memory)?;
+    Ok(Profile::of(image::record_of(image)))
+}
+
+/// Writes the message of `record`, which is in the mobile call profile, into the
+/// front of `room`; gives its length. The octets behind it stay.
+///
+/// # Errors
+///
+/// Those of [`write()`], and before 15 comes 20, where the end mark would stand, if
+/// a rule of the profile is not kept.
+pub fn profile_write(record: &Record, room: &mut [u8]) -> Result<usize, Refusal> {
+    let mut memory = Room::new();
+    let image = image_within(record, &mut memory)?;
+    Ok(unpack(boundary::profile_write(image, room))?.value)
+}
+
+/// The message of `record`, which is in the mobile call profile.
+///
+/// # Errors
+///
+/// As [`profile_write`], but never 15.
+pub fn profile_write_to_vec(record: &Record) -> Result<Vec<u8>, Refusal> {
+    let (mut memory, mut room) = (Room::new(), Room::new());
+    let image = image_within(record, &mut memory)?;
+    Ok(boundary::profile_write_into(image, &mut room)?.to_vec())
+}
+
+/// The added classes of D6, in their order, of a message in the mobile call
+/// profile.
+///
+/// ```
+/// use codec::AddedClassName;
+///
+/// let message = [
+///     0x01, 0x01, 0x06, 0x11, 0xC5, 0x08, 0x7E, 0x02, 0xFD, 0x00, 0xD6, 0x02, 0x01, 0xFE, 0x00,
+/// ];
+/// let classes = codec::added_classes(&message)?;
+/// assert_eq!(classes.len(), 1);
+/// assert_eq!((classes[0].name, classes[0].value), (AddedClassName::LongDistance1, 0xFE));
+/// # Ok::<(), codec::Refusal>(())
+/// ```
+///
+/// # Errors
+///
+/// Those of [`profile_read`], then 16 at 0 if there is no D6.
+pub fn added_classes(message: &[u8]) -> Result<Vec<AddedClass>, Refusal> {
+    let mut octets = [0; ADDED_MAX];
+    let len = unpack(boundary::added_classes(message, &mut octets))?.value;
+    Ok(AddedClass::all_of(octets.get(..len).unwrap_or_default()))
 }
 
 /// Puts the transfer parameter `new` (its octets, header first) in the place of

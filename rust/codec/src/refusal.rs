@@ -6,12 +6,12 @@ use std::fmt;
 /// Why a call was refused, and where in the message.
 #[derive(Clone, Copy, Debug, PartialEq, Eq, Hash)]
 pub struct Refusal {
-    /// One of the numbers 1 to 19, the constants below.
+    /// One of the numbers 1 to 20, the constants below.
     pub number: u8,
     /// The offset in the message at which the fault stands: in a transfer
     /// parameter that of its header, but for a bad digit that is read
-    /// ([`BAD_DIGIT`](Self::BAD_DIGIT)) that of the octet; 0 where the number
-    /// has no place.
+    /// ([`BAD_DIGIT`](Self::BAD_DIGIT)) that of the octet; of the mobile call
+    /// profile that of the end mark; 0 where the number has no place.
     pub place: usize,
 }
 
@@ -64,6 +64,8 @@ impl Refusal {
     /// 19: a form or header of the connection order that is not listed, not
     /// under that form, or repeated.
     pub const CONNECTION_ORDER: u8 = 19;
+    /// 20: a rule of the mobile call profile that is not kept.
+    pub const PROFILE: u8 = 20;
 
     /// The refusal `number` at `place`.
     pub const fn new(number: u8, place: usize) -> Self {
@@ -92,6 +94,7 @@ impl Refusal {
             Self::NO_CLASS_LIST => "no classes for this header",
             Self::CHECK_DIGIT => "wrong check digit",
             Self::CONNECTION_ORDER => "form or header that cannot stand in a connection order",
+            Self::PROFILE => "a rule of the mobile call profile is not kept",
             _ => "unknown number",
         }
     }

@@ -50,3 +50,8 @@ fn charging() {
 fn order() {
     prints("order", include_str!("../examples/order.stdout"));
 }
+
+#[test]
+fn profile() {
+    prints("profile", include_str!("../examples/profile.stdout"));
+}

@@ -1,9 +1,9 @@
 //! The refusal numbers have the same names here and in the header for C, and so
-//! have the headers of a connection order, and the lengths the same values; both
-//! lend as much room for an image, and for the rows of an order, as is proved to
-//! suffice.
+//! have the headers of a connection order, the networks and the added classes of
+//! the mobile call profile, and the lengths the same values; both lend as much room
+//! for an image, and for the rows of an order, as is proved to suffice.
 
-use codec::OrderHeader;
+use codec::{AddedClassName, Network, OrderHeader};
 use std::collections::BTreeMap;
 
 const HEADER: &str = include_str!("../../../include/tsurakemobu.h");
@@ -24,7 +24,7 @@ fn of_all_numbers() {
     let here = names(include_str!("../src/refusal.rs"), "pub const ", ": u8 = ");
     let mut header = names(HEADER, "TK_", " = ");
     assert_eq!(header.remove(&0), Some("ACCEPTED"));
-    assert_eq!(here.len(), 19);
+    assert_eq!(here.len(), 20);
     assert_eq!(here, header);
 }
 
@@ -65,6 +65,7 @@ fn of_the_other_lengths() {
         ("TK_MESSAGE_MAX", codec::MESSAGE_MAX),
         ("TK_ROWS_MAX", codec::ROWS_MAX),
         ("TK_CHARGING_LEN", codec::CHARGING_LEN),
+        ("TK_ADDED_MAX", codec::ADDED_MAX),
     ];
     for (name, here) in lengths {
         let told = line(HEADER, &format!("#define {name} "), '\n');
@@ -72,17 +73,32 @@ fn of_the_other_lengths() {
     }
 }
 
-/// The header `TK_ORDER_CALLED_ARE = 0xCA` of C in Rust's form: `CalledAre`, CA.
-fn header_of_order(line: &str) -> Option<(String, u8)> {
-    let (name, rest) = line.trim().strip_prefix("TK_ORDER_")?.split_once(" = 0x")?;
+/// The constants of C that begin so, in Rust's form: `TK_ORDER_CALLED_ARE = 0xCA`
+/// is `CalledAre`, CA.
+fn octets_named(before: &str) -> Vec<(String, u8)> {
     let word = |word: &str| word[..1].to_string() + &word[1..].to_lowercase();
-    let octet = u8::from_str_radix(rest.get(..2)?, 16).ok()?;
-    Some((name.split('_').map(word).collect(), octet))
+    let named = |line: &str| {
+        let (name, rest) = line.trim().strip_prefix(before)?.split_once(" = 0x")?;
+        let octet = u8::from_str_radix(rest.get(..2)?, 16).ok()?;
+        Some((name.split('_').map(word).collect(), octet))
+    };
+    HEADER.lines().filter_map(named).collect()
 }
 
 #[test]
 fn of_the_headers_of_a_connection_order() {
-    let told: Vec<_> = HEADER.lines().filter_map(header_of_order).collect();
     let here = OrderHeader::ALL.map(|header| (format!("{header:?}"), header.octet()));
-    assert_eq!(told, here);
+    assert_eq!(octets_named("TK_ORDER_"), here);
+}
+
+#[test]
+fn of_the_networks() {
+    let here = Network::ALL.map(|network| (format!("{network:?}"), network.octet()));
+    assert_eq!(octets_named("TK_NETWORK_"), here);
+}
+
+#[test]
+fn of_the_added_classes() {
+    let here = AddedClassName::ALL.map(|name| (format!("{name:?}"), name.octet()));
+    assert_eq!(octets_named("TK_ADDED_"), here);
 }

@@ -1,4 +1,4 @@
-//! The codec's eleven functions on machines that cannot link its static library.
+//! The codec's fourteen functions on machines that cannot link its static library.
 //!
 //! The static library is for x86-64. Elsewhere this crate defines the functions
 //! of `include/tsurakemobu.h` and hands each call to the program `serve`, which
@@ -17,7 +17,7 @@ mod server;
 use server::{call, Function};
 use std::slice;
 
-// SAFETY of all eleven functions: as the header asks, each pointer and its
+// SAFETY of all fourteen functions: as the header asks, each pointer and its
 // length are memory that may be read, and written where it is `*mut`, during
 // the call.
 
@@ -54,6 +54,12 @@ lent_octets! {
     tk_charging: Charging;
     /// The rows of a message's connection order.
     tk_order: Order;
+    /// The record of a message in the mobile call profile, as an image.
+    tk_profile_read: ProfileRead;
+    /// The message of a record's image in the mobile call profile.
+    tk_profile_write: ProfileWrite;
+    /// The added classes of a message in the mobile call profile.
+    tk_added_classes: AddedClasses;
 }
 
 /// Functions that find a parameter of a message by its header or its name.

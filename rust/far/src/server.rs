@@ -18,6 +18,9 @@ pub(crate) enum Function {
     Remove = 8,
     Charging = 9,
     Order = 10,
+    ProfileRead = 11,
+    ProfileWrite = 12,
+    AddedClasses = 13,
 }
 
 /// Octets of an answer before the lent ones: what the function returned, and
