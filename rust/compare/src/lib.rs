@@ -35,6 +35,9 @@ pub fn proved(input: &Input) -> Outcome {
         Input::Remove { n, name, .. } => boundary::remove(lent, (*n).into(), *name),
         Input::Charging { message, .. } => boundary::charging(message, lent),
         Input::Order { message, .. } => boundary::order(message, lent),
+        Input::ProfileRead { message, .. } => boundary::profile_read(message, lent),
+        Input::ProfileWrite { image, .. } => boundary::profile_write(image, lent),
+        Input::AddedClasses { message, .. } => boundary::added_classes(message, lent),
     };
     let around = memory.starts_with(&GUARD) && memory.ends_with(&GUARD);
     assert!(around, "written beside the lent memory: {input:02X?}");

@@ -41,6 +41,9 @@ fn lengths_beyond_any_message() {
     assert_eq!(boundary::find_transfer(&long, 0x10), refused(1, 0));
     assert_eq!(boundary::charging(&long, &mut lent), refused(1, 0));
     assert_eq!(boundary::order(&long, &mut lent), refused(1, 0));
+    assert_eq!(boundary::profile_read(&long, &mut lent), refused(1, 0));
+    assert_eq!(boundary::profile_write(&long, &mut lent), refused(1, 0));
+    assert_eq!(boundary::added_classes(&long, &mut lent), refused(1, 0));
     for n in [70_001, 1 << 32, usize::MAX] {
         assert_eq!(boundary::replace(&mut lent, n, &long), refused(15, 0));
         assert_eq!(boundary::append(&mut lent, n, &long), refused(15, 0));
@@ -87,6 +90,23 @@ fn room_beyond_any_message() {
     assert_eq!(boundary::order(&order, &mut buffer), 1);
     assert_eq!(buffer[..7], [0x08, 0x00, 0x28, 0x00, 0x00, 0x00, 0x00]);
     for memory in [image, buffer] {
+        assert!(memory[len..].iter().all(|&octet| octet == 0x5A));
+    }
+}
+
+#[test]
+fn room_beyond_any_message_of_the_profile() {
+    let message = [
+        0x01, 0x01, 0x06, 0x11, 0xC5, 0x08, 0x7E, 0x03, 0xFD, 0x00, 0xD6, 0x02, 0xFE, 0x01, 0x00,
+    ];
+    let [mut image, mut room, mut out] = [(); 3].map(|()| vec![0x5A; 70_000]);
+    let len = boundary::profile_read(&message, &mut image) as usize;
+    assert_eq!(len, 1 + 3 * 7 + 3 * 11 + 1 + 2);
+    assert_eq!(boundary::profile_write(&image[..len], &mut room), 15);
+    assert_eq!(room[..15], message);
+    assert_eq!(boundary::added_classes(&message, &mut out), 2);
+    assert_eq!(out[..2], [0xFE, 0x01]);
+    for (memory, len) in [(image, len), (room, 15), (out, 2)] {
         assert!(memory[len..].iter().all(|&octet| octet == 0x5A));
     }
 }

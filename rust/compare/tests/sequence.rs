@@ -7,9 +7,11 @@ use calls::{all_readers, lent, readings, same, same_in_all};
 use trial::record::{Common, Record};
 use trial::Input;
 
-/// Transfer data with 41, F7 and E0, and the end mark.
-const DATA: [u8; 12] = [
-    0xC5, 0x09, 0x41, 0x00, 0xF7, 0x02, 0x00, 0x02, 0xE0, 0x01, 0x28, 0x00,
+/// Transfer data with 41, F7 and E0, and with 7E, FD and D6 as the mobile call
+/// profile asks for them, and the end mark.
+const DATA: [u8; 18] = [
+    0xC5, 0x0F, 0x41, 0x00, 0xF7, 0x02, 0x00, 0x02, 0xE0, 0x01, 0x28, 0x7E, 0x03, 0xFD, 0x00, 0xD6,
+    0x00, 0x00,
 ];
 
 /// A message with this octet for its sequence, and with what the calls ask for.

@@ -34,6 +34,9 @@ extern "C" {
     fn tk_remove();
     fn tk_charging();
     fn tk_order();
+    fn tk_profile_read();
+    fn tk_profile_write();
+    fn tk_added_classes();
 }
 
 /// A function's name, its address and its arguments.
@@ -71,6 +74,9 @@ fn call_of(input: &Input, memory: &mut [u8]) -> Call {
         Input::Remove { n, name, .. } => call!(tk_remove, naming(*n, *name)),
         Input::Charging { message, .. } => call!(tk_charging, filling(message)),
         Input::Order { message, .. } => call!(tk_order, filling(message)),
+        Input::ProfileRead { message, .. } => call!(tk_profile_read, filling(message)),
+        Input::ProfileWrite { image, .. } => call!(tk_profile_write, filling(image)),
+        Input::AddedClasses { message, .. } => call!(tk_added_classes, filling(message)),
     }
 }
 

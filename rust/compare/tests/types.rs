@@ -1,7 +1,8 @@
 //! The proved codec in Rust's types answers as the plain one does.
 
 use codec::{boundary, Charging, Class, Common, Record, Refusal, Row, Transfer};
-use codec::{Order, OrderHeader, OrderParameter, IMAGE_MAX, MESSAGE_MAX};
+use codec::{AddedClass, AddedClassName, Network, Order, OrderHeader, OrderParameter, Profile};
+use codec::{IMAGE_MAX, MESSAGE_MAX};
 use trial::{input_at, Input};
 
 const SEED: u64 = 23;
@@ -61,6 +62,37 @@ fn order<'m>(message: &'m [u8], rows: &[plain::Row]) -> Order<'m> {
     }
 }
 
+fn network(network: plain::Network) -> Network {
+    match network {
+        plain::Network::Phs => Network::Phs,
+        plain::Network::Mobile => Network::Mobile,
+    }
+}
+
+fn added_classes(classes: Vec<plain::AddedClass>) -> Vec<AddedClass> {
+    let name = |name| match name {
+        plain::AddedName::LongDistance1 => AddedClassName::LongDistance1,
+        plain::AddedName::LongDistance2 => AddedClassName::LongDistance2,
+        plain::AddedName::Mobile3 => AddedClassName::Mobile3,
+        plain::AddedName::Mobile2 => AddedClassName::Mobile2,
+        plain::AddedName::Mobile1 => AddedClassName::Mobile1,
+        plain::AddedName::Fixed1 => AddedClassName::Fixed1,
+    };
+    let class = |class: plain::AddedClass| AddedClass {
+        name: name(class.name),
+        value: class.value,
+    };
+    classes.into_iter().map(class).collect()
+}
+
+fn profile(profile: plain::Profile) -> Profile {
+    Profile {
+        record: held_by(&plain::image(&profile.record)).expect("a whole image"),
+        network: network(profile.network),
+        added: profile.added.map(added_classes),
+    }
+}
+
 #[test]
 fn over_many_inputs() {
     for index in 0..COUNT {
@@ -73,7 +105,7 @@ fn over_many_inputs() {
 fn agree(input: &Input) -> bool {
     match input {
         Input::Read { message, .. } => reading_agrees(message),
-        Input::Write { image, room } => writing_agrees(image, room),
+        Input::Write { image, room } => writing_agrees(image, room, codec::write, plain::write),
         Input::Rows { message, .. } => rows_agree(message),
         Input::FindCommon { message, header } => {
             let found = plain::find_common(message, *header).map(|range| &message[range]);
@@ -95,6 +127,14 @@ fn agree(input: &Input) -> bool {
         }
         Input::Charging { message, .. } => charging_agrees(message),
         Input::Order { message, .. } => order_agrees(message),
+        Input::ProfileRead { message, .. } => profile_agrees(message),
+        Input::ProfileWrite { image, room } => {
+            writing_agrees(image, room, codec::profile_write, plain::profile_write)
+        }
+        Input::AddedClasses { message, .. } => {
+            let opened = plain::added_classes(message).map(added_classes);
+            codec::added_classes(message) == opened.map_err(refusal)
+        }
     }
 }
 
@@ -118,6 +158,17 @@ fn order_agrees(message: &[u8]) -> bool {
     codec::order(message) == opened.map_err(refusal)
 }
 
+/// The same record, network and added classes, or the same refusal; and the record,
+/// written by the profile, is the message.
+fn profile_agrees(message: &[u8]) -> bool {
+    let read = codec::profile_read(message);
+    let returns = match &read {
+        Ok(profile) => codec::profile_write_to_vec(&profile.record).as_deref() == Ok(message),
+        Err(_) => true,
+    };
+    returns && read == plain::profile_read(message).map(profile).map_err(refusal)
+}
+
 /// The same record or refusal; and the record, written, is the message.
 fn reading_agrees(message: &[u8]) -> bool {
     let read = codec::read(message);
@@ -131,14 +182,19 @@ fn reading_agrees(message: &[u8]) -> bool {
 
 /// The same message or refusal of the record that an image holds, also where
 /// that is over its limits.
-fn writing_agrees(image: &[u8], room: &[u8]) -> bool {
-    let Some(ours) = held_by(image) else {
+fn writing_agrees(
+    image: &[u8],
+    room: &[u8],
+    ours: fn(&Record, &mut [u8]) -> Result<usize, Refusal>,
+    theirs: fn(&plain::Record, &mut [u8]) -> Result<usize, plain::Refusal>,
+) -> bool {
+    let Some(record) = held_by(image) else {
         return true;
     };
     same_lent(
         room,
-        |room| codec::write(&ours, room),
-        |room| plain::write(&plain::from_image(image)?, room),
+        |room| ours(&record, room),
+        |room| theirs(&plain::from_image(image)?, room),
     )
 }
 

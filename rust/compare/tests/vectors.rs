@@ -30,9 +30,14 @@ fn messages() {
             out: lent.clone(),
         });
         same(Input::Order {
-            message,
-            table: lent,
+            message: message.clone(),
+            table: lent.clone(),
         });
+        same(Input::ProfileRead {
+            message: message.clone(),
+            image: lent.clone(),
+        });
+        same(Input::AddedClasses { message, out: lent });
     }
 }
 
@@ -41,7 +46,11 @@ fn records() {
     for line in vectors("records.txt") {
         let image = octets(&line[0]);
         let room = vec![0xEE; 300];
-        same(Input::Write { image, room });
+        same(Input::Write {
+            image: image.clone(),
+            room: room.clone(),
+        });
+        same(Input::ProfileWrite { image, room });
     }
 }
 

@@ -1,13 +1,14 @@
 //! One input after another.
 
 use crate::input::{Input, Kind, KINDS};
-use crate::messages::{charged_message, message, ordered_message};
+use crate::messages::{charged_message, enquiry, message, ordered_message};
 use crate::messages::{message_with_bad_digits, sound_draft, sound_message, Size};
 use crate::outcome::{CHARGING_LEN, ROW_LEN};
 use crate::parameters::{charging_somehow, order_somehow, CHARGING_NAME, ORDER_NAME};
 use crate::parameters::{shuffled_names, sound, spoilt_somehow};
 use crate::records;
 use crate::rng::Rng;
+use plain::transfer::{name_of, ADDED_CLASSES};
 
 /// The input at `index` under `seed`.
 pub fn input_at(seed: u64, index: u64) -> Input {
@@ -17,8 +18,8 @@ pub fn input_at(seed: u64, index: u64) -> Input {
 /// An input of any kind.
 pub fn generate(rng: &mut Rng) -> Input {
     // Read, write, rows, the two finds, class, replace, append, remove, charging,
-    // order.
-    let kind = KINDS[rng.weighted(&[22, 26, 8, 6, 8, 4, 11, 9, 6, 10, 12])];
+    // order; by the profile read, write and added classes.
+    let kind = KINDS[rng.weighted(&[22, 26, 8, 6, 8, 4, 11, 9, 6, 10, 12, 9, 13, 9])];
     match kind {
         Kind::Read => read(rng),
         Kind::Write => write(rng),
@@ -37,6 +38,9 @@ pub fn generate(rng: &mut Rng) -> Input {
         Kind::Remove => remove(rng),
         Kind::Charging => charging(rng),
         Kind::Order => order(rng),
+        Kind::ProfileRead => profile_read(rng),
+        Kind::ProfileWrite => profile_write(rng),
+        Kind::AddedClasses => added_classes(rng),
     }
 }
 
@@ -53,16 +57,26 @@ fn lent(rng: &mut Rng, needed: usize) -> Vec<u8> {
 
 fn read(rng: &mut Rng) -> Input {
     let message = message(rng);
-    let needed = plain::read(&message).map_or(0, |record| plain::image(&record).len());
-    let image = lent(rng, needed);
+    let image = lent_image(rng, &message);
     Input::Read { message, image }
+}
+
+/// Memory to lend for the image of the message's record.
+fn lent_image(rng: &mut Rng, message: &[u8]) -> Vec<u8> {
+    let needed = plain::read(message).map_or(0, |record| plain::image(&record).len());
+    lent(rng, needed)
 }
 
 fn write(rng: &mut Rng) -> Input {
     let image = records::image(rng);
-    let written = plain::from_image(&image).and_then(|record| plain::write(&record, &mut [0; 272]));
-    let room = lent(rng, written.unwrap_or(0));
+    let room = lent_room(rng, &image);
     Input::Write { image, room }
+}
+
+/// Memory to lend for the message of the image's record.
+fn lent_room(rng: &mut Rng, image: &[u8]) -> Vec<u8> {
+    let written = plain::from_image(image).and_then(|record| plain::write(&record, &mut [0; 272]));
+    lent(rng, written.unwrap_or(0))
 }
 
 fn rows(rng: &mut Rng) -> Input {
@@ -254,4 +268,35 @@ fn order(rng: &mut Rng) -> Input {
     let needed = plain::order(&message).map_or(0, |rows| ROW_LEN * rows.len());
     let table = lent(rng, needed);
     Input::Order { message, table }
+}
+
+/// A message for the calls of the mobile call profile.
+fn message_for_profile(rng: &mut Rng) -> Vec<u8> {
+    match rng.below(4) {
+        0 => message(rng),
+        _ => enquiry(rng),
+    }
+}
+
+/// The memory is lent for the image also where the profile refuses the message.
+fn profile_read(rng: &mut Rng) -> Input {
+    let message = message_for_profile(rng);
+    let image = lent_image(rng, &message);
+    Input::ProfileRead { message, image }
+}
+
+fn profile_write(rng: &mut Rng) -> Input {
+    let image = match rng.below(3) {
+        0 => records::image(rng),
+        _ => records::enquiry_image(rng),
+    };
+    let room = lent_room(rng, &image);
+    Input::ProfileWrite { image, room }
+}
+
+fn added_classes(rng: &mut Rng) -> Input {
+    let message = message_for_profile(rng);
+    let found = plain::find_transfer(&message, name_of(ADDED_CLASSES));
+    let out = lent(rng, found.map_or(0, |contents| contents.len()));
+    Input::AddedClasses { message, out }
 }

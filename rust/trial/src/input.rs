@@ -25,10 +25,16 @@ pub enum Kind {
     Charging = 9,
     /// Opening the connection order.
     Order = 10,
+    /// Reading a message by the mobile call profile.
+    ProfileRead = 11,
+    /// Writing a record's image by the mobile call profile.
+    ProfileWrite = 12,
+    /// Opening the added classes of a message in the mobile call profile.
+    AddedClasses = 13,
 }
 
 /// All kinds, each at the index of its own number.
-pub const KINDS: [Kind; 11] = [
+pub const KINDS: [Kind; 14] = [
     Kind::Read,
     Kind::Write,
     Kind::Rows,
@@ -40,6 +46,9 @@ pub const KINDS: [Kind; 11] = [
     Kind::Remove,
     Kind::Charging,
     Kind::Order,
+    Kind::ProfileRead,
+    Kind::ProfileWrite,
+    Kind::AddedClasses,
 ];
 
 /// One call with all its arguments; lent memory as it is before the call.
@@ -128,6 +137,27 @@ pub enum Input {
         /// The lent table.
         table: Vec<u8>,
     },
+    /// Read `message` into `image` by the mobile call profile.
+    ProfileRead {
+        /// The message.
+        message: Vec<u8>,
+        /// The lent image.
+        image: Vec<u8>,
+    },
+    /// Write the record of `image` into `room` by the mobile call profile.
+    ProfileWrite {
+        /// The record's image.
+        image: Vec<u8>,
+        /// The lent room.
+        room: Vec<u8>,
+    },
+    /// Open the added classes of `message` into `out` by the mobile call profile.
+    AddedClasses {
+        /// The message.
+        message: Vec<u8>,
+        /// The lent octets.
+        out: Vec<u8>,
+    },
 }
 
 impl Input {
@@ -145,6 +175,9 @@ impl Input {
             Input::Remove { .. } => Kind::Remove,
             Input::Charging { .. } => Kind::Charging,
             Input::Order { .. } => Kind::Order,
+            Input::ProfileRead { .. } => Kind::ProfileRead,
+            Input::ProfileWrite { .. } => Kind::ProfileWrite,
+            Input::AddedClasses { .. } => Kind::AddedClasses,
         }
     }
 
@@ -156,7 +189,9 @@ impl Input {
             | Input::FindCommon { message, .. }
             | Input::FindTransfer { message, .. }
             | Input::Charging { message, .. }
-            | Input::Order { message, .. } => Some(message),
+            | Input::Order { message, .. }
+            | Input::ProfileRead { message, .. }
+            | Input::AddedClasses { message, .. } => Some(message),
             _ => None,
         }
     }
@@ -174,13 +209,13 @@ impl Input {
     /// The memory that the call lends, as it is before the call.
     pub fn lent(&self) -> &[u8] {
         match self {
-            Input::Read { image, .. } => image,
-            Input::Write { room, .. } => room,
+            Input::Read { image, .. } | Input::ProfileRead { image, .. } => image,
+            Input::Write { room, .. } | Input::ProfileWrite { room, .. } => room,
             Input::Rows { table, .. } | Input::Order { table, .. } => table,
             Input::Replace { buffer, .. }
             | Input::Append { buffer, .. }
             | Input::Remove { buffer, .. } => buffer,
-            Input::Charging { out, .. } => out,
+            Input::Charging { out, .. } | Input::AddedClasses { out, .. } => out,
             Input::FindCommon { .. } | Input::FindTransfer { .. } | Input::Class { .. } => &[],
         }
     }

@@ -26,6 +26,7 @@ pub mod messages;
 pub mod order;
 pub mod outcome;
 pub mod parameters;
+mod profile;
 pub mod record;
 pub mod records;
 pub mod rng;

@@ -1,6 +1,7 @@
 //! Messages: sound ones, short to full, and damaged ones.
 
 use crate::parameters::{self, shortest, shuffled_names, sound};
+use crate::profile::{self, Call, ASKED_FOR};
 use crate::rng::Rng;
 use plain::common::{is_signal_kind, MESSAGE_LIMIT};
 use plain::transfer::{layout_of, name_of, Layout, DATA_LIMIT};
@@ -49,8 +50,7 @@ impl Draft {
             match part {
                 Part::Common(parameter) => octets.extend_from_slice(parameter),
                 Part::Data { parameters, excess } => {
-                    let len = parameters.iter().map(Vec::len).sum::<usize>();
-                    let told = len.min(DATA_LIMIT) as u8;
+                    let told = data_len(parameters).min(DATA_LIMIT) as u8;
                     octets.extend([0xC5, told.wrapping_add_signed(*excess)]);
                     octets.extend(parameters.iter().flatten());
                 }
@@ -238,6 +238,55 @@ pub fn message_with_bad_digits(rng: &mut Rng) -> Vec<u8> {
     message_with(rng, parameters::spoilt_digits)
 }
 
+/// A call enquiry, in the mobile call profile or not, in which all that the
+/// profile does not ask about is sound, but for one in eight.
+pub fn enquiry(rng: &mut Rng) -> Vec<u8> {
+    let mut draft = enquiry_draft(rng);
+    if rng.one_in(8) {
+        damage(rng, &mut draft);
+    }
+    draft.octets()
+}
+
+/// One that reading accepts, taken apart.
+pub(crate) fn enquiry_draft(rng: &mut Rng) -> Draft {
+    let size = size(rng);
+    let mut draft = sound_draft(rng, size);
+    let call = profile::call(rng);
+    put_call(rng, &mut draft, call);
+    draft
+}
+
+/// Gives a sound message what a call has, in the place of its own.
+fn put_call(rng: &mut Rng, draft: &mut Draft, mut call: Call) {
+    if let Some(kind) = draft.common(0x06) {
+        kind[1] = call.signal;
+    }
+    if draft.data().is_none() {
+        let (parameters, excess) = (Vec::new(), 0);
+        draft.insert(rng, Part::Data { parameters, excess });
+    }
+    let Some((parameters, _)) = draft.data() else {
+        return;
+    };
+    parameters.retain(|parameter| !ASKED_FOR.contains(&name_of(parameter[0])));
+    while data_len(parameters) + data_len(&call.parameters()) > DATA_LIMIT {
+        parameters.pop();
+    }
+    if rng.one_in(8) {
+        let len = data_len(parameters) + data_len(&call.parameters());
+        call.lengthen(rng, DATA_LIMIT - len);
+    }
+    for own in call.parameters() {
+        put(rng, parameters, own);
+    }
+}
+
+/// How many octets of transfer data these parameters take.
+fn data_len(parameters: &[Vec<u8>]) -> usize {
+    parameters.iter().map(Vec::len).sum()
+}
+
 /// A message with one parameter made so, if it has transfer data; all else is
 /// sound.
 fn message_with(rng: &mut Rng, made: fn(&mut Rng) -> Vec<u8>) -> Vec<u8> {
@@ -383,7 +432,7 @@ fn damage_data(rng: &mut Rng, draft: &mut Draft) {
 /// Puts one more parameter among the others; where they fill the transfer
 /// data, in the place of the last.
 fn put(rng: &mut Rng, parameters: &mut Vec<Vec<u8>>, parameter: Vec<u8>) {
-    let mut len = parameters.iter().map(Vec::len).sum::<usize>() + parameter.len();
+    let mut len = data_len(parameters) + parameter.len();
     while len > DATA_LIMIT {
         match parameters.pop() {
             Some(last) => len -= last.len(),
@@ -492,5 +541,20 @@ mod tests {
             }
         }
         assert_eq!(most_rows, plain::listing::ROW_LIMIT);
+    }
+
+    #[test]
+    fn enquiries_are_accepted_and_half_of_them_are_in_the_profile() {
+        let mut rng = Rng::new(4);
+        let is_in = |message: &[u8]| match plain::profile_read(message) {
+            Ok(_) => true,
+            Err(refusal) => {
+                assert_eq!(refusal.number, 20, "{message:02X?}");
+                false
+            }
+        };
+        let enquiries = (0..8_000).map(|_| enquiry_draft(&mut rng).octets());
+        let within = enquiries.filter(|message| is_in(message)).count();
+        assert!((3_600..4_400).contains(&within), "{within}");
     }
 }

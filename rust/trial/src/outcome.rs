@@ -1,7 +1,7 @@
 //! What the plain codec answers to an input, in one form for all kinds.
 
 use crate::input::Input;
-use plain::{Charging, Class, Refusal, Row};
+use plain::{AddedClass, Charging, Class, Record, Refusal, Row};
 use std::ops::Range;
 
 /// Octets of a row in a lent table: offset (2, least first), header, contents
@@ -62,8 +62,8 @@ pub fn packed_range(answer: Result<Range<usize>, Refusal>) -> u64 {
 pub fn answer(input: &Input) -> Outcome {
     let memory = input.lent().to_vec();
     match input {
-        Input::Read { message, .. } => read(message, memory),
-        Input::Write { image, .. } => write(image, memory),
+        Input::Read { message, .. } => read(plain::read(message), memory),
+        Input::Write { image, .. } => write(image, memory, plain::write),
         Input::Rows { message, .. } => listed(memory, |table| plain::spans(message, table)),
         Input::FindCommon { message, header } => {
             Outcome::new(packed_range(plain::find_common(message, *header)), memory)
@@ -83,11 +83,16 @@ pub fn answer(input: &Input) -> Outcome {
         }
         Input::Charging { message, .. } => charging(message, memory),
         Input::Order { message, .. } => listed(memory, |table| plain::order_spans(message, table)),
+        Input::ProfileRead { message, .. } => {
+            let read = plain::profile_read(message);
+            self::read(read.map(|profile| profile.record), memory)
+        }
+        Input::ProfileWrite { image, .. } => write(image, memory, plain::profile_write),
+        Input::AddedClasses { message, .. } => added_classes(message, memory),
     }
 }
 
-fn read(message: &[u8], mut memory: Vec<u8>) -> Outcome {
-    let read = plain::read(message);
+fn read(read: Result<Record, Refusal>, mut memory: Vec<u8>) -> Outcome {
     let answer = read.and_then(|record| put(&plain::image(&record), &mut memory));
     Outcome::new(packed(answer), memory)
 }
@@ -102,8 +107,12 @@ fn put(octets: &[u8], memory: &mut [u8]) -> Result<usize, Refusal> {
     Ok(octets.len())
 }
 
-fn write(image: &[u8], mut memory: Vec<u8>) -> Outcome {
-    let answer = plain::from_image(image).and_then(|record| plain::write(&record, &mut memory));
+fn write(
+    image: &[u8],
+    mut memory: Vec<u8>,
+    write: fn(&Record, &mut [u8]) -> Result<usize, Refusal>,
+) -> Outcome {
+    let answer = plain::from_image(image).and_then(|record| write(&record, &mut memory));
     Outcome::new(packed(answer), memory)
 }
 
@@ -165,6 +174,18 @@ pub fn charging_octets(charging: &Charging) -> [u8; CHARGING_LEN] {
         two.copy_from_slice(&number.to_le_bytes());
     }
     octets
+}
+
+fn added_classes(message: &[u8], mut memory: Vec<u8>) -> Outcome {
+    let opened = plain::added_classes(message);
+    let answer = opened.and_then(|classes| put(&added_octets(&classes), &mut memory));
+    Outcome::new(packed(answer), memory)
+}
+
+/// Added classes as they stand in lent octets: the name and the value of each.
+fn added_octets(classes: &[AddedClass]) -> Vec<u8> {
+    let pair = |class: &AddedClass| [class.name.octet(), class.value];
+    classes.iter().flat_map(pair).collect()
 }
 
 fn edited(mut memory: Vec<u8>, edit: impl FnOnce(&mut [u8]) -> Result<usize, Refusal>) -> Outcome {

@@ -1,6 +1,6 @@
 //! Records and their images: sound, with fields out of range, over the limits.
 
-use crate::messages::{self, sound_draft, with_alone, Size};
+use crate::messages::{self, enquiry_draft, sound_draft, with_alone, Size};
 use crate::parameters::{shuffled_names, sound, spoilt_charging, spoilt_order, spoilt_somehow};
 use crate::record::{fields_in, fields_of, Common, Record, Transfer, WITH_FIELDS};
 use crate::record::{INCOMPLETE, NUMBER_TYPE, PLAN, PRESENTATION, SCREENING};
@@ -28,6 +28,21 @@ pub fn image(rng: &mut Rng) -> Vec<u8> {
         messages::scratch(rng, &mut image);
     }
     image
+}
+
+/// An image of a call enquiry, in the mobile call profile or not; as a rule sound
+/// in all that the profile does not ask about.
+pub fn enquiry_image(rng: &mut Rng) -> Vec<u8> {
+    let message = enquiry_draft(rng).octets();
+    let mut record = Record::read(&message).unwrap_or_default();
+    match rng.below(6) {
+        0 => noisy_image(rng, &record),
+        1 => {
+            damage(rng, &mut record);
+            record.image()
+        }
+        _ => record.image(),
+    }
 }
 
 /// A record that writing accepts, if the room is long enough.

@@ -1,8 +1,11 @@
 //! What the plain codec's answers must have to do with one another, over many
 //! inputs.
 
-use plain::transfer::{name_of, CHARGING, ORDER};
+mod profile;
+
+use plain::transfer::{name_of, ADDED_CLASSES, CHARGING, ORDER};
 use plain::{Refusal, Row};
+use profile::{call_in, message_of};
 use std::array;
 use std::ops::Range;
 use trial::outcome::{CHARGING_LEN, ROW_LEN};
@@ -42,13 +45,10 @@ fn agrees(input: &Input, outcome: &Outcome) {
         }
         // The tests of `plain` count the classes of every header.
         Input::Class { .. } => {}
-        Input::Replace { n, new, .. } => {
-            let header = new.first().copied().unwrap_or(0);
-            edit_agrees(input, *n, outcome, |transfers| {
-                let at = position(transfers, header & 0x3F);
-                transfers[at] = held(new).expect("a sound parameter");
-            });
-        }
+        Input::Replace { n, new, .. } => edit_agrees(input, *n, outcome, |transfers| {
+            let at = position(transfers, name_of(new[0]));
+            transfers[at] = held(new).expect("a sound parameter");
+        }),
         Input::Append { n, new, .. } => {
             edit_agrees(input, *n, outcome, |transfers| {
                 transfers.push(held(new).expect("a sound parameter"));
@@ -61,7 +61,47 @@ fn agrees(input: &Input, outcome: &Outcome) {
         }
         Input::Charging { message, .. } => charging_agrees(message, input, outcome),
         Input::Order { message, .. } => order_agrees(message, input, outcome),
+        Input::ProfileRead { .. } | Input::ProfileWrite { .. } | Input::AddedClasses { .. } => {
+            profile_agrees(input, outcome)
+        }
     }
+}
+
+/// By the profile a call is refused with 20 at the end mark just where nothing else
+/// is wrong with its message but the room, and a rule is not kept.
+fn profile_agrees(input: &Input, outcome: &Outcome) {
+    match message_of(input) {
+        Some(message) if !call_in(&message).broken().is_empty() => {
+            let refusal = Refusal::new(Refusal::PROFILE, message.len() - 1);
+            assert_eq!(outcome.packed, refused(refusal), "{input:02X?}");
+        }
+        _ => assert_eq!(*outcome, without_profile(input), "{input:02X?}"),
+    }
+}
+
+/// What comes of a call by the profile if no rule of it is broken.
+fn without_profile(input: &Input) -> Outcome {
+    match input.clone() {
+        Input::ProfileRead { message, image } => answer(&Input::Read { message, image }),
+        Input::ProfileWrite { image, room } => answer(&Input::Write { image, room }),
+        Input::AddedClasses { message, out } => contents_put(&message, ADDED_CLASSES, out),
+        other => answer(&other),
+    }
+}
+
+/// What comes of finding the contents of a parameter and putting them into lent
+/// memory as they are.
+fn contents_put(message: &[u8], header: u8, mut memory: Vec<u8>) -> Outcome {
+    let packed = match plain::find_transfer(message, name_of(header)) {
+        Err(refusal) => refused(refusal),
+        Ok(found) if found.len() > memory.len() => refused(Refusal::new(Refusal::ROOM_SHORT, 0)),
+        Ok(found) => {
+            let contents = &message[found];
+            memory[..contents.len()].copy_from_slice(contents);
+            contents.len() as u64
+        }
+    };
+    Outcome { packed, memory }
 }
 
 /// The packed form of a refusal.

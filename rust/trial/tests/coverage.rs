@@ -3,14 +3,17 @@
 //! at its limit and one above, and so are the number and the mark of the
 //! sequence, every rate kind of the charging information and every form and
 //! header of the connection order; whatever holds digits or characters holds bad
-//! ones in every way; and every condition of a list occurs.
+//! ones in every way; every rule of the mobile call profile is kept, and alone is
+//! not kept; and every condition of a list occurs.
 
 mod charging;
 mod conditions;
 mod contents;
 mod digits;
+mod enquiries;
 mod halves;
 mod order;
+mod profile;
 mod sequence;
 
 use conditions::CONDITIONS;
@@ -175,6 +178,26 @@ fn every_bad_half_and_character_occurs() {
     }
     for (call, seen) in [("read", read), ("edited", edited)] {
         let missing: Vec<_> = digits::all().difference(&seen).copied().collect();
+        assert_eq!(missing, [], "{call}");
+    }
+}
+
+#[test]
+fn every_rule_of_the_profile_occurs() {
+    let [mut read, mut written, mut opened] = [(); 3].map(|()| enquiries::Sights::new());
+    for (input, _) in calls() {
+        let Some(message) = profile::message_of(&input) else {
+            continue;
+        };
+        let seen = match input.kind() {
+            Kind::ProfileWrite => &mut written,
+            Kind::AddedClasses => &mut opened,
+            _ => &mut read,
+        };
+        seen.extend(enquiries::sights(&profile::call_in(&message)));
+    }
+    for (call, seen) in [("read", read), ("written", written), ("opened", opened)] {
+        let missing: Vec<_> = enquiries::all().difference(&seen).copied().collect();
         assert_eq!(missing, [], "{call}");
     }
 }

@@ -59,6 +59,21 @@ fn openings(message: &[u8]) -> [Input; 2] {
     ]
 }
 
+/// The calls that read the message by the mobile call profile.
+pub fn enquiries(message: &[u8]) -> [Input; 2] {
+    let message = message.to_vec();
+    [
+        Input::ProfileRead {
+            message: message.clone(),
+            image: lent(),
+        },
+        Input::AddedClasses {
+            message,
+            out: lent(),
+        },
+    ]
+}
+
 /// The edits of a message that has 41, and not 43.
 fn edits(message: &[u8]) -> [Input; 3] {
     let (buffer, n) = buffer(message);
@@ -81,11 +96,13 @@ fn edits(message: &[u8]) -> [Input; 3] {
     ]
 }
 
-/// Every call that reads the message; what they ask for is 04, 41, F7 and E0.
+/// Every call that reads the message; what they ask for is 04, 41, F7, E0, and by
+/// the mobile call profile D6.
 pub fn all_readers(message: &[u8]) -> Vec<Input> {
     let mut calls = readings(message).to_vec();
     calls.extend(finds(message));
     calls.extend(openings(message));
+    calls.extend(enquiries(message));
     calls.extend(edits(message));
     calls
 }

@@ -131,7 +131,67 @@ pub const CONDITIONS: &[Condition] = &[
         let is_full = |row: &[u8]| row[2..] == [0x91, 129, 0];
         orders(i, o, |_| o.memory.chunks_exact(ROW_LEN).any(is_full))
     }),
+    ("272 octets in the profile", |i, o| {
+        enquires(i, o, 0, |m| m.len() == 272)
+    }),
+    ("272 octets that are not in the profile", |i, o| {
+        enquires(i, o, 20, |m| m.len() == 272)
+    }),
+    ("no transfer data, by the profile", |i, o| {
+        enquires(i, o, 20, |m| data_len(m).is_none())
+    }),
+    ("272 octets written by the profile", |i, o| {
+        i.kind() == Kind::ProfileWrite && o.packed == 272
+    }),
+    ("image for the profile short by one", |i, o| {
+        short(i, o, Kind::ProfileRead)
+    }),
+    ("room for the profile short by one", |i, o| {
+        short(i, o, Kind::ProfileWrite)
+    }),
+    ("octets for added classes short by one", |i, o| {
+        short(i, o, Kind::AddedClasses)
+    }),
+    ("no octet for the image, and 20", |i, o| {
+        not_kept(i, o, Kind::ProfileRead, |lent| lent == 0)
+    }),
+    ("octets for the image, and 20", |i, o| {
+        not_kept(i, o, Kind::ProfileRead, |lent| lent > 200)
+    }),
+    ("too little room, and 20", |i, o| {
+        not_kept(i, o, Kind::ProfileWrite, |lent| lent <= o.place())
+    }),
+    ("room, and 20", |i, o| {
+        not_kept(i, o, Kind::ProfileWrite, |lent| lent > o.place())
+    }),
+    ("no octet for added classes, and 20", |i, o| {
+        not_kept(i, o, Kind::AddedClasses, |lent| lent == 0)
+    }),
+    ("octets for added classes, and 20", |i, o| {
+        not_kept(i, o, Kind::AddedClasses, |lent| lent > 12)
+    }),
+    ("no octet for added classes, and 16", |i, o| {
+        i.kind() == Kind::AddedClasses && o.number() == 16 && o.memory.is_empty()
+    }),
+    ("no octet for no added class", |i, o| {
+        i.kind() == Kind::AddedClasses && o.packed == 0 && o.memory.is_empty()
+    }),
+    ("octets past the most added classes", |i, o| {
+        i.kind() == Kind::AddedClasses && o.packed == 12 && o.memory.len() > 12
+    }),
 ];
+
+/// Whether a message that is wanted was read by the profile, with this number for an
+/// answer.
+fn enquires(input: &Input, outcome: &Outcome, number: u8, wanted: impl Fn(&[u8]) -> bool) -> bool {
+    let message = input.message().filter(|message| wanted(message));
+    input.kind() == Kind::ProfileRead && outcome.number() == number && message.is_some()
+}
+
+/// Whether such a call was refused with 20, and wanted is how many octets it lent.
+fn not_kept(input: &Input, outcome: &Outcome, kind: Kind, wanted: impl Fn(usize) -> bool) -> bool {
+    input.kind() == kind && outcome.number() == 20 && wanted(input.lent().len())
+}
 
 /// Whether a message that is wanted was read, with this number for an answer.
 fn reads(input: &Input, outcome: &Outcome, number: u8, wanted: impl Fn(&[u8]) -> bool) -> bool {
@@ -213,7 +273,10 @@ fn short(input: &Input, outcome: &Outcome, kind: Kind) -> bool {
         | Input::Append { buffer: lent, .. }
         | Input::Remove { buffer: lent, .. }
         | Input::Charging { out: lent, .. }
-        | Input::Order { table: lent, .. } => lent.push(0),
+        | Input::Order { table: lent, .. }
+        | Input::ProfileRead { image: lent, .. }
+        | Input::ProfileWrite { room: lent, .. }
+        | Input::AddedClasses { out: lent, .. } => lent.push(0),
         _ => return false,
     }
     input.kind() == kind && outcome.number() == 15 && answer(&longer).number() == 0
