@@ -79,3 +79,25 @@ fn edits() {
         });
     }
 }
+
+#[test]
+fn profile() {
+    for line in vectors("profile.txt") {
+        let (call, argument) = line[0].split_once(' ').expect("a call and its argument");
+        let (octets, lent) = (octets(argument), vec![0xEE; 1200]);
+        same(match call {
+            "read" => Input::ProfileRead {
+                message: octets,
+                image: lent,
+            },
+            "added" => Input::AddedClasses {
+                message: octets,
+                out: lent,
+            },
+            _ => Input::ProfileWrite {
+                image: octets,
+                room: lent,
+            },
+        });
+    }
+}

@@ -2,6 +2,7 @@
 
 mod support;
 
+use plain::{AddedClass, Network, Record, Refusal};
 use support::{expected, octets, vectors, Expected};
 
 #[test]
@@ -20,24 +21,31 @@ fn messages() {
     }
 }
 
+/// A function that writes a record.
+type Write = fn(&Record, &mut [u8]) -> Result<usize, Refusal>;
+
+/// Asserts that writing the record of an image comes to what the line expects.
+fn is_written(write: Write, image: &[u8], line: &[String]) {
+    let mut room = [0xEE; 300];
+    let written = plain::from_image(image).and_then(|record| write(&record, &mut room));
+    match expected(&line[1]) {
+        Expected::Accepted(words) => {
+            let message = octets(&words[0]);
+            assert_eq!(written, Ok(message.len()), "{line:?}");
+            assert!(room.starts_with(&message), "{line:?}");
+            assert!(room[message.len()..].iter().all(|&octet| octet == 0xEE));
+        }
+        Expected::Refused(refusal) => {
+            assert_eq!(written, Err(refusal), "{line:?}");
+            assert_eq!(room, [0xEE; 300]);
+        }
+    }
+}
+
 #[test]
 fn records() {
     for line in vectors("records.txt") {
-        let mut room = [0xEE; 300];
-        let written = plain::from_image(&octets(&line[0]))
-            .and_then(|record| plain::write(&record, &mut room));
-        match expected(&line[1]) {
-            Expected::Accepted(words) => {
-                let message = octets(&words[0]);
-                assert_eq!(written, Ok(message.len()), "{line:?}");
-                assert!(room.starts_with(&message), "{line:?}");
-                assert!(room[message.len()..].iter().all(|&octet| octet == 0xEE));
-            }
-            Expected::Refused(refusal) => {
-                assert_eq!(written, Err(refusal), "{line:?}");
-                assert_eq!(room, [0xEE; 300]);
-            }
-        }
+        is_written(plain::write, &octets(&line[0]), &line);
     }
 }
 
@@ -65,4 +73,51 @@ fn edits() {
             }
         }
     }
+}
+
+#[test]
+fn profile() {
+    for line in vectors("profile.txt") {
+        let (call, argument) = line[0].split_once(' ').expect("a call and its argument");
+        let octets = octets(argument);
+        match call {
+            "read" => is_read_by_profile(&octets, &line),
+            "added" => has_added_classes(&octets, &line),
+            "write" => is_written(plain::profile_write, &octets, &line),
+            other => panic!("no call: {other}"),
+        }
+    }
+}
+
+/// The octets of added classes.
+fn pairs(classes: Vec<AddedClass>) -> Vec<u8> {
+    let pair = |class: AddedClass| [class.name.octet(), class.value];
+    classes.into_iter().flat_map(pair).collect()
+}
+
+fn is_read_by_profile(message: &[u8], line: &[String]) {
+    let read = plain::profile_read(message);
+    match expected(&line[1]) {
+        Expected::Accepted(words) => {
+            let profile = read.unwrap_or_else(|refusal| panic!("{refusal:?}: {line:?}"));
+            assert_eq!(Ok(profile.record), plain::read(message));
+            let network = match profile.network {
+                Network::Phs => "2",
+                Network::Mobile => "3",
+            };
+            assert_eq!(network, words[0], "{line:?}");
+            let added = words.get(1).map(|word| octets(word));
+            assert_eq!(profile.added.map(pairs), added, "{line:?}");
+        }
+        Expected::Refused(refusal) => assert_eq!(read, Err(refusal), "{line:?}"),
+    }
+}
+
+fn has_added_classes(message: &[u8], line: &[String]) {
+    let expected = match expected(&line[1]) {
+        Expected::Accepted(words) => Ok(octets(&words[0])),
+        Expected::Refused(refusal) => Err(refusal),
+    };
+    let opened = plain::added_classes(message);
+    assert_eq!(opened.map(pairs), expected, "{line:?}");
 }
