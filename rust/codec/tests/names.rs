@@ -1,7 +1,8 @@
 //! The refusal numbers have the same names here and in the header for C, and so
 //! have the headers of a connection order, the networks and the added classes of
 //! the mobile call profile, and the lengths the same values; both lend as much room
-//! for an image, and for the rows of an order, as is proved to suffice.
+//! for an image, for the rows of an order and for the added classes as is proved to
+//! suffice.
 
 use codec::{AddedClassName, Network, OrderHeader};
 use std::collections::BTreeMap;
@@ -60,12 +61,19 @@ fn of_the_most_rows_of_an_order() {
 }
 
 #[test]
+fn of_the_most_octets_of_the_added_classes() {
+    let proved = include_str!("../../../crates/boundary/specs/SmallProfile.antt");
+    let proved = value(line(proved, "pub added-max : most-added ≡ ", '\n'));
+    assert_eq!(value(line(HEADER, "#define TK_ADDED_MAX ", '\n')), proved);
+    assert_eq!(codec::ADDED_MAX, proved);
+}
+
+#[test]
 fn of_the_other_lengths() {
     let lengths = [
         ("TK_MESSAGE_MAX", codec::MESSAGE_MAX),
         ("TK_ROWS_MAX", codec::ROWS_MAX),
         ("TK_CHARGING_LEN", codec::CHARGING_LEN),
-        ("TK_ADDED_MAX", codec::ADDED_MAX),
     ];
     for (name, here) in lengths {
         let told = line(HEADER, &format!("#define {name} "), '\n');
