@@ -18,7 +18,7 @@ use Rattle.laws.specs.Bools.{and-left}
 use Rattle.laws.specs.Filling.{sets-append, sets-pad}
 use Rattle.laws.specs.Parts.{octet-next}
 use Rattle.theorems.specs.Profiles.{classes-few}
-use Rattle.profile.specs.declared.added.Opened.{Opened}
+use Rattle.profile.specs.declared.Opened.{Opened}
 
 -- the struct that holds pairs
 abbrev pub openedTo : List AddedClass → Opened

@@ -1,16 +1,9 @@
 // The added user classes, D6: pairs of a name and a value.
 use annex::AddedClass;
 ghost use mathlib.Core.Path.{_≡_};
-ghost use mathlib.Core.Bool.{true};
 ghost use Rattle.annex.specs.Heads.{among};
-ghost use Rattle.annex.specs.Profile.{classNames, pairsIn, pairsRight};
-ghost use Rattle.profile.specs.Pairs.{openedTo, namesIn};
-
-// The pairs of a D6, the first `count` of `class`.
-pub struct Opened {
-    pub count: u8,
-    pub class: [AddedClass; AddedClass::MOST],
-}
+ghost use Rattle.annex.specs.Profile.{classNames, pairsRight};
+ghost use Rattle.profile.specs.Pairs.{namesIn};
 
 // Whether the name is a defined one.
 fn is_defined(name: u8) -> bool
@@ -57,27 +50,4 @@ pub fn pairs_right(s: &[u8]) -> bool
         }
     }
     i == s.len()
-}
-
-// The pairs of such contents, in their order.
-pub fn open_pairs(s: &[u8]) -> Opened
-    requires { ⌜ pairsRight (now s) ≡ true ⌝ }
-    ensures { λ r. ⌜ r ≡ openedTo (pairsIn (now (s .entry))) ⌝ }
-{
-    let none = AddedClass::none();
-    let mut class = [none; AddedClass::MOST];
-    let mut k: usize = 0;
-    let mut i: usize = 0;
-    while i < s.len() {
-        class[k] = AddedClass {
-            name: s[i],
-            value: s[i + 1],
-        };
-        k += 1;
-        i += AddedClass::OCTETS;
-    }
-    Opened {
-        count: k as u8,
-        class: class,
-    }
 }

@@ -1,7 +1,6 @@
 // Reading by the profile for Rust and C: the record's image, and the added user classes as octets.
-use crate::keeping::is_found;
-use crate::keeping::part;
-use crate::keeping::sought;
+use crate::keeping::contents;
+use crate::keeping::stands;
 use crate::verdict::profile_verdict;
 use annex::Answer;
 use annex::Transfer;
@@ -29,11 +28,10 @@ pub fn added_classes(m: &[u8], out: &mut [u8]) -> Answer
     let Answer::Accepted(_) = a else {
         return a;
     };
-    let added = sought(m, Transfer::ADDED_USER_CLASS);
-    if !is_found(added) {
+    if !stands(m, Transfer::ADDED_USER_CLASS) {
         return Answer::Refused(Answer::ABSENT, 0);
     }
-    let pairs = part(m, added);
+    let pairs = contents(m, Transfer::ADDED_USER_CLASS);
     if !copy_in(out, 0, pairs) {
         return Answer::Refused(Answer::NO_ROOM, 0);
     }

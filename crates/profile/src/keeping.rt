@@ -11,40 +11,46 @@ use reader::finding::transfer_by_length;
 ghost use mathlib.Core.Path.{_≡_};
 ghost use mathlib.Core.Bool.{true, cond, _||_};
 ghost use lib.Dec.{eqb};
-ghost use lib.ListN.{length};
-ghost use Rattle.annex.specs.Finding.{foundPart};
 ghost use Rattle.annex.specs.Profile.{phs, mobile};
-ghost use Rattle.laws.specs.Finding.{Inside};
 ghost use Rattle.theorems.specs.Places.{isFound};
-ghost use Rattle.profile.specs.Keeping.{headed, keepsPlain};
+ghost use Rattle.profile.specs.Keeping.{headed, contentsUnder, kindIn, keepsPlain};
 
 // Where the contents of the first transfer parameter with this header's name stand.
-pub fn sought(m: &[u8], header: u8) -> Found
-    ensures at { λ r. ⌜ r ≡ headed header (now (m .entry)) ⌝ }
-    ensures inside { λ r. ⌜ Inside (length (now (m .entry))) r ⌝ }
+fn sought(m: &[u8], header: u8) -> Found
+    ensures { λ r. ⌜ r ≡ headed header (now (m .entry)) ⌝ }
 {
     transfer_by_length(m, header % 64, 0)
 }
 
-// Whether something was found.
-pub fn is_found(f: Found) -> bool
-    ensures { λ r. ⌜ r ≡ isFound f ⌝ }
+// Whether there is one.
+pub fn stands(m: &[u8], header: u8) -> bool
+    ensures { λ r. ⌜ r ≡ isFound (headed header (now (m .entry))) ⌝ }
 {
+    let f = sought(m, header);
     match f {
         Found::At(_, _) => true,
         Found::Nowhere => false,
     }
 }
 
-// The stretch that was found, the empty one where there is none.
-pub fn part(m: &[u8], f: Found) -> &[u8]
-    requires { ⌜ Inside (length (now m)) f ⌝ }
-    ensures { λ r. ⌜ now r ≡ foundPart (now (m .entry)) f ⌝ }
+// Its contents, the empty stretch where there is none.
+pub fn contents(m: &[u8], header: u8) -> &[u8]
+    ensures { λ r. ⌜ now r ≡ contentsUnder header (now (m .entry)) ⌝ }
 {
-    let Found::At(start, end) = f else {
+    let Found::At(start, end) = sought(m, header) else {
         return &m[..0];
     };
     &m[start..end]
+}
+
+// What 06 says, 0 where it does not stand.
+fn signal_kind(m: &[u8]) -> u8
+    ensures { λ r. ⌜ r ≡ kindIn (now (m .entry)) ⌝ }
+{
+    let Found::At(start, end) = common_by_length(m, Common::SIGNAL_KIND) else {
+        return 0;
+    };
+    octet_at(&m[start..end], 0)
 }
 
 // Whether 7E says that the call comes from PHS or a mobile network.
@@ -57,12 +63,12 @@ fn is_network(octet: u8) -> bool
     }
 }
 
-// Whether D6 stands where the call comes from a mobile network.
-fn is_enough(network: u8, added: Found) -> bool
-    ensures { λ r. ⌜ r ≡ cond (eqb network mobile) (isFound added) true ⌝ }
+// Whether D6 stands, where the call comes from a mobile network.
+fn is_enough(network: u8, added: bool) -> bool
+    ensures { λ r. ⌜ r ≡ cond (eqb network mobile) added true ⌝ }
 {
     if network == Network::MOBILE {
-        return is_found(added);
+        return added;
     }
     true
 }
@@ -71,20 +77,18 @@ fn is_enough(network: u8, added: Found) -> bool
 pub fn keeps(m: &[u8]) -> bool
     ensures { λ r. ⌜ r ≡ keepsPlain (now (m .entry)) ⌝ }
 {
-    let kind = octet_at(part(m, common_by_length(m, Common::SIGNAL_KIND)), 0);
-    if kind != Signal::DATA_ENQUIRY {
+    if signal_kind(m) != Signal::DATA_ENQUIRY {
         return false;
     }
-    let network = octet_at(part(m, sought(m, Transfer::ADJACENT_NETWORK)), 0);
+    let network = octet_at(contents(m, Transfer::ADJACENT_NETWORK), 0);
     if !is_network(network) {
         return false;
     }
-    if !is_found(sought(m, Transfer::ORIGINATING_REGION)) {
+    if !stands(m, Transfer::ORIGINATING_REGION) {
         return false;
     }
-    let added = sought(m, Transfer::ADDED_USER_CLASS);
-    if !is_enough(network, added) {
+    if !is_enough(network, stands(m, Transfer::ADDED_USER_CLASS)) {
         return false;
     }
-    pairs_right(part(m, added))
+    pairs_right(contents(m, Transfer::ADDED_USER_CLASS))
 }

@@ -5,27 +5,56 @@ mod keeping;
 pub mod verdict;
 pub mod writing;
 
-use added::open_pairs;
 use annex::AddedClass;
 use annex::Answer;
 use annex::Network;
 use annex::Profile;
 use annex::ProfileReading;
 use annex::Transfer;
-use keeping::part;
-use keeping::sought;
+use keeping::contents;
 use octets::octet_at;
 use reader::reading;
 use reader::reading::empty;
 use verdict::profile_verdict;
 ghost use Prim.Native.Nat.{ℕ};
 ghost use mathlib.Core.Path.{_≡_};
+ghost use mathlib.Core.Bool.{true};
 ghost use mathlib.Core.List.{[]};
-ghost use Rattle.annex.specs.Profile.{profileVerdict, profileOf};
+ghost use Rattle.annex.specs.Profile.{pairsIn, pairsRight, profileVerdict, profileOf};
 ghost use Rattle.annex.specs.Promises.{ProfileReadPromise};
 ghost use Rattle.annex.specs.Reading.{recordOf};
 ghost use Rattle.annex.specs.declared.Answer.the-variants.{Accepted};
 ghost use Rattle.profile.specs.Keeping.{networkSaid};
+ghost use Rattle.profile.specs.Pairs.{openedTo};
+
+// The pairs of a D6, the first `count` of `class`.
+struct Opened {
+    count: u8,
+    class: [AddedClass; AddedClass::MOST],
+}
+
+// The pairs of contents that are pairs with names as they must be, in their order.
+fn open_pairs(s: &[u8]) -> Opened
+    requires { ⌜ pairsRight (now s) ≡ true ⌝ }
+    ensures { λ r. ⌜ r ≡ openedTo (pairsIn (now (s .entry))) ⌝ }
+{
+    let none = AddedClass::none();
+    let mut class = [none; AddedClass::MOST];
+    let mut k: usize = 0;
+    let mut i: usize = 0;
+    while i < s.len() {
+        class[k] = AddedClass {
+            name: s[i],
+            value: s[i + 1],
+        };
+        k += 1;
+        i += AddedClass::OCTETS;
+    }
+    Opened {
+        count: k as u8,
+        class: class,
+    }
+}
 
 // The network that 7E says.
 fn network_of(octet: u8) -> Network
@@ -58,8 +87,8 @@ fn told(m: &[u8]) -> Profile
     requires { ⌜ ((n : ℕ) × (profileVerdict (now m) ≡ Accepted n)) ⌝ }
     ensures { λ r. ⌜ r ≡ profileOf (recordOf (now (m .entry))) ⌝ }
 {
-    let network = network_of(octet_at(part(m, sought(m, Transfer::ADJACENT_NETWORK)), 0));
-    let opened = open_pairs(part(m, sought(m, Transfer::ADDED_USER_CLASS)));
+    let network = network_of(octet_at(contents(m, Transfer::ADJACENT_NETWORK), 0));
+    let opened = open_pairs(contents(m, Transfer::ADDED_USER_CLASS));
     let class = opened.class;
     Profile {
         network: network,

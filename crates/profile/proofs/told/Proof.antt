@@ -8,14 +8,13 @@ use mathlib.Core.List.{List}
 use borrow.Author.Needs.{needs}
 use lib.ListN.{getD}
 use Rattle.annex.specs.Allowed.{every, isOctet}
-use Rattle.annex.specs.Finding.{foundPart}
-use Rattle.annex.specs.Profile.{added-class, pairsIn, pairsRight}
+use Rattle.annex.specs.Profile.{pairsIn, pairsRight}
 use Rattle.annex.specs.declared.Network.{Network}
 use Rattle.annex.specs.declared.Profile.{Profile}
 use Rattle.laws.specs.Written.{octets-every}
-use Rattle.profile.specs.declared.added.Opened.{Opened}
+use Rattle.profile.specs.declared.Opened.{Opened}
 use Rattle.profile.specs.Pairs.{openedTo}
-use Rattle.profile.specs.Keeping.{contentsUnder, networkIn, networkSaid}
+use Rattle.profile.specs.Keeping.{networkIn, networkSaid}
 use Rattle.profile.specs.Telling.{pairs-taken, told-so}
 use Rattle.profile.proofs.told.Statement.{statement}
 use Rattle.profile.proofs.told.Tie as tie
@@ -26,7 +25,7 @@ octets c = octets-every (now (c .before .args .m)) (λ i. omega (arith, c .share
 -- what 7E says
 module _ (c : tie.After-network-of) where
   abbrev known : tie.After-shared-slice-known
-  known = c .before .before .before .before
+  known = c .before .before .before
 
   abbrev m : List ℕ
   m = now (known .before .args .m)
@@ -34,21 +33,17 @@ module _ (c : tie.After-network-of) where
   network : c .network-of .result ≡ networkSaid (networkIn m)
   network =
       let o = c .before in
-      let found = ap (foundPart m) (o .before .before .sought .ensures .0) in
-      c .network-of .ensures ∙ ap networkSaid (o .octet-at .ensures ∙ ap (λ (s : List ℕ). getD s 0 0) (o .before .part .ensures ∙ found))
+      c .network-of .ensures ∙ ap networkSaid (o .octet-at .ensures ∙ ap (λ (s : List ℕ). getD s 0 0) (o .before .contents .ensures))
 
 -- D6's contents, which are pairs
-module _ (c : tie.After-part2) where
+module _ (c : tie.After-contents2) where
   abbrev said : tie.After-network-of
-  said = c .before .before
+  said = c .before
 
-  contents : now (c .part2 .result) ≡ contentsUnder added-class (m said)
-  contents = c .part2 .ensures ∙ ap (foundPart (m said)) (c .before .sought2 .ensures .0)
-
-  pairs : pairsRight (now (c .part2 .result)) ≡ true
+  pairs : pairsRight (now (c .contents2 .result)) ≡ true
   pairs =
       let st = known said .before in
-      ap pairsRight contents ∙ pairs-taken (m said) (octets (known said)) (st .pre .0) (st .pre .1)
+      ap pairsRight (c .contents2 .ensures) ∙ pairs-taken (m said) (octets (known said)) (st .pre .0) (st .pre .1)
 
 returns : tie.Need-returns
 returns c =
@@ -58,15 +53,13 @@ returns c =
     let st = known n .before in
     let told : (x : Network) (w : Opened) → Profile = λ x w. record { network = x; classes = w .count; class = w .class } in
     ap (λ (x : Network). told x (o .open-pairs .result)) (network n)
-    ∙ ap (told (networkSaid (networkIn (m n)))) (o .open-pairs .ensures ∙ ap (λ (s : List ℕ). openedTo (pairsIn s)) (contents p))
+    ∙ ap (told (networkSaid (networkIn (m n)))) (o .open-pairs .ensures ∙ ap (λ (s : List ℕ). openedTo (pairsIn s)) (p .contents2 .ensures))
     ∙ told-so (m n) (octets (known n)) (st .pre .0) (st .pre .1)
 
 pub told-spec : {M : Type 1} → statement M
 told-spec =
     tie.close
     (tie.spec
-    (λ c κs. search needs)
-    (λ c κs. search needs)
     (λ c κs. search needs)
     (λ c κs. search needs)
     (λ c κs. search needs)

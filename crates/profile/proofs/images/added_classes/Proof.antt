@@ -9,7 +9,6 @@ use borrow.Author.Needs.{needs}
 use borrow.Author.Tests.{not-true, not-false}
 use lib.ListN.{length, drop}
 use Rattle.annex.specs.Allowed.{every, isOctet}
-use Rattle.annex.specs.Finding.{foundPart}
 use Rattle.annex.specs.Profile.{added-class, profileVerdict}
 use Rattle.annex.specs.declared.Answer.the-variants.{Accepted}
 use Rattle.laws.specs.Written.{octets-every}
@@ -28,9 +27,9 @@ returns c =
     rw e (classes-passed (now (a .m)) _ _ (sym (v .profile-verdict .ensures) ∙ e) (now (a .out)))
 
 -- the profile takes the message
-module _ (c : tie.After-is-found) where
+module _ (c : tie.After-stands) where
   abbrev told : tie.After-enum-told
-  told = c .before .before
+  told = c .before
 
   abbrev known : tie.After-shared-slice-known
   known = told .before .before .before .before
@@ -50,43 +49,40 @@ module _ (c : tie.After-is-found) where
   taken : profileVerdict m ≡ Accepted n
   taken = sym (told .before .before .profile-verdict .ensures) ∙ told .enum-told .given .1
 
-  asked : c .is-found .result ≡ isFound (headed added-class m)
-  asked = c .is-found .ensures ∙ ap isFound (c .before .sought .ensures .0)
-
 returns-2 : tie.Need-returns-2
 returns-2 c =
     let f = c .before in
-    classes-absent (m f) (octets f) (n f) (taken f) (out f) (sym (asked f) ∙ not-true (f .is-found .result) (c .if1 .taken))
+    classes-absent (m f) (octets f) (n f) (taken f) (out f) (sym (f .stands .ensures) ∙ not-true (f .stands .result) (c .if1 .taken))
 
 -- D6 stands: its contents
 module _ (c : tie.After-copy-in) where
-  abbrev there : tie.After-is-found
+  abbrev there : tie.After-stands
   there = c .before .before .before .before
 
   stands : isFound (headed added-class (m there)) ≡ true
-  stands = sym (asked there) ∙ not-false (there .is-found .result) (c .before .before .before .if1 .left)
+  stands = sym (there .stands .ensures) ∙ not-false (there .stands .result) (c .before .before .before .if1 .left)
 
-  contents : now (c .before .before .part .result) ≡ contentsUnder added-class (m there)
-  contents = c .before .before .part .ensures ∙ ap (foundPart (m there)) (there .before .sought .ensures .0)
+  pairs : now (c .before .before .contents .result) ≡ contentsUnder added-class (m there)
+  pairs = c .before .before .contents .ensures
 
 returns-3 : tie.Need-returns-3
 returns-3 c =
     let p = c .before .before .before in
     let f = there p in
-    let s = now (p .before .before .part .result) in
+    let s = now (p .before .before .contents .result) in
     let t = copied-short s (out f) _ _ (p .copy-in .ensures) (not-true (p .copy-in .result) (c .if2 .taken)) in
-    let d = classes-short (m f) (octets f) (n f) (taken f) (out f) (stands p) (omega (arith, t .0, ap length (contents p))) in
+    let d = classes-short (m f) (octets f) (n f) (taken f) (out f) (stands p) (omega (arith, t .0, ap length (pairs p))) in
     (d .0, t .1 ∙ d .1)
 
 returns-4 : tie.Need-returns-4
 returns-4 c =
     let p = c .before .before .before in
     let f = there p in
-    let s = now (p .before .before .part .result) in
+    let s = now (p .before .before .contents .result) in
     let t = copied-whole s (out f) _ _ (p .copy-in .ensures) (not-false (p .copy-in .result) (c .if2 .left)) in
-    let d = classes-done (m f) (octets f) (n f) (taken f) (out f) (stands p) (omega (arith, t .0, ap length (contents p))) in
-    let same = ap (λ (x : List ℕ). x ++ drop (length x) (out f)) (contents p) in
-    (ap (λ (x : List ℕ). Accepted (length x)) (contents p) ∙ d .0, t .1 ∙ same ∙ d .1)
+    let d = classes-done (m f) (octets f) (n f) (taken f) (out f) (stands p) (omega (arith, t .0, ap length (pairs p))) in
+    let same = ap (λ (x : List ℕ). x ++ drop (length x) (out f)) (pairs p) in
+    (ap (λ (x : List ℕ). Accepted (length x)) (pairs p) ∙ d .0, t .1 ∙ same ∙ d .1)
 
 pub added-classes-spec : {M : Type 1} → statement M
 added-classes-spec =
@@ -96,7 +92,6 @@ added-classes-spec =
     (λ c. search needs)
     (λ c. search needs)
     returns
-    (λ c κs. search needs)
     (λ c κs. search needs)
     returns-2
     (λ c κs. search needs)

@@ -9,8 +9,8 @@ use Rattle.annex.specs.Records.{pad}
 use Rattle.annex.specs.Profile.{pairsIn, most-classes, noClass}
 use Rattle.theorems.specs.Profiles.{classes-few}
 use Rattle.profile.specs.Pairs.{Opening, opening-first, pair-left, opening-next, opening-done}
-use Rattle.profile.proofs.added.open_pairs.Statement.{statement}
-use Rattle.profile.proofs.added.open_pairs.Tie as tie
+use Rattle.profile.proofs.open_pairs.Statement.{statement}
+use Rattle.profile.proofs.open_pairs.Tie as tie
 
 abbrev Inv-loop : tie.InvT-loop
 Inv-loop s class₀ k₀ i₀ class k i = Opening s class k i
