@@ -9,8 +9,8 @@
 static uint8_t message[] = {0x01, 0x01, 0x06, 0x11, 0xC5, 0x11, 0x98, 0x03, 0x21, 0x0A, 0x7E, 0x03,
                             0xD6, 0x04, 0xFD, 0x01, 0xFC, 0x03, 0xFD, 0x03, 0x04, 0x21, 0x43, 0x00};
 
-/* The names of the network and the area information: the lower six bits of the headers 7E and FD. */
-enum { NETWORK = 0x3E, AREA_INFORMATION = 0x3D };
+/* The names of the network and the originating region: the lower six bits of the headers 7E and FD. */
+enum { NETWORK = 0x3E, ORIGINATING_REGION = 0x3D };
 
 static const char *text(uint8_t name) {
     switch (name) {
@@ -36,7 +36,7 @@ int main(void) {
     if (tk_number_of(answer) != TK_ACCEPTED) return 1;
     for (size_t i = 0; i < tk_value_of(answer); i += 2) printf("%s %02X\n", text(added[i]), added[i + 1]);
 
-    answer = tk_remove(message, sizeof message, sizeof message, AREA_INFORMATION);
+    answer = tk_remove(message, sizeof message, sizeof message, ORIGINATING_REGION);
     answer = tk_profile_read(message, tk_value_of(answer), image, sizeof image);
     printf("refused %d at %zu\n", tk_number_of(answer), tk_place_of(answer));
     return tk_number_of(answer) != TK_PROFILE;

@@ -7,11 +7,12 @@ use lib.ListN.{length, replicate}
 use Rattle.annex.specs.Units.{afterOf, leadOf, commonExtentOf, extentOf}
 use Rattle.annex.specs.Heads.{valueAllowed, nameUsed, pliRight, oftenOf, zeroesOf, formOf}
 use Rattle.annex.specs.Contents.{faultOf}
-use Rattle.annex.specs.Items.{Item, Part, plainItem, valuePart, dataPart, holdingOf, itemOf, contentsOf}
+use Rattle.annex.specs.Items.{Item, Part, plainItem, valuePart, dataPart, holdingOf, itemOf, contentsOf, ownOf}
 use Rattle.annex.specs.Layout.{layoutItem, layoutItems, layoutPart, layout}
 use Rattle.annex.specs.Allowed.{lengthRight, faultIn, valueFits}
 use Rattle.annex.specs.Walk.{walk}
 use Rattle.annex.specs.Reading.{
+  verdictOf,
   recordOf,
   commonForm,
   endOf,
@@ -26,14 +27,27 @@ use Rattle.annex.specs.Reading.{
   openCommonBy,
   recordBy,
 }
-use Rattle.annex.specs.Writing.{itemWriting, itemsWriting, dataWriting, partWriting, partsWriting, overLimits, recordWriting}
+use Rattle.annex.specs.Records.{pad, valuesOf, pack, viewItems, lengthsOf, transfersSum, viewParts, isWhole, view}
+use Rattle.annex.specs.Writing.{
+  itemWriting,
+  itemsWriting,
+  dataWriting,
+  partWriting,
+  partsWriting,
+  overLimits,
+  recordWriting,
+  structWriting,
+}
+use Rattle.annex.specs.Image.{imageItem, imageItems, imagePart, imageParts, imageOf}
+use Rattle.annex.specs.Packed.{imageReading, profileImageReading}
 use Rattle.annex.specs.Profile.{
   namedClass,
   pairOctets,
   pairsIn,
   isInProfile,
-  profiled,
   profileVerdict,
+  profileRefusal,
+  profileWriting,
   networkOf,
   valuesUnder,
   classesOf,
@@ -46,12 +60,15 @@ use Rattle.annex.specs.declared.Network.{Network}
 use Rattle.annex.specs.declared.Network.the-variants.{Other, Phs, Mobile}
 use Rattle.annex.specs.declared.AddedClass.{AddedClass}
 
--- a message, and the profile's verdict; a message, and what is told beside its record; a record, and the answer to writing it by the
--- profile, room aside; a message, lent octets, the answer about its added classes, and the octets then
+-- a message, and the profile's verdict; one, and reading's own; one, and what is told beside its record; one, and the answer to reading it
+-- to an image in so much room; a record, and the answer to writing it in so much; a message, lent octets, the answer about its added
+-- classes, and the octets then
 pub data Case : Type 0 where
   Judged : List ℕ → Answer → Case
+  Carried : List ℕ → Answer → Case
   Told : List ℕ → Network → List AddedClass → Case
-  Written : List Part → Answer → Case
+  Imaged : List ℕ → ℕ → Answer → Case
+  Written : List Part → ℕ → Answer → Case
   Given : List ℕ → List ℕ → Answer → List ℕ → Case
 
 -- a message of the signal kind k with the transfer data t; its end mark stands at 6 and as many octets as t has
@@ -92,8 +109,10 @@ recordWith k is = valuePart 0x01 0x01 ∷ valuePart 0x06 k ∷ dataPart is ∷ [
 
 abbrev asDefined : Case → Case
 asDefined (Judged m a) = Judged m (profileVerdict m)
+asDefined (Carried m a) = Carried m (verdictOf m)
 asDefined (Told m n cs) = Told m (networkOf (recordOf m)) (classesOf (recordOf m))
-asDefined (Written r a) = Written r (profiled r (recordWriting r))
+asDefined (Imaged m room a) = Imaged m room (profileImageReading m room)
+asDefined (Written r room a) = Written r room (profileWriting (pack r) room)
 asDefined (Given m room a now) = Given m room (classesAnswer m (length room)) (classesGiven m room)
 
 abbrev pub cases : List Case
@@ -138,6 +157,8 @@ cases =
     Judged (0x01 ∷ 0x01 ∷ 0x00 ∷ []) (Refused 6 2) ∷
     Judged (of 0x12 region ++ (0x00 ∷ [])) (Refused 7 10) ∷
     Judged (of 0x11 (0xD6 ∷ 0x02 ∷ 0xFE ∷ [])) (Refused 11 6) ∷
+    -- reading itself carries D6 unread
+    Carried (mobileWith (0x05 ∷ 0x01 ∷ 0x05 ∷ [])) (Accepted 17) ∷
     -- what is told: the network; the pairs in the order of arrival, names before values
     Told plain Phs [] ∷
     Told (of 0x11 (from 1 ++ region)) Other [] ∷
@@ -148,18 +169,23 @@ cases =
     Told (mobileWith six) Mobile
     (namedClass 0xFE 0x01 ∷ namedClass 0x02 0x00 ∷ namedClass 0xFB 0xFF ∷ namedClass 0x01 0x01 ∷ namedClass 0xFD 0xFD
     ∷ namedClass 0xFC 0x08 ∷ []) ∷
-    -- records: the same rules; writing's numbers come first, 6 too
-    Written (recordWith 0x11 (plainItem 0x7E (2 ∷ []) ∷ plainItem 0xFD [] ∷ [])) (Accepted 11) ∷
-    Written (recordWith 0x12 (plainItem 0x7E (2 ∷ []) ∷ plainItem 0xFD [] ∷ [])) (Refused 20 10) ∷
-    Written (recordWith 0x11 (plainItem 0x7E (1 ∷ []) ∷ plainItem 0xFD [] ∷ [])) (Refused 20 10) ∷
-    Written (recordWith 0x11 (plainItem 0x7E (2 ∷ []) ∷ [])) (Refused 20 8) ∷
-    Written (recordWith 0x11 (plainItem 0x7E (3 ∷ []) ∷ plainItem 0xFD [] ∷ [])) (Refused 20 10) ∷
-    Written (recordWith 0x11 (plainItem 0x7E (3 ∷ []) ∷ plainItem 0xFD [] ∷ plainItem 0xD6 [] ∷ [])) (Accepted 13) ∷
-    Written (recordWith 0x11 (plainItem 0x7E (3 ∷ []) ∷ plainItem 0xFD [] ∷ plainItem 0xD6 (0xFE ∷ 0x01 ∷ []) ∷ [])) (Accepted 15) ∷
-    Written (recordWith 0x11 (plainItem 0x7E (3 ∷ []) ∷ plainItem 0xFD [] ∷ plainItem 0xD6 (0x05 ∷ 0x01 ∷ []) ∷ [])) (Refused 20 14) ∷
-    Written (recordWith 0x11 (plainItem 0x7E (2 ∷ []) ∷ plainItem 0xFD [] ∷ plainItem 0xD6 (0x05 ∷ []) ∷ [])) (Refused 20 13) ∷
-    Written (recordWith 0x11 (plainItem 0x7E [] ∷ [])) (Refused 11 6) ∷
-    Written (valuePart 0x01 0x01 ∷ []) (Refused 6 2) ∷
+    -- an image: 20 before 15
+    Imaged plain 46 (Accepted 46) ∷
+    Imaged plain 45 (Refused 15 0) ∷
+    Imaged (of 0x12 (from 2 ++ region)) 0 (Refused 20 11) ∷
+    -- records: the same rules; writing's numbers come first, 6 too, then 20, then 15
+    Written (recordWith 0x11 (plainItem 0x7E (2 ∷ []) ∷ plainItem 0xFD [] ∷ [])) 11 (Accepted 11) ∷
+    Written (recordWith 0x11 (plainItem 0x7E (2 ∷ []) ∷ plainItem 0xFD [] ∷ [])) 10 (Refused 15 0) ∷
+    Written (recordWith 0x12 (plainItem 0x7E (2 ∷ []) ∷ plainItem 0xFD [] ∷ [])) 0 (Refused 20 10) ∷
+    Written (recordWith 0x11 (plainItem 0x7E (1 ∷ []) ∷ plainItem 0xFD [] ∷ [])) 11 (Refused 20 10) ∷
+    Written (recordWith 0x11 (plainItem 0x7E (2 ∷ []) ∷ [])) 9 (Refused 20 8) ∷
+    Written (recordWith 0x11 (plainItem 0x7E (3 ∷ []) ∷ plainItem 0xFD [] ∷ [])) 11 (Refused 20 10) ∷
+    Written (recordWith 0x11 (plainItem 0x7E (3 ∷ []) ∷ plainItem 0xFD [] ∷ plainItem 0xD6 [] ∷ [])) 13 (Accepted 13) ∷
+    Written (recordWith 0x11 (plainItem 0x7E (3 ∷ []) ∷ plainItem 0xFD [] ∷ plainItem 0xD6 (0xFE ∷ 0x01 ∷ []) ∷ [])) 15 (Accepted 15) ∷
+    Written (recordWith 0x11 (plainItem 0x7E (3 ∷ []) ∷ plainItem 0xFD [] ∷ plainItem 0xD6 (0x05 ∷ 0x01 ∷ []) ∷ [])) 15 (Refused 20 14) ∷
+    Written (recordWith 0x11 (plainItem 0x7E (2 ∷ []) ∷ plainItem 0xFD [] ∷ plainItem 0xD6 (0x05 ∷ []) ∷ [])) 14 (Refused 20 13) ∷
+    Written (recordWith 0x11 (plainItem 0x7E [] ∷ [])) 0 (Refused 11 6) ∷
+    Written (valuePart 0x01 0x01 ∷ []) 0 (Refused 6 2) ∷
     -- D6's pairs for Rust and C: octets past them stay; 20, then 16 without D6, then 15; a refusal leaves all
     Given (mobileWith (0x01 ∷ 0xFE ∷ [])) (lent 3) (Accepted 2) (0x01 ∷ 0xFE ∷ 0xEE ∷ []) ∷
     Given (mobileWith (0x01 ∷ 0xFE ∷ [])) (lent 2) (Accepted 2) (0x01 ∷ 0xFE ∷ []) ∷
@@ -173,8 +199,10 @@ cases =
 
 -- what the definitions say of each case is what the table says
 pub enquiries : map asDefined cases ≡ cases
-unfolding afterOf leadOf commonExtentOf extentOf nameUsed pliRight oftenOf zeroesOf formOf faultOf holdingOf itemOf contentsOf layoutItem
-    layoutItems layoutPart layout lengthRight faultIn valueFits walk transferBy transfersVerdictBy valueAllowed commonForm endOf dataBy
-    commonBy messageVerdictBy verdictBy commonsBy transfersBy openCommonBy recordBy itemWriting itemsWriting dataWriting partWriting
-    partsWriting overLimits recordWriting pairOctets pairsIn isInProfile profileVerdict valuesUnder classesAnswer classesGiven
+unfolding afterOf leadOf commonExtentOf extentOf nameUsed pliRight oftenOf zeroesOf formOf faultOf holdingOf itemOf contentsOf ownOf
+    layoutItem layoutItems layoutPart layout lengthRight faultIn valueFits walk transferBy transfersVerdictBy valueAllowed commonForm endOf
+    dataBy commonBy messageVerdictBy verdictBy commonsBy transfersBy openCommonBy recordBy pad valuesOf pack viewItems lengthsOf
+    transfersSum viewParts isWhole view itemWriting itemsWriting dataWriting partWriting partsWriting overLimits recordWriting structWriting
+    imageItem imageItems imagePart imageParts imageOf imageReading pairOctets pairsIn isInProfile profileVerdict profileRefusal
+    profileWriting profileImageReading valuesUnder classesAnswer classesGiven
 enquiries = refl

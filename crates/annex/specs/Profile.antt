@@ -92,6 +92,7 @@ isEnquiry p = eqb (p .header) signal-kind && eqb (p .value) data-enquiry
 abbrev pub isHeaded : ℕ → Item → Bool
 isHeaded h i = eqb (i .header) h
 
+-- 7E has one octet, by its PLI
 abbrev pub isNetwork : ℕ → Item → Bool
 isNetwork x i = isHeaded adjacent-network i && eqb (getD (i .values) 0 0) x
 
@@ -141,6 +142,12 @@ profileWritten s room = roomAfter (profileWriting s (length room)) (layout (view
 -- the network, by what 7E says
 abbrev pub networkOf : List Part → Network
 networkOf r = cond (some (isNetwork phs) (itemsIn r)) Phs (cond (some (isNetwork mobile) (itemsIn r)) Mobile Other)
+
+-- what 7E says of each network, 0 where it says neither
+abbrev pub networkValue : Network → ℕ
+networkValue Other = 0
+networkValue Phs = phs
+networkValue Mobile = mobile
 
 -- the values of the first parameter with the header h, none where there is none
 unfoldable pub valuesUnder : ℕ → List Item → List ℕ

@@ -89,9 +89,9 @@ classes-small m n e =
     let right = under-right (itemsIn (recordOf m)) (profile-taken m n e .1 .opened) in
     omega (arith, pairs-even (classesOf (recordOf m)), classes-few (valuesUnder added-class (itemsIn (recordOf m))) right)
 
--- 16, or so many octets
-abbrev pub sixteen : List ℕ → Answer → Answer
-sixteen m a = andThen (profileVerdict m) (λ _. refuse (not (some (isHeaded added-class) (itemsIn (recordOf m)))) absent 0 a)
+-- the profile's refusals, then 16, and else an answer
+abbrev pub absentOr : List ℕ → Answer → Answer
+absentOr m a = andThen (profileVerdict m) (λ _. refuse (not (some (isHeaded added-class) (itemsIn (recordOf m)))) absent 0 a)
 
 pub classes-upto : (m : List ℕ) (room : ℕ) → Upto farthest (classesAnswer m room)
 unfolding classesAnswer
@@ -112,7 +112,7 @@ classes-upto m room = go (profileVerdict m) refl (verdict-small m)
 
 -- with so much room, the pairs are refused for what is wrong with the message alone, or for want of D6, never for want of room
 pub classes-roomy : (m room : List ℕ) → most-added ≤ length room → (r : ℕ) (now : List ℕ) → TkClassesPromise m room r now
-    → r / 4294967296 ≡ numberOf (sixteen m (Accepted 0))
+    → r / 4294967296 ≡ numberOf (absentOr m (Accepted 0))
 unfolding classesAnswer
 classes-roomy m room l r now p = rw (p .0) (go (profileVerdict m) refl)
   where

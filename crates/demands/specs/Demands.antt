@@ -7,7 +7,7 @@ use Prim.Native.Nat.{ℕ, _+_, _*_, _/_, _%_, _≤_, _<_}
 use mathlib.Core.Path.{_≡_}
 use mathlib.Core.Bool.{Bool, true, false}
 use mathlib.Core.List.{List, [], _∷_, _++_}
-use mathlib.Core.Logic.{_↔_, _⊎_}
+use mathlib.Core.Logic.{_↔_}
 use lib.ListN.{length, getD, take, drop}
 use Rattle.annex.specs.Answers.{bad-digit, absent, outside-profile, numberOf, classNumberOf}
 use Rattle.annex.specs.Units.{nameOf}
@@ -23,7 +23,7 @@ use Rattle.annex.specs.Finding.{commonFound, transferFound, findAnswer}
 use Rattle.annex.specs.Editing.{Edit, edited, editingOf}
 use Rattle.annex.specs.Classes.{classOf}
 use Rattle.annex.specs.Charging.{octetCharging}
-use Rattle.annex.specs.Profile.{OfPairs, adjacent-network, phs, mobile, added-class, InProfile, profileOf, classesAnswer}
+use Rattle.annex.specs.Profile.{OfPairs, adjacent-network, added-class, InProfile, networkValue, profileOf, classesAnswer}
 use Rattle.annex.specs.Packed.{imageReading, imageWriting, profileImageReading, profileImageWriting, octetSpans, octetOrder}
 use Rattle.annex.specs.BadHalves.{ShownAt}
 use Rattle.annex.specs.Walking.{noRow}
@@ -79,7 +79,6 @@ use Rattle.annex.specs.declared.ChargingAnswer.{ChargingAnswer}
 use Rattle.annex.specs.declared.ChargingAnswer.the-variants as chargings
 use Rattle.annex.specs.declared.ClassAnswer.{ClassAnswer}
 use Rattle.annex.specs.declared.Fault.the-variants.{Sound}
-use Rattle.annex.specs.declared.Network.the-variants.{Phs, Mobile}
 use Rattle.annex.specs.declared.Profile.{Profile}
 use Rattle.annex.specs.declared.ProfileReading.{ProfileReading}
 use Rattle.annex.specs.declared.Reading.{Reading}
@@ -335,7 +334,7 @@ pub record Demand2 : Type 0 where
   -- The network told is the one that 7E says. D6's contents are pairs laid out, and the pairs told are the only ones that lay out to them.
   pub profile-network : (s : List Part) → Allowed s → InProfile s → (front : List Item) (one : Item) (back : List Item)
       → itemsIn s ≡ front ++ (one ∷ back) → one .header ≡ adjacent-network
-      → ((one .values ≡ phs ∷ []) × (profileOf s .network ≡ Phs)) ⊎ ((one .values ≡ mobile ∷ []) × (profileOf s .network ≡ Mobile))
+      → (one .values ≡ networkValue (profileOf s .network) ∷ []) × (0 < networkValue (profileOf s .network))
   pub profile-pairs : (s : List Part) → Allowed s → InProfile s → (front : List Item) (one : Item) (back : List Item)
       → itemsIn s ≡ front ++ (one ∷ back) → one .header ≡ added-class → OfPairs (one .values)
   pub profile-classes : (s : List Part) → Allowed s → InProfile s → (front : List Item) (one : Item) (back : List Item)

@@ -1,10 +1,10 @@
 -- What demand 2 says of the mobile call profile (document 02, request f) holds, by what stands in `theorems`.
-use Prim.Native.Nat.{ℕ, _-_, _≤_}
+use Prim.Native.Nat.{ℕ, _-_, _≤_, _<_}
 use native.Mathlib.Omega.{arith}
 use mathlib.Core.Path.{_≡_, refl, sym, ap, _∙_}
 use mathlib.Core.Bool.{Bool, true, false, not, _||_, and-true}
 use mathlib.Core.List.{List, [], _∷_, _++_}
-use mathlib.Core.Logic.{_↔_, _⊎_, inl, inr}
+use mathlib.Core.Logic.{_↔_}
 use borrow.Author.Tests.{eqb-true, ltb-true, ltb-false, le-ltb}
 use lib.Dec.{eqb, ltb}
 use lib.ListN.{length, getD, take, drop}
@@ -32,6 +32,7 @@ use Rattle.annex.specs.Profile.{
   profileVerdict,
   profileRefusal,
   profileWriting,
+  networkValue,
   valuesUnder,
   classesOf,
   profileOf,
@@ -44,7 +45,6 @@ use Rattle.annex.specs.Promises.{VerdictPromise, RecordRefusalPromise, ProfileR
 use Rattle.annex.specs.declared.Answer.{Answer}
 use Rattle.annex.specs.declared.Answer.the-variants.{Accepted, Refused}
 use Rattle.annex.specs.declared.Check.the-variants.{Nothing}
-use Rattle.annex.specs.declared.Network.the-variants.{Phs, Mobile}
 use Rattle.annex.specs.declared.ProfileReading.{ProfileReading}
 use Rattle.annex.specs.declared.Record.{Record}
 use Rattle.laws.specs.Bools.{and-left}
@@ -101,7 +101,7 @@ profile-outside-so s a f r p =
     let n = length (layout s) in
     let l = laid-then-read s a in
     let d = profile-refuses (layout s) n (l .0) (λ i. f (rw (l .1) at i)) in
-    (n - 1, profile-verdict-so (layout s) r p ∙ d .0, d .1 .mark)
+    (n - 1, profile-verdict-so (layout s) r p ∙ d .0, d .1)
 
 pub profile-none-so : (m : List ℕ) (r : ProfileReading) → ProfileReadPromise m r → (k p : ℕ) → r .answer ≡ Refused k p
     → (r .«record» ≡ pack []) × (r .profile ≡ profileOf [])
@@ -164,7 +164,7 @@ profile-write-outside-so q h a f room w now e =
     let n = length (layout s) in
     let l = laid-then-read s (writable-allowed s a) in
     let d = profile-refuses (layout s) n (l .0) (λ i. f (rw (l .1) at i)) in
-    (n - 1, e .0 ∙ rw (struct-writes q h a, outside-so s f), d .1 .mark)
+    (n - 1, e .0 ∙ rw (struct-writes q h a, outside-so s f), d .1)
 
 -- ---- the round trip
 
@@ -225,14 +225,13 @@ module _ (s : List Part) (a : Allowed s) (i : InProfile s) (front : List Item) (
     unfolding value oftenOf
     says x = some-here adjacent-network refl h (isNetwork x) (λ j e. and-left (isHeaded adjacent-network j) _ e) ∙ rw h
 
-    pub profile-network-so
-        : ((one .values ≡ phs ∷ []) × (profileOf s .network ≡ Phs)) ⊎ ((one .values ≡ mobile ∷ []) × (profileOf s .network ≡ Mobile))
+    pub profile-network-so : (one .values ≡ networkValue (profileOf s .network) ∷ []) × (0 < networkValue (profileOf s .network))
     profile-network-so = go (eqb value phs) refl (rw (says phs, says mobile) at (i .network))
       where
         go : (b : Bool) → eqb value phs ≡ b → b || eqb value mobile ≡ true
-            → ((one .values ≡ phs ∷ []) × (profileOf s .network ≡ Phs)) ⊎ ((one .values ≡ mobile ∷ []) × (profileOf s .network ≡ Mobile))
-        go true e t = inl (one-octet ∙ rw (eqb-true value phs e), rw (says phs, e))
-        go false e t = inr (one-octet ∙ rw (eqb-true value mobile t), rw (says phs, e, says mobile, t))
+            → (one .values ≡ networkValue (profileOf s .network) ∷ []) × (0 < networkValue (profileOf s .network))
+        go true e t = rw (says phs, e) (one-octet ∙ rw (eqb-true value phs e), omega arith)
+        go false e t = rw (says phs, e, says mobile, t) (one-octet ∙ rw (eqb-true value mobile t), omega arith)
 
   -- D6: its contents are pairs laid out, and those are told
   module _ (h : one .header ≡ added-class) where

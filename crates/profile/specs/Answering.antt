@@ -3,16 +3,16 @@ use Prim.Native.Nat.{ℕ, _+_, _-_, _≤_, _<_}
 use native.Mathlib.Omega.{arith}
 use mathlib.Core.Path.{_≡_, refl, sym, ap, _∙_}
 use mathlib.Core.Bool.{Bool, true, false, not}
-use mathlib.Core.List.{List, [], _∷_, _++_}
+use mathlib.Core.List.{List, _++_}
 use borrow.Author.Tests.{leb-true, leb-false, lt-ltb, le-ltb}
 use lib.Dec.{ltb}
-use lib.ListN.{length, take, drop, length-append}
+use lib.ListN.{length, take, drop}
 use lib.Seq.{take-at, length-take-le}
 use Rattle.annex.specs.Answers.{over-limits, outside-profile, no-room, givenOf, refuse, andThen, roomAfter}
-use Rattle.annex.specs.Heads.{end-mark, most-octets}
+use Rattle.annex.specs.Heads.{most-octets}
 use Rattle.annex.specs.Layout.{layout}
 use Rattle.annex.specs.Allowed.{every, isOctet, Held}
-use Rattle.annex.specs.Reading.{verdictOf, commonsOf, withoutEnd}
+use Rattle.annex.specs.Reading.{verdictOf}
 use Rattle.annex.specs.Records.{isWhole, view}
 use Rattle.annex.specs.Writing.{recordWriting, structWriting, writingOf, writtenOf}
 use Rattle.annex.specs.Image.{imagedOf}
@@ -31,22 +31,13 @@ use Rattle.annex.specs.declared.Answer.{Answer}
 use Rattle.annex.specs.declared.Answer.the-variants.{Accepted, Refused}
 use Rattle.annex.specs.declared.Record.{Record}
 use Rattle.laws.specs.Steps.{passed, then-passed}
-use Rattle.theorems.specs.Trails.{laidOut}
-use Rattle.theorems.specs.Messages.{message-read}
 use Rattle.theorems.specs.Layouts.{laid-then-read}
 use Rattle.theorems.specs.Writings.{writable-allowed, writing-writable}
 use Rattle.theorems.specs.ImageWritings.{image-view-held}
+use Rattle.theorems.specs.Profiles.{end-last}
 use Rattle.profile.specs.Keeping.{keepsPlain, keeps-so}
 
 -- ---- the verdict
-
--- an accepted message has an octet at least, its end mark
-pub some-octets : (m : List ℕ) (n : ℕ) → verdictOf m ≡ Accepted n → 0 < n
-some-octets m n e =
-    let d = message-read m n e in
-    let front = laidOut (withoutEnd (commonsOf m)) in
-    let long : length m ≡ length front + 1 = ap length (sym (d .laid)) ∙ length-append front (end-mark ∷ []) in
-    omega (arith, d .length-given)
 
 module _ (m : List ℕ) where
   pub verdict-refused : (k p : ℕ) → verdictOf m ≡ Refused k p → ProfileVerdictPromise m (Refused k p)
@@ -131,7 +122,7 @@ module _ (s : Record) (h : Held (view s)) where
       record {
         accepted = e;
         length-given = w .1;
-        some = omega (arith, w .1, some-octets m (length m) (l .0));
+        some = omega (arith, w .1, end-last m (length m) (l .0) .0);
         few = omega (arith, w .1, l .3);
         kept = keeps-so m (l .2) (length m) (l .0) ∙ ap isInProfile (l .1);
       }

@@ -3,7 +3,7 @@
 use Prim.Native.Nat.{ℕ}
 use native.Mathlib.Omega.{arith}
 use mathlib.Core.Path.{_≡_, refl, sym, ap, _∙_}
-use mathlib.Core.Bool.{Bool, true, false, cond, not, _&&_, _||_}
+use mathlib.Core.Bool.{Bool, true, false, cond, not, _&&_, _||_, and-true, Bool·not-not}
 use mathlib.Core.List.{List, []}
 use lib.Dec.{eqb}
 use lib.ListN.{getD}
@@ -78,10 +78,6 @@ none-part : (m : List ℕ) (f : Found) → isFound f ≡ false → foundPart m f
 none-part m (At s e) z = absurd (let w : _≡_ {A = ℕ} 0 1 = cc in omega arith)
 none-part m Nowhere z = refl
 
-and-true : (b : Bool) → b && true ≡ b
-and-true true = refl
-and-true false = refl
-
 -- 7E, FD and D6 are held as their contents, and each alone has its name, which stands once at most
 abbrev Alone : ℕ → Type 0
 Alone h = (formOf h ≡ Checked Nothing) × (namedAlone h ≡ true) × (oftenOf (nameOf h) ≡ 1)
@@ -152,13 +148,9 @@ module _ (m : List ℕ) (o : every isOctet m ≡ true) (n : ℕ) (e : verdictOf 
       every-some addedRight (itemsIn (recordOf m))
       ∙ ap not (some-under added-class added-alone (λ i. not (addedRight i)) only-added) ∙ go (isFound (headed added-class m)) refl
     where
-      turned : (b : Bool) → not (not b) ≡ b
-      turned true = refl
-      turned false = refl
-
       go : (b : Bool) → isFound (headed added-class m) ≡ b
           → not (b && not (pairsRight (contentsUnder added-class m))) ≡ pairsRight (contentsUnder added-class m)
-      go true f = turned (pairsRight (contentsUnder added-class m))
+      go true f = Bool·not-not (pairsRight (contentsUnder added-class m))
       go false f = rw (none-part m (headed added-class m) f)
 
   enquiry-under : some isEnquiry (recordOf m) ≡ eqb (kindIn m) data-enquiry

@@ -1,15 +1,16 @@
 -- What is told of a message that the profile takes: its record, its network and the pairs of its D6, as the code finds them.
 use Prim.Native.Nat.{ℕ, _%_, _≤_, _<_}
-use mathlib.Core.Path.{_≡_, refl, _∙_}
+use native.Mathlib.Omega.{arith}
+use mathlib.Core.Path.{_≡_, refl, sym, ap, _∙_}
 use mathlib.Core.Bool.{true, false, cond, _&&_, _||_}
 use mathlib.Core.List.{List, [], _++_}
 use borrow.Author.Tests.{eqb-true, lt-ltb, le-ltb}
 use lib.Dec.{eqb}
 use lib.ListN.{length, drop}
-use Rattle.annex.specs.Answers.{no-room, absent}
+use Rattle.annex.specs.Answers.{no-room, absent, andThen, roomAfter}
 use Rattle.annex.specs.Allowed.{every, isOctet}
 use Rattle.annex.specs.Reading.{verdictOf, recordOf}
-use Rattle.annex.specs.Records.{pack, readingOf}
+use Rattle.annex.specs.Records.{pack, readBy, readingOf}
 use Rattle.annex.specs.Profile.{
   pairOctets,
   pairsIn,
@@ -23,19 +24,23 @@ use Rattle.annex.specs.Profile.{
   profileVerdict,
   classesOf,
   profileOf,
+  profileBy,
   profileReading,
   classesAnswer,
   classesGiven,
 }
-use Rattle.annex.specs.Packed.{imageRead, profileImageReading, profileImageRead}
+use Rattle.annex.specs.Image.{imageOf}
+use Rattle.annex.specs.Packed.{imageReading, imageRead, profileImageReading, profileImageRead}
 use Rattle.annex.specs.Promises.{ProfileReadPromise, ImageReadPromise, ProfileImageReadPromise, ClassesPromise}
 use Rattle.annex.specs.declared.Answer.{Answer}
 use Rattle.annex.specs.declared.Answer.the-variants.{Accepted, Refused}
 use Rattle.annex.specs.declared.Profile.{Profile}
+use Rattle.annex.specs.declared.ProfileReading.{ProfileReading}
 use Rattle.annex.specs.declared.Reading.{Reading}
 use Rattle.laws.specs.Bools.{and-left, and-right}
 use Rattle.theorems.specs.Places.{isFound}
 use Rattle.theorems.specs.Profiles.{octets-back, in-profile, profile-taken}
+use Rattle.profile.specs.Answering.{verdict-inside}
 use Rattle.profile.specs.Pairs.{openedTo}
 use Rattle.profile.specs.Keeping.{
   headed,
@@ -56,19 +61,69 @@ toldBy x s = record { network = networkSaid x; classes = openedTo (pairsIn s) .c
 
 -- ---- refused
 
-module _ (m : List ℕ) (k p : ℕ) (e : profileVerdict m ≡ Refused k p) where
-  pub read-refused : ProfileReadPromise m (record { answer = Refused k p; «record» = pack []; profile = profileOf [] })
+-- a refusal, with the record of nothing beside it, and what that tells
+abbrev pub refusedWith : Answer → ProfileReading
+refusedWith a = record { answer = a; «record» = pack []; profile = profileOf [] }
+
+pub classes-passed : (m : List ℕ) (k p : ℕ) → profileVerdict m ≡ Refused k p → (room : List ℕ) → ClassesPromise m room (Refused k p) room
+unfolding classesAnswer classesGiven
+classes-passed m k p e room = (rw e, rw e)
+
+module _ (m : List ℕ) (o : every isOctet m ≡ true) where
+  -- what does not keep the profile is refused
+  outside : keepsPlain m ≡ false → (n : ℕ) → profileVerdict m ≡ Accepted n → ⊥
+  outside k n e =
+      let t = profile-taken m n e in
+      let z = sym k ∙ keeps-so m o n (t .0) ∙ in-profile (recordOf m) .1 (t .1) in
+      let w : _≡_ {A = ℕ} 0 1 = cc in
+      omega arith
+
+  pub read-outside : keepsPlain m ≡ false → ProfileReadPromise m (refusedWith (profileVerdict m))
   unfolding profileReading
-  read-refused = rw e
+  read-outside k = go (profileVerdict m) (outside k)
+    where
+      go : (a : Answer) → ((n : ℕ) → a ≡ Accepted n → ⊥) → refusedWith a ≡ profileBy a (recordOf m)
+      go (Accepted n) f = absurd (f n refl)
+      go (Refused j p) f = refl
 
-  module _ (room : List ℕ) where
-    pub image-passed : ProfileImageReadPromise m room (Refused k p) room
-    unfolding profileImageReading profileImageRead
-    image-passed = (rw e, rw e)
+  pub image-outside : keepsPlain m ≡ false → (room : List ℕ) → ProfileImageReadPromise m room (profileVerdict m) room
+  unfolding profileImageReading profileImageRead
+  image-outside k room = go (profileVerdict m) (outside k)
+    where
+      go : (a : Answer) → ((n : ℕ) → a ≡ Accepted n → ⊥) → let b = andThen a (λ _. imageReading m (length room)) in
+          (a ≡ b) × (room ≡ roomAfter b (imageOf (recordOf m)) room)
+      go (Accepted n) f = absurd (f n refl)
+      go (Refused j p) f = (refl, refl)
 
-    pub classes-passed : ClassesPromise m room (Refused k p) room
-    unfolding classesAnswer classesGiven
-    classes-passed = (rw e, rw e)
+  -- and what keeps it is refused where reading refuses it
+  module _ (k : keepsPlain m ≡ true) where
+    passed-on : (j p : ℕ) → verdictOf m ≡ Refused j p → profileVerdict m ≡ Refused j p
+    unfolding profileVerdict
+    passed-on j p e = rw e
+
+    pub kept-taken : (n : ℕ) → verdictOf m ≡ Accepted n → profileVerdict m ≡ Accepted n
+    kept-taken n e = sym (verdict-inside m o n e k)
+
+    pub read-refused : (j p : ℕ) → verdictOf m ≡ Refused j p → ProfileReadPromise m (refusedWith (Refused j p))
+    unfolding profileReading
+    read-refused j p e = rw (passed-on j p e)
+
+    pub image-kept : (room : List ℕ) (r : Answer) (now : List ℕ) → ImageReadPromise m room r now → ProfileImageReadPromise m room r now
+    unfolding imageReading imageRead profileImageReading profileImageRead
+    image-kept room r now q = go (verdictOf m) refl
+      where
+        go : (a : Answer) → verdictOf m ≡ a → ProfileImageReadPromise m room r now
+        go (Accepted n) e = let t = kept-taken n e in (q .0 ∙ rw t, q .1 ∙ rw t)
+        go (Refused j p) e = let t = passed-on j p e in (q .0 ∙ rw (e, t), q .1 ∙ rw (e, t))
+
+-- reading answers with the verdict
+pub reading-verdict : (m : List ℕ) (r : Reading) → r ≡ readingOf m → r .answer ≡ verdictOf m
+unfolding readingOf
+reading-verdict m r e = ap (λ (x : Reading). x .answer) e ∙ go (verdictOf m)
+  where
+    go : (a : Answer) → readBy a (recordOf m) .answer ≡ a
+    go (Accepted n) = refl
+    go (Refused k p) = refl
 
 -- ---- taken
 
@@ -99,10 +154,6 @@ module _ (m : List ℕ) (o : every isOctet m ≡ true) (n : ℕ) (e : profileVer
       → ProfileReadPromise m (record { answer = Accepted n; «record» = r .«record»; profile = profileOf (recordOf m) })
   unfolding profileReading readingOf
   read-taken r f = rw (e, f, accepted)
-
-  pub image-taken : (room : List ℕ) (r : Answer) (now : List ℕ) → ImageReadPromise m room r now → ProfileImageReadPromise m room r now
-  unfolding profileImageReading profileImageRead imageRead
-  image-taken room r now p = (p .0 ∙ rw e, p .1 ∙ rw e)
 
   -- D6's pairs, laid out, are its contents
   laid : pairOctets (classesOf (recordOf m)) ≡ contentsUnder added-class m

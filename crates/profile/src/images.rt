@@ -1,5 +1,6 @@
 // Reading by the profile for Rust and C: the record's image, and the added user classes as octets.
 use crate::keeping::contents;
+use crate::keeping::keeps;
 use crate::keeping::stands;
 use crate::verdict::profile_verdict;
 use annex::Answer;
@@ -8,14 +9,14 @@ use octets::copy_in;
 ghost use Rattle.annex.specs.Promises.{ProfileImageReadPromise, ClassesPromise};
 
 // The record of a message that keeps the profile, as its image at the front of the lent octets: how many octets it has. A refusal leaves
-// them as they were.
+// them as they were. What the profile asks is asked of any octets, and where they do not keep it, the message is refused, by reading or
+// with 20; all others are read as reading reads them.
 pub fn read_image(m: &[u8], image: &mut [u8]) -> Answer
     ensures { λ r. ⌜ ProfileImageReadPromise (now (m .entry)) (now (image .entry)) r (now (image .exit)) ⌝ }
 {
-    let a = profile_verdict(m);
-    let Answer::Accepted(_) = a else {
-        return a;
-    };
+    if !keeps(m) {
+        return profile_verdict(m);
+    }
     image_reader::read_image(m, image)
 }
 

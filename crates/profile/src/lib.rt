@@ -12,6 +12,7 @@ use annex::Profile;
 use annex::ProfileReading;
 use annex::Transfer;
 use keeping::contents;
+use keeping::keeps;
 use octets::octet_at;
 use reader::reading;
 use reader::reading::empty;
@@ -19,13 +20,13 @@ use verdict::profile_verdict;
 ghost use Prim.Native.Nat.{ℕ};
 ghost use mathlib.Core.Path.{_≡_};
 ghost use mathlib.Core.Bool.{true};
-ghost use mathlib.Core.List.{[]};
 ghost use Rattle.annex.specs.Profile.{pairsIn, pairsRight, profileVerdict, profileOf};
 ghost use Rattle.annex.specs.Promises.{ProfileReadPromise};
 ghost use Rattle.annex.specs.Reading.{recordOf};
 ghost use Rattle.annex.specs.declared.Answer.the-variants.{Accepted};
 ghost use Rattle.profile.specs.Keeping.{networkSaid};
 ghost use Rattle.profile.specs.Pairs.{openedTo};
+ghost use Rattle.profile.specs.Telling.{refusedWith};
 
 // The pairs of a D6, the first `count` of `class`.
 struct Opened {
@@ -69,16 +70,22 @@ fn network_of(octet: u8) -> Network
     Network::Other
 }
 
-// What no record tells, which stands beside a refusal.
-fn nothing() -> Profile
-    ensures { λ r. ⌜ r ≡ profileOf [] ⌝ }
+// A refusal, with the record of nothing beside it, and what that tells.
+fn refused(a: Answer) -> ProfileReading
+    ensures { λ r. ⌜ r ≡ refusedWith a ⌝ }
 {
+    let held = empty();
     let none = AddedClass::none();
     let class = [none; AddedClass::MOST];
-    Profile {
+    let profile = Profile {
         network: Network::Other,
         classes: 0,
         class: class,
+    };
+    ProfileReading {
+        answer: a,
+        record: held,
+        profile: profile,
     }
 }
 
@@ -98,26 +105,24 @@ fn told(m: &[u8]) -> Profile
 }
 
 // The record of a message that keeps the profile, with its network and its added user classes, and the verdict beside it; where refused,
-// those of nothing.
+// those of nothing. What the profile asks is asked of any octets, and where they do not keep it, the message is refused, by reading or
+// with 20; all others are read as reading reads them.
 pub fn read(m: &[u8]) -> ProfileReading
     ensures { λ r. ⌜ ProfileReadPromise (now (m .entry)) r ⌝ }
 {
-    let a = profile_verdict(m);
-    let Answer::Accepted(_) = a else {
-        let none = empty();
-        let untold = nothing();
-        return ProfileReading {
-            answer: a,
-            record: none,
-            profile: untold,
-        };
-    };
+    if !keeps(m) {
+        return refused(profile_verdict(m));
+    }
     let r = reading::read(m);
+    let a = r.answer;
+    let Answer::Accepted(_) = a else {
+        return refused(a);
+    };
     let held = r.record;
-    let beside = told(m);
+    let profile = told(m);
     ProfileReading {
         answer: a,
         record: held,
-        profile: beside,
+        profile: profile,
     }
 }

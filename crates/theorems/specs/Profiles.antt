@@ -1,7 +1,7 @@
 -- The mobile call profile (document 02, request f): its test says what `InProfile` says, and the added user classes are pairs in one way
 -- alone. Read by the profile is exactly what an allowed record in it lays out to; that record, and what it tells, is the answer; and
 -- writing by the profile and reading by it undo each other.
-use Prim.Native.Nat.{ℕ, _+_, _-_, _*_, _%_, _≤_}
+use Prim.Native.Nat.{ℕ, _+_, _-_, _*_, _%_, _≤_, _<_}
 use native.Mathlib.Omega.{arith}
 use mathlib.Core.Path.{_≡_, refl, sym, ap, _∙_}
 use mathlib.Core.Bool.{Bool, true, false, cond, not, _&&_, _||_}
@@ -171,6 +171,15 @@ refuted false f = refl
 pub outside-so : (r : List Part) → (InProfile r → ⊥) → isInProfile r ≡ false
 outside-so r f = refuted (isInProfile r) (λ t. f (in-profile r .0 t))
 
+-- the end mark is the last octet of an accepted message
+pub end-last : (m : List ℕ) (n : ℕ) → verdictOf m ≡ Accepted n → (0 < n) × (drop (n - 1) m ≡ end-mark ∷ [])
+end-last m n e =
+    let d = message-read m n e in
+    let front = laidOut (withoutEnd (commonsOf m)) in
+    let long : length m ≡ length front + 1 = ap length (sym (d .laid)) ∙ length-append front (end-mark ∷ []) in
+    let at : n - 1 ≡ length front = omega (arith, d .length-given) in
+    (omega (arith, d .length-given), rw at (ap (drop (length front)) (sym (d .laid)) ∙ drop-append-seam front (end-mark ∷ [])))
+
 module _ (m : List ℕ) (n : ℕ) where
   -- it is taken exactly if reading accepts it and its record is in the profile
   pub profile-taken : profileVerdict m ≡ Accepted n → (verdictOf m ≡ Accepted n) × InProfile (recordOf m)
@@ -186,20 +195,10 @@ module _ (m : List ℕ) (n : ℕ) where
   profile-takes e p = rw (e, in-profile (recordOf m) .1 p)
 
   -- and else it is refused, by reading or with 20, which stands at the end mark, the message's last octet
-  pub record AtTheEnd (p : ℕ) : Type 0 where
-    pub last : p + 1 ≡ length m
-    pub mark : drop p m ≡ end-mark ∷ []
-
   pub profile-refuses : verdictOf m ≡ Accepted n → (InProfile (recordOf m) → ⊥)
-      → (profileVerdict m ≡ Refused outside-profile (n - 1)) × AtTheEnd (n - 1)
+      → (profileVerdict m ≡ Refused outside-profile (n - 1)) × (drop (n - 1) m ≡ end-mark ∷ [])
   unfolding profileVerdict
-  profile-refuses e f =
-      let d = message-read m n e in
-      let front = laidOut (withoutEnd (commonsOf m)) in
-      let long : length m ≡ length front + 1 = ap length (sym (d .laid)) ∙ length-append front (end-mark ∷ []) in
-      let at : n - 1 ≡ length front = omega (arith, d .length-given) in
-      let mark = ap (drop (length front)) (sym (d .laid)) ∙ drop-append-seam front (end-mark ∷ []) in
-      (rw (e, outside-so (recordOf m) f), record { last = omega arith; mark = rw at mark })
+  profile-refuses e f = (rw (e, outside-so (recordOf m) f), end-last m n e .1)
 
 -- the message of an allowed record in the profile is taken, and its record is that one
 pub laid-then-taken : (r : List Part) → Allowed r → InProfile r → profileVerdict (layout r) ≡ Accepted (length (layout r))

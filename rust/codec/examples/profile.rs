@@ -11,10 +11,10 @@ const MESSAGE: [u8; 24] = [
     0xFC, 0x03, 0xFD, 0x03, 0x04, 0x21, 0x43, 0x00,
 ];
 
-/// The header of the added classes, and the name of the area information, the
+/// The header of the added classes, and the name of the originating region, the
 /// lower six bits of its header FD.
 const ADDED_CLASSES: u8 = 0xD6;
-const AREA_INFORMATION: u8 = 0x3D;
+const ORIGINATING_REGION: u8 = 0x3D;
 
 fn tell(classes: &[AddedClass]) {
     for AddedClass { name, value } in classes {
@@ -39,7 +39,7 @@ fn main() -> Result<(), Refusal> {
     tell(&codec::added_classes(&message)?);
 
     let n = message.len();
-    let n = codec::remove(&mut message, n, AREA_INFORMATION)?;
+    let n = codec::remove(&mut message, n, ORIGINATING_REGION)?;
     match codec::profile_read(&message[..n]) {
         Ok(profile) => println!("network {:?}", profile.network),
         Err(refusal) => println!("{refusal}"),

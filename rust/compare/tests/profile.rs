@@ -19,7 +19,7 @@ fn enquiry(network: u8, added: Option<&[u8]>) -> Call {
     Call {
         signal: 0x11,
         network: Some(network),
-        area: Some(vec![]),
+        region: Some(vec![]),
         added: added.map(<[u8]>::to_vec),
     }
 }
@@ -27,9 +27,9 @@ fn enquiry(network: u8, added: Option<&[u8]>) -> Call {
 /// The headers of the transfer parameters of a call, with their contents.
 fn contents(call: &Call) -> Vec<(u8, Vec<u8>)> {
     let network = call.network.map(|octet| (0x7E, vec![octet]));
-    let area = call.area.clone().map(|octets| (0xFD, octets));
+    let region = call.region.clone().map(|octets| (0xFD, octets));
     let added = call.added.clone().map(|octets| (0xD6, octets));
-    [network, area, added].into_iter().flatten().collect()
+    [network, region, added].into_iter().flatten().collect()
 }
 
 /// C5 with these parameters.
@@ -175,17 +175,20 @@ fn every_signal_kind() {
 }
 
 #[test]
-fn area_of_every_length() {
+fn region_of_every_length() {
     for network in [PHS, MOBILE] {
         let call = enquiry(network, Some(&[0x01, 0xFE]));
         for len in 0..=247 {
-            let area = Some(vec![len as u8; len]);
+            let region = Some(vec![len as u8; len]);
             assert!(judged(&Call {
-                area,
+                region,
                 ..call.clone()
             }));
         }
-        assert!(!judged(&Call { area: None, ..call }));
+        assert!(!judged(&Call {
+            region: None,
+            ..call
+        }));
     }
 }
 
@@ -329,7 +332,7 @@ fn in_every_place() {
 fn longest(network: u8) -> Vec<u8> {
     let added = NAMES.map(|name| [name, name]).concat();
     let call = Call {
-        area: Some(vec![0x7E; 237]),
+        region: Some(vec![0x7E; 237]),
         ..enquiry(network, Some(&added))
     };
     let common = [

@@ -5,7 +5,7 @@ use crate::common::{SIGNAL_KIND, TRANSFER_DATA};
 use crate::reading::read;
 use crate::record::Record;
 use crate::refusal::Refusal;
-use crate::transfer::{ADDED_CLASSES, AREA_INFORMATION, NETWORK};
+use crate::transfer::{ADDED_CLASSES, NETWORK, ORIGINATING_REGION};
 use crate::writing::write_checked;
 
 /// The signal kind of a call enquiry.
@@ -127,7 +127,7 @@ fn told_by(record: &Record) -> Option<(Network, Option<Vec<AddedClass>>)> {
     let mut common = record.common.iter();
     common.find(|c| (c.header, c.value) == (SIGNAL_KIND, CALL_ENQUIRY))?;
     let network = Network::of(*contents(record, NETWORK)?.first()?)?;
-    contents(record, AREA_INFORMATION)?;
+    contents(record, ORIGINATING_REGION)?;
     let added = match contents(record, ADDED_CLASSES) {
         Some(octets) => Some(open(octets)?),
         None if network == Network::Mobile => return None,

@@ -21,7 +21,7 @@ pub const ORDER: u8 = 0xE0;
 /// Header of the kind of network next to ours.
 pub const NETWORK: u8 = 0x7E;
 /// Header of the information on the area that a call comes from.
-pub const AREA_INFORMATION: u8 = 0xFD;
+pub const ORIGINATING_REGION: u8 = 0xFD;
 /// Header of the added classes of the calling user.
 pub const ADDED_CLASSES: u8 = 0xD6;
 /// The first octet of a DA whose rest is a number.
@@ -113,7 +113,7 @@ const IN_USE: [(u8, Layout); NAME_COUNT] = [
     (0xF6, Layout::Carried),
     (CHARGING, Layout::Charging),
     (0xF8, Layout::Carried),
-    (AREA_INFORMATION, Layout::Carried),
+    (ORIGINATING_REGION, Layout::Carried),
     (0x07, Layout::Open),
     (0x24, Layout::Open),
     (0x30, Layout::Open),

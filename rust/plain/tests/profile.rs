@@ -90,12 +90,12 @@ fn network_2_or_3() {
 }
 
 #[test]
-fn area_of_any_contents() {
+fn region_of_any_contents() {
     for network in ["7E 02", "7E 03 D6 00"] {
         assert!(!is_in(network));
-        for area in ["FD 00", "FD 01 00", "FD 04 01 02 03 04"] {
-            assert!(is_in(&format!("{network} {area}")));
-            assert!(is_in(&format!("{area} {network}")));
+        for region in ["FD 00", "FD 01 00", "FD 04 01 02 03 04"] {
+            assert!(is_in(&format!("{network} {region}")));
+            assert!(is_in(&format!("{region} {network}")));
         }
     }
 }

@@ -2,12 +2,12 @@
 
 use crate::rng::Rng;
 use plain::common::is_signal_kind;
-use plain::transfer::{name_of, ADDED_CLASSES, AREA_INFORMATION, NETWORK};
+use plain::transfer::{name_of, ADDED_CLASSES, NETWORK, ORIGINATING_REGION};
 
 /// The names of the parameters that the profile asks for.
 pub(crate) const ASKED_FOR: [u8; 3] = [
     name_of(NETWORK),
-    name_of(AREA_INFORMATION),
+    name_of(ORIGINATING_REGION),
     name_of(ADDED_CLASSES),
 ];
 
@@ -29,7 +29,7 @@ pub(crate) struct Call {
     /// The octet of 7E, if it is there.
     network: Option<u8>,
     /// The contents of FD, if it is there.
-    area: Option<Vec<u8>>,
+    region: Option<Vec<u8>>,
     /// The pairs of D6, if it is there, and an octet that is left over, if one is.
     added: Option<(Vec<[u8; 2]>, Option<u8>)>,
 }
@@ -51,7 +51,7 @@ fn sound(rng: &mut Rng) -> Call {
     Call {
         signal: CALL_ENQUIRY,
         network: Some(network),
-        area: Some(rng.octets(len)),
+        region: Some(rng.octets(len)),
         added: (!is_bare).then(|| (pairs(rng), None)),
     }
 }
@@ -78,7 +78,7 @@ fn spoil(rng: &mut Rng, call: &mut Call) {
         0 => call.signal = other_signal(rng),
         1 => call.network = None,
         2 => call.network = Some(other_network(rng)),
-        3 => call.area = None,
+        3 => call.region = None,
         4 => (call.network, call.added) = (Some(MOBILE), None),
         _ => {
             let (mut pairs, _) = call.added.take().unwrap_or_default();
@@ -133,19 +133,19 @@ impl Call {
             [&head, contents].concat()
         };
         let network = self.network.map(|octet| vec![NETWORK, octet]);
-        let area = self.area.as_deref();
+        let region = self.region.as_deref();
         let added = self.added.as_ref().map(|(pairs, left_over)| {
             let octets: Vec<u8> = pairs.iter().flatten().chain(left_over).copied().collect();
             counted(ADDED_CLASSES, &octets)
         });
-        let area = area.map(|contents| counted(AREA_INFORMATION, contents));
-        [network, area, added].into_iter().flatten().collect()
+        let region = region.map(|contents| counted(ORIGINATING_REGION, contents));
+        [network, region, added].into_iter().flatten().collect()
     }
 
     /// Makes the contents of FD, if it is there, so many octets longer.
     pub(crate) fn lengthen(&mut self, rng: &mut Rng, more: usize) {
-        if let Some(area) = &mut self.area {
-            area.extend(rng.octets(more));
+        if let Some(region) = &mut self.region {
+            region.extend(rng.octets(more));
         }
     }
 }

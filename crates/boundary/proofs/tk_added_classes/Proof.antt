@@ -1,4 +1,4 @@
--- `tk_added_classes` meets its contract: it packs the answer that `added_classes` promises, and the lent octets are as `added_classes` leaves them.
+-- `tk_added_classes` meets its contract: it packs the answer that `added_classes` promises, and the octets are as that leaves them.
 use borrow.Author.Needs.{needs}
 use Rattle.boundary.proofs.tk_added_classes.Statement.{statement}
 use Rattle.boundary.proofs.tk_added_classes.Tie as tie

@@ -1,4 +1,5 @@
--- `tk_profile_read` meets its contract: it packs the answer that `read_image` of the profile promises, and the lent octets are as `read_image` of the profile leaves them.
+-- `tk_profile_read` meets its contract: it packs the answer that the profile's `read_image` promises, and the octets are as that leaves
+-- them.
 use borrow.Author.Needs.{needs}
 use Rattle.boundary.proofs.tk_profile_read.Statement.{statement}
 use Rattle.boundary.proofs.tk_profile_read.Tie as tie

@@ -1,4 +1,4 @@
--- `tk_profile_write` meets its contract: it packs the answer that `write_image` of the profile promises, and the room is as `write_image` of the profile leaves it.
+-- `tk_profile_write` meets its contract: it packs the answer that the profile's `write_image` promises, and the room is as that leaves it.
 use borrow.Author.Needs.{needs}
 use Rattle.boundary.proofs.tk_profile_write.Statement.{statement}
 use Rattle.boundary.proofs.tk_profile_write.Tie as tie

@@ -12,7 +12,7 @@ pub enum Sight {
     /// has D6.
     Within(u8, Option<usize>),
     /// It is in the profile, and FD is empty, or not.
-    Area { is_empty: bool },
+    Region { is_empty: bool },
     /// It is in the profile, and a value of an added class is this one, a name.
     Value(u8),
     /// It has this signal kind, and not 11.
@@ -20,7 +20,7 @@ pub enum Sight {
     /// It has this network, or none.
     Network(Option<u8>),
     /// There is no FD.
-    NoArea,
+    NoRegion,
     /// There is no D6, and the network is mobile.
     NoAdded,
     /// D6 has an odd count of octets, under this network.
@@ -41,7 +41,7 @@ pub type Sights = BTreeSet<Sight>;
 pub fn all() -> Sights {
     let mut all = Sights::from([
         Sight::Within(2, None),
-        Sight::NoArea,
+        Sight::NoRegion,
         Sight::NoAdded,
         Sight::Mirrored,
         Sight::More,
@@ -55,7 +55,7 @@ pub fn all() -> Sights {
     all.extend([0, 1, 4, 7, 0x82, 0x83, 0xFF].map(|octet| Sight::Network(Some(octet))));
     all.insert(Sight::Network(None));
     all.extend([0x00, 0x03, 0x80, 0x81, 0xFA, 0xFF].map(Sight::NoName));
-    all.extend([true, false].map(|is_empty| Sight::Area { is_empty }));
+    all.extend([true, false].map(|is_empty| Sight::Region { is_empty }));
     all.extend(NAMES.map(Sight::Value));
     all.extend(
         [true, false]
@@ -72,7 +72,7 @@ pub fn sights(call: &Call) -> Vec<Sight> {
         ([], Some(network)) => within(call, network),
         ([Rule::Signal], _) => vec![Sight::Signal(call.signal)],
         ([Rule::Network], network) => vec![Sight::Network(network)],
-        ([Rule::Area], _) => vec![Sight::NoArea],
+        ([Rule::Region], _) => vec![Sight::NoRegion],
         ([Rule::Added], _) => vec![Sight::NoAdded],
         ([Rule::Pairs], Some(network)) => vec![Sight::Odd(network)],
         ([Rule::Listed], _) => unlisted(added),
@@ -83,10 +83,10 @@ pub fn sights(call: &Call) -> Vec<Sight> {
 
 fn within(call: &Call, network: u8) -> Vec<Sight> {
     let added = call.added.as_deref();
-    let is_empty = call.area.as_deref() == Some(&[]);
+    let is_empty = call.region.as_deref() == Some(&[]);
     let mut seen = vec![
         Sight::Within(network, added.map(|octets| octets.len() / 2)),
-        Sight::Area { is_empty },
+        Sight::Region { is_empty },
     ];
     let values = added.unwrap_or_default().iter().skip(1).step_by(2);
     seen.extend(

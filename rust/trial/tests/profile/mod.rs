@@ -3,7 +3,7 @@
 #![allow(dead_code)]
 
 use plain::common::SIGNAL_KIND;
-use plain::transfer::{name_of, ADDED_CLASSES, AREA_INFORMATION, NETWORK};
+use plain::transfer::{name_of, ADDED_CLASSES, NETWORK, ORIGINATING_REGION};
 use trial::Input;
 
 /// The names of the added classes.
@@ -17,7 +17,7 @@ pub struct Call {
     /// The octet of 7E, if it is there.
     pub network: Option<u8>,
     /// The contents of FD, if it is there.
-    pub area: Option<Vec<u8>>,
+    pub region: Option<Vec<u8>>,
     /// The contents of D6, if it is there.
     pub added: Option<Vec<u8>>,
 }
@@ -30,7 +30,7 @@ pub enum Rule {
     /// 7E is there, with 2 or 3.
     Network,
     /// FD is there.
-    Area,
+    Region,
     /// D6 is there if 7E is 3.
     Added,
     /// The octets of D6 are pairs.
@@ -50,7 +50,7 @@ impl Call {
         let rules = [
             (Rule::Signal, self.signal == 0x11),
             (Rule::Network, [Some(2), Some(3)].contains(&self.network)),
-            (Rule::Area, self.area.is_some()),
+            (Rule::Region, self.region.is_some()),
             (Rule::Added, self.network != Some(3) || self.added.is_some()),
             (Rule::Pairs, added.len() % 2 == 0),
             (Rule::Listed, names.iter().all(|name| NAMES.contains(name))),
@@ -71,7 +71,7 @@ pub fn call_in(message: &[u8]) -> Call {
     Call {
         signal: message[kind.start],
         network: found(NETWORK).map(|contents| contents[0]),
-        area: found(AREA_INFORMATION),
+        region: found(ORIGINATING_REGION),
         added: found(ADDED_CLASSES),
     }
 }

@@ -11,7 +11,8 @@ use Rattle.annex.specs.Allowed.{every, isOctet}
 use Rattle.annex.specs.Reading.{verdictOf}
 use Rattle.annex.specs.declared.Answer.the-variants.{Accepted}
 use Rattle.laws.specs.Written.{octets-every}
-use Rattle.profile.specs.Answering.{some-octets, verdict-refused, verdict-outside, verdict-inside}
+use Rattle.theorems.specs.Profiles.{end-last}
+use Rattle.profile.specs.Answering.{verdict-refused, verdict-outside, verdict-inside}
 use Rattle.profile.proofs.verdict.profile_verdict.Statement.{statement}
 use Rattle.profile.proofs.verdict.profile_verdict.Tie as tie
 
@@ -57,6 +58,6 @@ profile-verdict-spec =
     (λ c. search needs)
     returns
     (λ c κs. search needs)
-    (λ c. some-octets (m (c .before)) (n (c .before)) (accepted (c .before)))
+    (λ c. end-last (m (c .before)) (n (c .before)) (accepted (c .before)) .0)
     returns-2
     returns-3)
