@@ -96,12 +96,16 @@ isHeaded h i = eqb (i .header) h
 abbrev pub isNetwork : ℕ → Item → Bool
 isNetwork x i = isHeaded adjacent-network i && eqb (getD (i .values) 0 0) x
 
--- a rule for each line of the request
 pub record InProfile (r : List Part) : Type 0 where
+  -- signal kind 11
   pub enquiry : some isEnquiry r ≡ true
+  -- 7E is present with 2 or 3
   pub network : some (isNetwork phs) (itemsIn r) || some (isNetwork mobile) (itemsIn r) ≡ true
+  -- FD is present
   pub region : some (isHeaded originating-region) (itemsIn r) ≡ true
+  -- D6 is present when 7E is 3
   pub added : some (isNetwork mobile) (itemsIn r) ≡ true → some (isHeaded added-class) (itemsIn r) ≡ true
+  -- D6, wherever present, is pairs
   pub opened : Each (λ i. isHeaded added-class i ≡ true → OfPairs (i .values)) (itemsIn r)
 
 -- ---- the order of refusals
