@@ -1,4 +1,5 @@
-// What the profile asks, of a message that reading accepts: by what the length rule alone finds in it.
+// What the profile asks, of any octets, by what the length rule alone finds in them. Of a message that reading accepts this is what it asks
+// of the record.
 use crate::added::pairs_right;
 use annex::Common;
 use annex::Found;
