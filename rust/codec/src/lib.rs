@@ -285,7 +285,13 @@ pub fn order(message: &[u8]) -> Result<Order<'_>, Refusal> {
 pub fn profile_read(message: &[u8]) -> Result<Profile, Refusal> {
     let mut memory = Room::new();
     let image = boundary::profile_read_into(message, &mut memory)?;
-    Ok(Profile::of(image::record_of(image)))
+    Profile::of(image::record_of(image)).ok_or(not_in_profile(message))
+}
+
+/// 20 at the end mark, the message's last octet. The static library refuses with
+/// it; here it stands for what it never accepts, so that nothing is made up.
+const fn not_in_profile(message: &[u8]) -> Refusal {
+    Refusal::new(Refusal::PROFILE, message.len().saturating_sub(1))
 }
 
 /// Writes the message of `record`, which is in the mobile call profile, into the
@@ -333,7 +339,7 @@ pub fn profile_write_to_vec(record: &Record) -> Result<Vec<u8>, Refusal> {
 pub fn added_classes(message: &[u8]) -> Result<Vec<AddedClass>, Refusal> {
     let mut octets = [0; ADDED_MAX];
     let len = unpack(boundary::added_classes(message, &mut octets))?.value;
-    Ok(AddedClass::all_of(octets.get(..len).unwrap_or_default()))
+    AddedClass::all_of(octets.get(..len).unwrap_or_default()).ok_or(not_in_profile(message))
 }
 
 /// Puts the transfer parameter `new` (its octets, header first) in the place of

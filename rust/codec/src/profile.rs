@@ -59,6 +59,13 @@ impl Network {
     /// Both networks, in the order of their octets.
     pub const ALL: [Self; 2] = [Self::Phs, Self::Mobile];
 
+    /// The network of this octet, if it is one.
+    pub fn of(octet: u8) -> Option<Self> {
+        Self::ALL
+            .into_iter()
+            .find(|network| network.octet() == octet)
+    }
+
     /// The network's octet.
     pub const fn octet(self) -> u8 {
         self as u8
@@ -88,15 +95,18 @@ impl AddedClassName {
 }
 
 impl AddedClass {
-    /// The added classes of these octets, which the static library has accepted:
-    /// pairs whose first octet is one of [`AddedClassName::ALL`].
-    pub(crate) fn all_of(octets: &[u8]) -> Vec<Self> {
+    /// The added classes of these octets, if they are pairs whose first octet is
+    /// one of [`AddedClassName::ALL`]. Those that the static library has accepted
+    /// are; of others none is guessed.
+    pub(crate) fn all_of(octets: &[u8]) -> Option<Vec<Self>> {
         let class = |pair: &[u8]| {
-            let name = AddedClassName::of(pair[0])?;
-            let value = pair[1];
+            let &[name, value] = pair else {
+                return None;
+            };
+            let name = AddedClassName::of(name)?;
             Some(AddedClass { name, value })
         };
-        octets.chunks_exact(2).filter_map(class).collect()
+        octets.chunks(2).map(class).collect()
     }
 }
 
@@ -108,20 +118,24 @@ impl Profile {
             .map(|class| class.value)
     }
 
-    /// That of a record which the static library has read by the profile: 7E is
-    /// there, and is one of the two networks.
-    pub(crate) fn of(record: Record) -> Self {
+    /// That of a record, if 7E is one of the two networks and D6, where it is
+    /// there, is added classes. In one that the static library has read by the
+    /// profile they are; of others nothing is guessed.
+    pub(crate) fn of(record: Record) -> Option<Self> {
         let contents = |name| record.transfer(name).map(|found| record.values_of(found));
-        let network = match contents(NETWORK) {
-            Some([octet]) if *octet == Network::Phs.octet() => Network::Phs,
-            _ => Network::Mobile,
+        let &[octet] = contents(NETWORK)? else {
+            return None;
         };
-        let added = contents(ADDED).map(AddedClass::all_of);
-        Profile {
+        let network = Network::of(octet)?;
+        let added = match contents(ADDED) {
+            Some(octets) => Some(AddedClass::all_of(octets)?),
+            None => None,
+        };
+        Some(Profile {
             network,
             added,
             record,
-        }
+        })
     }
 }
 
@@ -136,14 +150,36 @@ mod tests {
         assert_eq!(known, AddedClassName::ALL);
     }
 
+    #[test]
+    fn networks_by_their_octets() {
+        let known: Vec<Network> = (0..=255).filter_map(Network::of).collect();
+        assert_eq!(known, Network::ALL);
+    }
+
     /// The profile of a record with this 7E and, if there is one, this D6.
-    fn profile(network: u8, added: Option<&[u8]>) -> Profile {
+    fn profile_of(network: u8, added: Option<&[u8]>) -> Option<Profile> {
         let mut record = Record::default();
         record.push_transfer(Transfer::new(0x7E), &[network]);
         if let Some(added) = added {
             record.push_transfer(Transfer::new(0xD6), added);
         }
         Profile::of(record)
+    }
+
+    fn profile(network: u8, added: Option<&[u8]>) -> Profile {
+        profile_of(network, added).expect("a record in the profile")
+    }
+
+    /// Neither a network nor a name is made up for an octet that is none.
+    #[test]
+    fn nothing_of_other_octets() {
+        assert_eq!(Profile::of(Record::default()), None);
+        for network in [0, 1, 4, 255] {
+            assert_eq!(profile_of(network, Some(&[])), None);
+        }
+        for added in [&[0xFE][..], &[0x05, 0x01], &[0xFE, 0x01, 0x05, 0xFE]] {
+            assert_eq!(profile_of(3, Some(added)), None);
+        }
     }
 
     #[test]

@@ -1,6 +1,6 @@
 //! The mobile call profile: every network, signal kind, name and value, and D6 of
 //! every length, put to both codecs in every call by the profile. What is to be
-//! answered is told by `profile`, which knows neither codec.
+//! answered is told by `Call::broken`, which asks neither codec.
 
 mod calls;
 #[path = "../../trial/tests/profile/mod.rs"]

@@ -1,4 +1,5 @@
-//! The rules of the mobile call profile, said apart from both codecs.
+//! The rules of the mobile call profile, said apart from both codecs
+//! ([`Call::broken`]); a call is taken out of a message by plain's finding.
 
 #![allow(dead_code)]
 
