@@ -1,5 +1,6 @@
 -- The headers and limits: document 01, "Common part" (the table of headers, the signal kinds) and "Transfer data" (the lists under
--- PLI 01, PLI 10 and PLI 11, the names with no layout, the unused names); of the sequence's number, document 02, request d.
+-- PLI 01, PLI 10 and PLI 11, the names with no layout, the unused names); of the sequence's number, document 02, request d; of how often a
+-- name may stand, request g.
 use Prim.Native.Nat.{ℕ, zero, suc, _+_}
 use mathlib.Core.Bool.{Bool, true, false, cond, not, _&&_, _||_}
 use mathlib.Core.List.{List, [], _∷_, map}
@@ -90,7 +91,11 @@ charging-information = 0xF7
 abbrev pub connection-order : ℕ
 connection-order = 0xE0
 
--- the names, of six bits, and the limits of document 01
+-- Request g: CC
+abbrev pub carriers : ℕ
+carriers = 0xCC
+
+-- the names, of six bits, and the limits of document 01; of the transfer parameters, request g
 abbrev pub name-count : ℕ
 name-count = 64
 
@@ -101,7 +106,11 @@ abbrev pub most-commons : ℕ
 most-commons = 6
 
 abbrev pub most-transfers : ℕ
-most-transfers = 52
+most-transfers = 54
+
+-- Request g: how often CC may stand
+abbrev pub most-carriers : ℕ
+most-carriers = 3
 
 -- the rows of a message: its common parameters, the end mark and its transfer parameters
 abbrev pub most-rows : ℕ
@@ -160,7 +169,7 @@ heads =
     row 0x95 0x40 (Digits Notified) ∷  -- called terminal
     row 0x98 0x00 (Digits Typed) ∷  -- dialled digits
     row 0xA3 0xC0 (Digits Unmarked) ∷  -- re-control digits
-    row 0xCC 0x00 carried ∷  -- carriers
+    row carriers 0x00 carried ∷  -- carriers
     row 0xCD 0x00 carried ∷  -- called IN number
     row 0xCE 0x00 carried ∷  -- test call
     row 0xCF 0x00 (Checked (Two 0x08)) ∷  -- forward call
@@ -201,9 +210,9 @@ nameUsed h = isFree h || among (nameOf h) (map (λ r. nameOf (headerOf r)) heads
 unfoldable pub pliRight : ℕ → Bool
 pliRight h = isFree h || among h (map headerOf heads)
 
--- refusal 10: how often the name x may stand in the transfer data (house)
+-- refusal 10: how often the name x may stand in the transfer data: once (house), and the name of CC as request g says
 unfoldable pub oftenOf : ℕ → ℕ
-oftenOf x = 1
+oftenOf x = cond (eqb x (nameOf carriers)) most-carriers 1
 
 -- at one of those asked for, so many of which are still to be passed over: a where none is, else what comes with one fewer
 abbrev pub kth : {A : Type 0} → ℕ → A → (ℕ → A) → A

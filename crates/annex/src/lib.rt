@@ -395,9 +395,12 @@ impl Transfer {
     // the presentation with which a calling number is withheld
     pub const WITHHELD: u8 = 2;
 
+    // how often carriers may stand; any other name stands once
+    pub const MOST_CARRIERS: u8 = 3;
+
     pub const NAMES: usize = 64;
 
-    pub const MOST: usize = 52;
+    pub const MOST: usize = 54;
 
     pub const MOST_DIGITS: usize = 63;
 

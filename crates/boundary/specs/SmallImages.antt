@@ -44,7 +44,7 @@ use Rattle.boundary.specs.Small.{Upto, farthest, upto-more, upto-refuse,
 -- ---- read to an image
 
 -- the number of most-image that a program is compiled with
-pub image-max : most-image ≡ 1125
+pub image-max : most-image ≡ 1147
 image-max = refl
 
 -- with so much room, reading to an image is refused for what is wrong with the message alone, never for want of room

@@ -183,9 +183,12 @@ pub fn head_writing(header: u8) -> Answer
     Answer::Accepted(0)
 }
 
-// How often a name may stand.
+// How often a name may stand: that of carriers oftener than once.
 pub fn often_of(name: u8) -> u8
     ensures { λ r. ⌜ Gives (oftenOf name) r ⌝ }
 {
+    if name == Transfer::CARRIERS % 64 {
+        return Transfer::MOST_CARRIERS;
+    }
     1
 }

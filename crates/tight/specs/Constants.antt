@@ -1,8 +1,7 @@
 -- Wrong programs for each function that serves the product's. A row of the table has two inputs of a function and what its own definition
 -- gives at each; `shut-out` says of every row: a program that answers the same at both inputs breaks the promise, and of a function that
 -- stores, so does one that says the same at both, and one that stores nothing. For `Common::none`, `Transfer::none`, `AddedClass::none`,
--- `walk::cursor::first`, `reader::reading::empty` and, in the base, where every name may stand once, for `often_of` a constant is right,
--- and they have no row.
+-- `walk::cursor::first` and `reader::reading::empty` a constant is right, and they have no row.
 use Prim.Native.Nat.{ℕ, _+_, min}
 use native.Mathlib.Omega.{arith}
 use mathlib.Core.Path.{_≡_, refl, sym, ap, _∙_}
@@ -272,6 +271,7 @@ rows =
     tests (pliRight 0x41) (pliRight 0x81) ∷  -- head_of, right
     counts (zeroesOf 0x41) (zeroesOf 0x42) ∷  -- head_of, zeroes
     gives Form formNumber (formOf 0x41) (formOf 0x90) ∷  -- head_of, form
+    counts (oftenOf 0x0C) (oftenOf 0x0D) ∷  -- often_of
     faults (faultUnder 0xFE (Checked Nothing) (1 ∷ [])) (faultUnder 0xFE (Checked Nothing) (2 ∷ [])) ∷  -- fault_under
     counts (getD (halves (0x21 ∷ [])) 0 0) (getD (halves (0x21 ∷ [])) 1 0) ∷  -- half_at
     counts (digitOf Dialled 10) (digitOf Numbered 10) ∷  -- digit_of
