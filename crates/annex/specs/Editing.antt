@@ -1,4 +1,5 @@
--- Editing in place: document 01, "Editing": the refusals in their order, the record so edited, and what the buffer then holds.
+-- Editing in place: document 01, "Editing", and which of those with a name, document 02, request g: the refusals in their order, the record
+-- so edited, and what the buffer then holds.
 use Prim.Native.Nat.{ℕ, _-_}
 use mathlib.Core.Bool.{cond, not}
 use mathlib.Core.List.{List, [], _∷_, _++_, map}

@@ -1,5 +1,5 @@
--- Finding contents: document 01, "Finding contents": where they stand, the part itself, and the answer to the second question; 16 comes
--- after reading's numbers.
+-- Finding contents: document 01, "Finding contents", and which of those with a name, document 02, request g: where they stand, the part
+-- itself, and the answer to the second question; 16 comes after reading's numbers.
 use Prim.Native.Nat.{ℕ, _+_, _-_}
 use mathlib.Core.Bool.{cond}
 use mathlib.Core.List.{List, [], _∷_}

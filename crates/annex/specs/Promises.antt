@@ -66,13 +66,13 @@ FindCommonPromise m h r = r ≡ findPart m (commonFound h m)
 abbrev pub FindCommonAnswerPromise : List ℕ → ℕ → Answer → Type 0
 FindCommonAnswerPromise m h r = r ≡ findAnswer m (commonFound h m)
 
--- reader::finding::find_transfer, of the first with the name
-abbrev pub FindTransferPromise : List ℕ → ℕ → List ℕ → Type 0
-FindTransferPromise m x r = r ≡ findPart m (transferFound x 0 m)
+-- reader::finding::find_transfer, of those with the name the one with the number `which`, counted from 0 (request g)
+abbrev pub FindTransferPromise : List ℕ → ℕ → ℕ → List ℕ → Type 0
+FindTransferPromise m x which r = r ≡ findPart m (transferFound x which m)
 
 -- reader::finding::find_transfer_answer
-abbrev pub FindTransferAnswerPromise : List ℕ → ℕ → Answer → Type 0
-FindTransferAnswerPromise m x r = r ≡ findAnswer m (transferFound x 0 m)
+abbrev pub FindTransferAnswerPromise : List ℕ → ℕ → ℕ → Answer → Type 0
+FindTransferAnswerPromise m x which r = r ≡ findAnswer m (transferFound x which m)
 
 -- reader::rows::check, listing::list
 abbrev pub SpansCheckPromise : List ℕ → ℕ → Answer → Type 0
@@ -182,8 +182,9 @@ abbrev pub TkFindCommonPromise : List ℕ → ℕ → ℕ → Type 0
 TkFindCommonPromise m h r = r ≡ packedStretch (findAnswer m (commonFound h m)) (findPart m (commonFound h m))
 
 -- tk_find_transfer
-abbrev pub TkFindTransferPromise : List ℕ → ℕ → ℕ → Type 0
-TkFindTransferPromise m x r = r ≡ packedStretch (findAnswer m (transferFound x 0 m)) (findPart m (transferFound x 0 m))
+abbrev pub TkFindTransferPromise : List ℕ → ℕ → ℕ → ℕ → Type 0
+TkFindTransferPromise m x which r =
+    r ≡ packedStretch (findAnswer m (transferFound x which m)) (findPart m (transferFound x which m))
 
 -- tk_class
 abbrev pub TkClassPromise : ℕ → ℕ → ℕ → Type 0

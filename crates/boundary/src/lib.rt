@@ -106,12 +106,12 @@ pub extern "C" fn tk_find_common(message: &[u8], header: u8) -> u64
     pack_stretch(a, found.len)
 }
 
-// The contents of a transfer parameter.
+// The contents of that one of the transfer parameters with this name, counted from 0.
 #[no_mangle]
-pub extern "C" fn tk_find_transfer(message: &[u8], name: u8) -> u64
-    ensures { λ r. ⌜ TkFindTransferPromise (now (message .entry)) name r ⌝ }
+pub extern "C" fn tk_find_transfer(message: &[u8], name: u8, which: usize) -> u64
+    ensures { λ r. ⌜ TkFindTransferPromise (now (message .entry)) name which r ⌝ }
 {
-    let found = find_both(message, Key::Name(name, 0));
+    let found = find_both(message, Key::Name(name, which));
     let a = found.answer;
     pack_stretch(a, found.len)
 }
@@ -169,12 +169,13 @@ pub extern "C" fn tk_added_classes(message: &[u8], out: &mut [u8]) -> u64
     pack_answer(images::added_classes(message, out))
 }
 
-// The parameter of the new octets in the place of the one with its name, in the message that the buffer's first n octets hold.
+// The parameter of the new octets in the place of that one of those with its name, counted from 0, in the message that the buffer's first
+// n octets hold.
 #[no_mangle]
-pub extern "C" fn tk_replace(buffer: &mut [u8], n: usize, new: &[u8]) -> u64
-    ensures { λ r. ⌜ TkEditPromise (Replacing (now (new .entry)) 0) (now (buffer .entry)) n r (now (buffer .exit)) ⌝ }
+pub extern "C" fn tk_replace(buffer: &mut [u8], n: usize, new: &[u8], which: usize) -> u64
+    ensures { λ r. ⌜ TkEditPromise (Replacing (now (new .entry)) which) (now (buffer .entry)) n r (now (buffer .exit)) ⌝ }
 {
-    pack_answer(replace(buffer, n, new))
+    pack_answer(replace(buffer, n, new, which))
 }
 
 // The parameter of the new octets behind the last of C5.
@@ -185,10 +186,10 @@ pub extern "C" fn tk_append(buffer: &mut [u8], n: usize, new: &[u8]) -> u64
     pack_answer(append(buffer, n, new))
 }
 
-// The parameter with this name taken out.
+// That one of the parameters with this name, counted from 0, taken out.
 #[no_mangle]
-pub extern "C" fn tk_remove(buffer: &mut [u8], n: usize, name: u8) -> u64
-    ensures { λ r. ⌜ TkEditPromise (Removing name 0) (now (buffer .entry)) n r (now (buffer .exit)) ⌝ }
+pub extern "C" fn tk_remove(buffer: &mut [u8], n: usize, name: u8, which: usize) -> u64
+    ensures { λ r. ⌜ TkEditPromise (Removing name which) (now (buffer .entry)) n r (now (buffer .exit)) ⌝ }
 {
-    pack_answer(remove(buffer, n, name))
+    pack_answer(remove(buffer, n, name, which))
 }

@@ -1,8 +1,8 @@
 // Runs edits and writes records, and prints each answer with the whole lent memory after it. Standard input has the cases one after the
-// other: the kind, three numbers (2 octets each, least first) and octets. 0 replace, 1 append, 2 remove: n, the buffer's length and the new
-// octets' length; the buffer and the new octets, for a removal the name first. 3 to 6 write a record: to what a part of the struct is
-// changed (3 nothing, 4 its count of common parameters, 5 the first one's count of transfer parameters, 6 the first transfer parameter's
-// count of values), the room's length and the image's length; the record's image.
+// other: the kind, four numbers (2 octets each, least first) and octets. 0 replace, 1 append, 2 remove: n, the buffer's length, the new
+// octets' length and which of those with the name, counted from 0; the buffer and the new octets, for a removal the name first. 3 to 6
+// write a record: to what a part of the struct is changed (3 nothing, 4 its count of common parameters, 5 the first one's count of transfer
+// parameters, 6 the first transfer parameter's count of values), the room's length, the image's length and 0; the record's image.
 mod edits;
 mod printing;
 mod records;
@@ -12,7 +12,10 @@ ghost use Prim.Native.Nat.{_≤_, _<_};
 // the longest buffer and room
 const MOST: usize = 400;
 
-const HEADS: usize = 7;
+const HEADS: usize = 9;
+
+// the longest input
+const INPUT: usize = 131072;
 
 // the first kind that writes a record
 const WRITE: u8 = 3;
@@ -59,7 +62,7 @@ fn first_case(s: &[u8]) -> usize
         return 0;
     }
     if kind < WRITE {
-        edits::case(kind, first, &s[HEADS..middle], &s[middle..end]);
+        edits::case(kind, first, pair(s, 7), &s[HEADS..middle], &s[middle..end]);
     } else {
         records::case(kind, first, second, &s[middle..end]);
     }
@@ -78,7 +81,7 @@ fn run(s: &[u8]) {
 }
 
 fn main() {
-    let mut input = io::large_buffer();
+    let mut input = [0u8; INPUT];
     let n = io::read_full(libc::STDIN_FILENO, &mut input);
     run(&input[..n]);
 }

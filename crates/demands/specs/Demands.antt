@@ -150,7 +150,7 @@ pub record Showing (m : List ℕ) : Type 0 where
   pub verdict : (p : ℕ) → VerdictPromise m (Refused bad-digit p) → ShownAt m p
   pub read : (q : Record) (p : ℕ) → ReadPromise m (record { answer = Refused bad-digit p; «record» = q }) → ShownAt m p
   pub find-common : (h p : ℕ) → FindCommonAnswerPromise m h (Refused bad-digit p) → ShownAt m p
-  pub find-transfer : (x p : ℕ) → FindTransferAnswerPromise m x (Refused bad-digit p) → ShownAt m p
+  pub find-transfer : (x which p : ℕ) → FindTransferAnswerPromise m x which (Refused bad-digit p) → ShownAt m p
   pub check : (room p : ℕ) → SpansCheckPromise m room (Refused bad-digit p) → ShownAt m p
   pub check-order : (room p : ℕ) → OrderCheckPromise m room (Refused bad-digit p) → ShownAt m p
   pub charging : (p : ℕ) → ChargingPromise m (chargings.Refused bad-digit p) → ShownAt m p
@@ -171,7 +171,7 @@ pub record Showing (m : List ℕ) : Type 0 where
   pub tk-rows : (table : List ℕ) (r : ℕ) (now : List ℕ) → TkRowsPromise m table r now → packedNumber r ≡ bad-digit
       → ShownAt m (packedPlace r)
   pub tk-find-common : (h r : ℕ) → TkFindCommonPromise m h r → packedNumber r ≡ bad-digit → ShownAt m (packedPlace r)
-  pub tk-find-transfer : (x r : ℕ) → TkFindTransferPromise m x r → packedNumber r ≡ bad-digit → ShownAt m (packedPlace r)
+  pub tk-find-transfer : (x which r : ℕ) → TkFindTransferPromise m x which r → packedNumber r ≡ bad-digit → ShownAt m (packedPlace r)
   pub tk-charging : (room : List ℕ) (r : ℕ) (now : List ℕ) → TkChargingPromise m room r now → packedNumber r ≡ bad-digit
       → ShownAt m (packedPlace r)
   pub tk-order : (table : List ℕ) (r : ℕ) (now : List ℕ) → TkOrderPromise m table r now → packedNumber r ≡ bad-digit
@@ -188,7 +188,7 @@ pub record Demand1 : Type 0 where
   pub verdict : (m : List ℕ) → Answering (VerdictPromise m)
   pub read : (m : List ℕ) → Answering (λ a. (q : Record) × ReadPromise m (record { answer = a; «record» = q }))
   pub find-common : (m : List ℕ) (h : ℕ) → Answering (FindCommonAnswerPromise m h)
-  pub find-transfer : (m : List ℕ) (x : ℕ) → Answering (FindTransferAnswerPromise m x)
+  pub find-transfer : (m : List ℕ) (x which : ℕ) → Answering (FindTransferAnswerPromise m x which)
   pub check : (m : List ℕ) (room : ℕ) → Answering (SpansCheckPromise m room)
   pub check-order : (m : List ℕ) (room : ℕ) → Answering (OrderCheckPromise m room)
   pub record-refusal : (q : Record) → Answering (RecordRefusalPromise q)
@@ -215,7 +215,8 @@ pub record Demand1 : Type 0 where
   pub tk-write : (image room : List ℕ) → PackedLending room (imageWriting image (length room)) (TkWritePromise image room)
   pub tk-rows : (m table : List ℕ) → PackedLending table (octetSpans m (length table)) (TkRowsPromise m table)
   pub tk-find-common : (m : List ℕ) (h : ℕ) → PackedAnswering (numberOf (findAnswer m (commonFound h m))) (TkFindCommonPromise m h)
-  pub tk-find-transfer : (m : List ℕ) (x : ℕ) → PackedAnswering (numberOf (findAnswer m (transferFound x 0 m))) (TkFindTransferPromise m x)
+  pub tk-find-transfer : (m : List ℕ) (x which : ℕ)
+      → PackedAnswering (numberOf (findAnswer m (transferFound x which m))) (TkFindTransferPromise m x which)
   pub tk-class : (h x : ℕ) → PackedAnswering (classNumberOf (classOf h x)) (TkClassPromise h x)
   pub tk-charging : (m room : List ℕ) → PackedLending room (octetCharging m (length room)) (TkChargingPromise m room)
   pub tk-order : (m table : List ℕ) → PackedLending table (octetOrder m (length table)) (TkOrderPromise m table)
@@ -261,21 +262,22 @@ pub record Demand2 : Type 0 where
   pub listed : (s : List Part) → Allowed s → (table : List Row) → 1 + length s + length (itemsIn s) ≤ length table
       → (r : Answer) (now : List Row) → SpansPromise (layout s) table r now
       → (r ≡ Accepted (1 + length s + length (itemsIn s))) × (now ≡ partRows 0 s ++ drop (1 + length s + length (itemsIn s)) table)
-  -- And finding hands out the contents of its parameters: of a common one, and of the first transfer parameter with a name. There is one
-  -- to be found exactly if the record has it, and beside a refusal stands the empty stretch.
+  -- And finding hands out the contents of its parameters: of a common one, and of that one of the transfer parameters with a name (document
+  -- 02, request g: which one, counted from 0). There is one to be found exactly if the record has it, and beside a refusal stands the empty
+  -- stretch.
   pub found-common : (s : List Part) → Allowed s → (ahead : List Part) (q : Part) (behind : List Part) → s ≡ ahead ++ (q ∷ behind)
       → (part : List ℕ) → FindCommonPromise (layout s) (q .header) part → part ≡ partContents q
   pub found-transfer : (s : List Part) → Allowed s → (front : List Item) (one : Item) (back : List Item) → itemsIn s ≡ front ++ (one ∷ back)
-      → timesIn (nameOf (one .header)) (namesOf front) ≡ 0
-      → (part : List ℕ) → FindTransferPromise (layout s) (nameOf (one .header)) part → part ≡ contentsOf one
+      → (which : ℕ) → timesIn (nameOf (one .header)) (namesOf front) ≡ which
+      → (part : List ℕ) → FindTransferPromise (layout s) (nameOf (one .header)) which part → part ≡ contentsOf one
   pub common-there : (s : List Part) → Allowed s → (h : ℕ) → (h ≡ end-mark → ⊥) → (r : Answer) → FindCommonAnswerPromise (layout s) h r
       → IsAccepted r ↔ (among h (headersOf s) ≡ true)
-  pub transfer-there : (s : List Part) → Allowed s → (x : ℕ) (r : Answer) → FindTransferAnswerPromise (layout s) x r
-      → IsAccepted r ↔ (0 < timesIn x (namesOf (itemsIn s)))
+  pub transfer-there : (s : List Part) → Allowed s → (x which : ℕ) (r : Answer) → FindTransferAnswerPromise (layout s) x which r
+      → IsAccepted r ↔ (which < timesIn x (namesOf (itemsIn s)))
   pub common-empty : (m : List ℕ) (h k p : ℕ) → FindCommonAnswerPromise m h (Refused k p)
       → (part : List ℕ) → FindCommonPromise m h part → part ≡ []
-  pub transfer-empty : (m : List ℕ) (x k p : ℕ) → FindTransferAnswerPromise m x (Refused k p)
-      → (part : List ℕ) → FindTransferPromise m x part → part ≡ []
+  pub transfer-empty : (m : List ℕ) (x which k p : ℕ) → FindTransferAnswerPromise m x which (Refused k p)
+      → (part : List ℕ) → FindTransferPromise m x which part → part ≡ []
   -- Of its sequence nothing is carried unread (document 02, request d): its number is 1, its mark 0 or 1, and finding hands out the one
   -- octet of both.
   pub sequenced : (s : List Part) → Allowed s → (ahead : List Part) (q : Part) (behind : List Part) → s ≡ ahead ++ (q ∷ behind)
@@ -305,7 +307,7 @@ pub record Demand2 : Type 0 where
   pub order-listed : (s : List Part) → Allowed s → (front : List Item) (one : Item) (back : List Item) → itemsIn s ≡ front ++ (one ∷ back)
       → one .header ≡ connection-order → timesIn (nameOf connection-order) (namesOf front) ≡ 0
       → (o : OpenedOrder) → orderRight o ≡ true → layOrder o ≡ one .values
-      → (start : ℕ) → FindTransferAnswerPromise (layout s) (nameOf connection-order) (Accepted start)
+      → (start : ℕ) → FindTransferAnswerPromise (layout s) (nameOf connection-order) 0 (Accepted start)
       → (table : List Row) → 1 + length (o .parameters) ≤ length table → (r : Answer) (now : List Row) → OrderPromise (layout s) table r now
       → (r ≡ Accepted (1 + length (o .parameters))) × (now ≡ toldRows start o ++ drop (1 + length (o .parameters)) table)
   pub order-there : (s : List Part) → Allowed s → (room : ℕ) (r : Answer) → OrderCheckPromise (layout s) room r
@@ -313,8 +315,8 @@ pub record Demand2 : Type 0 where
   -- And its rows add up: the stretches of the message that they name, each behind the one before it, are the contents from end to end; and
   -- the first is the form's, with no octets behind it.
   pub order-rows : (m : List ℕ) → Octetwise m → (table : List Row) (n : ℕ) (now : List Row) → OrderPromise m table (Accepted n) now
-      → (part : List ℕ) → FindTransferPromise m (nameOf connection-order) part
-      → (start : ℕ) → FindTransferAnswerPromise m (nameOf connection-order) (Accepted start)
+      → (part : List ℕ) → FindTransferPromise m (nameOf connection-order) 0 part
+      → (start : ℕ) → FindTransferAnswerPromise m (nameOf connection-order) 0 (Accepted start)
       → (stretchesOf m (take n now) ≡ part) × Following start (take n now) × (sumOf octetsTold (take n now) ≡ length part)
       × (getD (take n now) 0 noRow ≡ formRow start (getD part 0 0))
   -- And by the mobile call profile (document 02, request f) a message is accepted exactly if some record that is allowed and in the
@@ -373,7 +375,8 @@ pub record Demand2 : Type 0 where
 
 -- ---- Demand 3
 
--- e replaces, removes or appends one transfer parameter, in a buffer d whose first n octets hold the message of the record s.
+-- e replaces or removes that one of the transfer parameters with its name (document 02, request g: which one, counted from 0), or appends
+-- one, in a buffer d whose first n octets hold the message of the record s.
 pub record Demand3 : Type 0 where
   -- It gives exactly the octets that demand 2 gives for the record so edited, which may be written: those that writing it gives, and that
   -- read as it.

@@ -308,7 +308,7 @@ shows m =
       verdict = λ p e. shown m p (sym e);
       read = λ q p e. shown m p (sym (read-verdict m _ e));
       find-common = λ h p e. shown m p (find-passes m (commonFound h m) p (sym e));
-      find-transfer = λ x p e. shown m p (find-passes m (transferFound x 0 m) p (sym e));
+      find-transfer = λ x which p e. shown m p (find-passes m (transferFound x which m) p (sym e));
       check = λ room p e. shown m p (spans-passes m room p (sym e));
       check-order = λ room p e. shown m p (order-passes m room p (sym e));
       charging = λ p e. shown m p (charging-passes m p (sym e));
@@ -326,7 +326,7 @@ shows m =
       tk-read = λ room r now e. answer-shown m (imageReading m (length room)) (image-passes m (length room)) r (e .0);
       tk-rows = λ table r now e. answer-shown m (octetSpans m (length table)) (spans-passes m _) r (e .0);
       tk-find-common = λ h r e. find-shown m (commonFound h m) r e;
-      tk-find-transfer = λ x r e. find-shown m (transferFound x 0 m) r e;
+      tk-find-transfer = λ x which r e. find-shown m (transferFound x which m) r e;
       tk-charging = λ room r now e. answer-shown m (octetCharging m (length room)) (octet-charging-passes m (length room)) r (e .0);
       tk-order = λ table r now e. answer-shown m (octetOrder m (length table)) (order-passes m _) r (e .0);
       tk-profile-read = λ room r now e.
@@ -347,7 +347,7 @@ demand-1 =
             numbered = λ r p. rw (read-verdict m _ (p .1)) (verdict-told m);
           };
       find-common = λ m h. answering (find-told m (commonFound h m));
-      find-transfer = λ m x. answering (find-told m (transferFound x 0 m));
+      find-transfer = λ m x which. answering (find-told m (transferFound x which m));
       check = λ m room. answering (spans-told m room);
       check-order = λ m room. answering (order-told m room);
       record-refusal = λ q. answering (struct-told q);
@@ -384,7 +384,7 @@ demand-1 =
           packed-lending (write-image-told image (length room)) (after-refusal (imageWriting image (length room)) _ room);
       tk-rows = λ m table. packed-lending (spans-told m _) (octets-kept (octetSpans m (length table)) _ table);
       tk-find-common = λ m h. packed-answering (length-number (findAnswer m (commonFound h m)) _);
-      tk-find-transfer = λ m x. packed-answering (length-number (findAnswer m (transferFound x 0 m)) _);
+      tk-find-transfer = λ m x which. packed-answering (length-number (findAnswer m (transferFound x which m)) _);
       tk-class = λ h x. packed-answering (class-number (classOf h x));
       tk-charging = λ m room.
           packed-lending (octet-charging-told m (length room)) (after-refusal (octetCharging m (length room)) _ room);
@@ -486,17 +486,18 @@ common-so s a h n r p =
     let w = found-so (layout s) (length (layout s)) (l .0) (commonFound h (layout s)) r p in
     (λ x. sym t ∙ w .0 x, λ x. w .1 (t ∙ x))
 
--- a name is found exactly if some parameter has it
-name-so : (s : List Part) → Allowed s → (x : ℕ) → isFound (transferFound x 0 (layout s)) ≡ ltb 0 (timesIn x (namesOf (itemsIn s)))
-name-so s a x = let l = laid-then-read s a in rw (l .1) at (name-there x 0 (layout s) (l .2) (length (layout s)) (l .0))
+-- that one of a name is found exactly if more parameters than stand before it have the name
+name-so : (s : List Part) → Allowed s → (x which : ℕ)
+    → isFound (transferFound x which (layout s)) ≡ ltb which (timesIn x (namesOf (itemsIn s)))
+name-so s a x which = let l = laid-then-read s a in rw (l .1) at (name-there x which (layout s) (l .2) (length (layout s)) (l .0))
 
-transfer-so : (s : List Part) → Allowed s → (x : ℕ) (r : Answer) → FindTransferAnswerPromise (layout s) x r
-    → IsAccepted r ↔ (0 < timesIn x (namesOf (itemsIn s)))
-transfer-so s a x r p =
+transfer-so : (s : List Part) → Allowed s → (x which : ℕ) (r : Answer) → FindTransferAnswerPromise (layout s) x which r
+    → IsAccepted r ↔ (which < timesIn x (namesOf (itemsIn s)))
+transfer-so s a x which r p =
     let times = timesIn x (namesOf (itemsIn s)) in
-    let t = name-so s a x in
-    let w = found-so (layout s) (length (layout s)) (laid-then-read s a .0) (transferFound x 0 (layout s)) r p in
-    (λ q. ltb-true 0 times (sym t ∙ w .0 q), λ q. w .1 (t ∙ lt-ltb 0 times q))
+    let t = name-so s a x which in
+    let w = found-so (layout s) (length (layout s)) (laid-then-read s a .0) (transferFound x which (layout s)) r p in
+    (λ q. ltb-true which times (sym t ∙ w .0 q), λ q. w .1 (t ∙ lt-ltb which times q))
 
 -- charging information is given exactly if F7 is found
 given-so : (a : Answer) (part : List ℕ) (r : ChargingAnswer) → r ≡ chargingBy a part → IsGiven r ↔ IsAccepted a
@@ -512,7 +513,7 @@ unfolding chargingOf
 charging-so s a r p =
     let m = layout s in
     let g = given-so (findAnswer m (chargingFound m)) (findPart m (chargingFound m)) r p in
-    let t = transfer-so s a (nameOf charging-information) (findAnswer m (chargingFound m)) refl in
+    let t = transfer-so s a (nameOf charging-information) 0 (findAnswer m (chargingFound m)) refl in
     (λ w. t .0 (g .0 w), λ w. g .1 (t .1 w))
 
 charged-first : (s : List Part) → Allowed s → (front : List Item) (one : Item) (back : List Item) → itemsIn s ≡ front ++ (one ∷ back)
@@ -524,7 +525,7 @@ charged-first s a front one back w h b r p =
     let x = nameOf charging-information in
     let there : 0 < timesIn x (namesOf (itemsIn s)) =
     rw (w, names-append front (one ∷ back), times-append, h) (omega (arith, times-here x (namesOf back))) in
-    let found = transfer-so s a x (findAnswer m (chargingFound m)) refl .1 there .1 in
+    let found = transfer-so s a x 0 (findAnswer m (chargingFound m)) refl .1 there .1 in
     let part = transfer-contents s a x 0 front one back w (ap nameOf h) b in
     let values = as-they-are Charging one (rw h) .contents in
     p ∙ rw (found, part, values)
@@ -536,7 +537,7 @@ starts-so m f k p = found-at f k (then-passed (verdictOf m) (λ _. foundAnswer f
 order-listed-so : (s : List Part) → Allowed s → (front : List Item) (one : Item) (back : List Item) → itemsIn s ≡ front ++ (one ∷ back)
     → one .header ≡ connection-order → timesIn (nameOf connection-order) (namesOf front) ≡ 0
     → (o : OpenedOrder) → orderRight o ≡ true → layOrder o ≡ one .values
-    → (start : ℕ) → FindTransferAnswerPromise (layout s) (nameOf connection-order) (Accepted start)
+    → (start : ℕ) → FindTransferAnswerPromise (layout s) (nameOf connection-order) 0 (Accepted start)
     → (table : List Row) → 1 + length (o .parameters) ≤ length table → (r : Answer) (now : List Row) → OrderPromise (layout s) table r now
     → (r ≡ Accepted (1 + length (o .parameters))) × (now ≡ toldRows start o ++ drop (1 + length (o .parameters)) table)
 unfolding orderRowsOf orderAnswer orderTable
@@ -556,7 +557,7 @@ order-listed-so s a front one back w h b o right e start at table l r now p =
 order-there-so : (s : List Part) → Allowed s → (room : ℕ) (r : Answer) → OrderCheckPromise (layout s) room r
     → (r ≡ Refused absent 0) ↔ (timesIn (nameOf connection-order) (namesOf (itemsIn s)) ≡ 0)
 unfolding orderAnswer
-order-there-so s a room r p = go (orderFound m) refl (name-so s a (nameOf connection-order))
+order-there-so s a room r p = go (orderFound m) refl (name-so s a (nameOf connection-order) 0)
   where
     m : List ℕ
     m = layout s
@@ -575,8 +576,8 @@ order-there-so s a room r p = go (orderFound m) refl (name-so s a (nameOf connec
         (λ w. omega arith, λ w. p ∙ rw (laid-then-read s a .0, e))
 
 order-rows-so : (m : List ℕ) → Octetwise m → (table : List Row) (n : ℕ) (now : List Row) → OrderPromise m table (Accepted n) now
-    → (part : List ℕ) → FindTransferPromise m (nameOf connection-order) part
-    → (start : ℕ) → FindTransferAnswerPromise m (nameOf connection-order) (Accepted start)
+    → (part : List ℕ) → FindTransferPromise m (nameOf connection-order) 0 part
+    → (start : ℕ) → FindTransferAnswerPromise m (nameOf connection-order) 0 (Accepted start)
     → (stretchesOf m (take n now) ≡ part) × Following start (take n now) × (sumOf octetsTold (take n now) ≡ length part)
     × (getD (take n now) 0 noRow ≡ formRow start (getD part 0 0))
 unfolding orderTable
@@ -614,11 +615,12 @@ demand-2 =
       reads-back = reads-so;
       listed = listed-so;
       found-common = λ s a ahead q behind w part p. p ∙ common-contents s a ahead q behind w;
-      found-transfer = λ s a front one back w b part p. p ∙ transfer-contents s a (nameOf (one .header)) 0 front one back w refl b;
+      found-transfer = λ s a front one back w which b part p.
+          p ∙ transfer-contents s a (nameOf (one .header)) which front one back w refl b;
       common-there = common-so;
       transfer-there = transfer-so;
       common-empty = λ m h k p a part q. q ∙ empty-so m (commonFound h m) k p a;
-      transfer-empty = λ m x k p a part q. q ∙ empty-so m (transferFound x 0 m) k p a;
+      transfer-empty = λ m x which k p a part q. q ∙ empty-so m (transferFound x which m) k p a;
       sequenced = λ s a ahead q behind w h part p.
           let e = sequence-said s a ahead q behind w h in
           let there = ap (λ (x : ℕ). findPart (layout s) (commonFound x (layout s))) (sym h) in

@@ -75,11 +75,11 @@ fn edit(buffer: &mut [u8], n: usize, kind: Kind, new: &[u8]) -> Answer
     splice_in(buffer, n, start, end, from, to, new)
 }
 
-// Replaces the first transfer parameter that has the name of new.
-pub fn replace(buffer: &mut [u8], n: usize, new: &[u8]) -> Answer
-    ensures { λ r. ⌜ EditPromise (Replacing (now (new .entry)) 0) (now (buffer .entry)) n r (now (buffer .exit)) ⌝ }
+// Replaces that one of the transfer parameters with the name of new, counted from 0.
+pub fn replace(buffer: &mut [u8], n: usize, new: &[u8], which: usize) -> Answer
+    ensures { λ r. ⌜ EditPromise (Replacing (now (new .entry)) which) (now (buffer .entry)) n r (now (buffer .exit)) ⌝ }
 {
-    edit(buffer, n, Kind::Replacing(0), new)
+    edit(buffer, n, Kind::Replacing(which), new)
 }
 
 // Puts a transfer parameter behind the others in C5.
@@ -89,9 +89,9 @@ pub fn append(buffer: &mut [u8], n: usize, new: &[u8]) -> Answer
     edit(buffer, n, Kind::Appending, new)
 }
 
-// Removes the first transfer parameter of this name.
-pub fn remove(buffer: &mut [u8], n: usize, name: u8) -> Answer
-    ensures { λ r. ⌜ EditPromise (Removing name 0) (now (buffer .entry)) n r (now (buffer .exit)) ⌝ }
+// Removes that one of the transfer parameters with this name, counted from 0.
+pub fn remove(buffer: &mut [u8], n: usize, name: u8, which: usize) -> Answer
+    ensures { λ r. ⌜ EditPromise (Removing name which) (now (buffer .entry)) n r (now (buffer .exit)) ⌝ }
 {
-    edit(buffer, n, Kind::Removing(name, 0), b"")
+    edit(buffer, n, Kind::Removing(name, which), b"")
 }

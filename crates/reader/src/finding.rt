@@ -183,16 +183,16 @@ pub fn find_common_answer(m: &[u8], header: u8) -> Answer
     find(m, Key::Header(header)).0
 }
 
-// The contents of the first transfer parameter with this name, the empty part if refused.
-pub fn find_transfer(m: &[u8], name: u8) -> &[u8]
-    ensures { λ r. ⌜ FindTransferPromise (now (m .entry)) name (now r) ⌝ }
+// The contents of that one of the transfer parameters with this name, counted from 0; the empty part if refused.
+pub fn find_transfer(m: &[u8], name: u8, which: usize) -> &[u8]
+    ensures { λ r. ⌜ FindTransferPromise (now (m .entry)) name which (now r) ⌝ }
 {
-    part(m, Key::Name(name, 0))
+    part(m, Key::Name(name, which))
 }
 
 // The second question: accepted, with where those contents start, or number and place.
-pub fn find_transfer_answer(m: &[u8], name: u8) -> Answer
-    ensures { λ r. ⌜ FindTransferAnswerPromise (now (m .entry)) name r ⌝ }
+pub fn find_transfer_answer(m: &[u8], name: u8, which: usize) -> Answer
+    ensures { λ r. ⌜ FindTransferAnswerPromise (now (m .entry)) name which r ⌝ }
 {
-    find(m, Key::Name(name, 0)).0
+    find(m, Key::Name(name, which)).0
 }

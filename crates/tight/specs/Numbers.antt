@@ -148,8 +148,9 @@ verdict-numbers m r = right (verdictOf m) r (verdict-told m)
 pub common-numbers : (m : List ℕ) (h : ℕ) (r : Answer) → FindCommonAnswerPromise m h r ↔ Right (findAnswer m (commonFound h m)) r
 common-numbers m h r = right (findAnswer m (commonFound h m)) r (find-told m (commonFound h m))
 
-pub transfer-numbers : (m : List ℕ) (x : ℕ) (r : Answer) → FindTransferAnswerPromise m x r ↔ Right (findAnswer m (transferFound x 0 m)) r
-transfer-numbers m x r = right (findAnswer m (transferFound x 0 m)) r (find-told m (transferFound x 0 m))
+pub transfer-numbers : (m : List ℕ) (x which : ℕ) (r : Answer)
+    → FindTransferAnswerPromise m x which r ↔ Right (findAnswer m (transferFound x which m)) r
+transfer-numbers m x which r = right (findAnswer m (transferFound x which m)) r (find-told m (transferFound x which m))
 
 pub check-numbers : (m : List ℕ) (room : ℕ) (r : Answer) → SpansCheckPromise m room r ↔ Right (spansOf m room) r
 check-numbers m room r = right (spansOf m room) r (spans-told m room)

@@ -82,20 +82,21 @@ one-common m h a b p q = same p q
 pub one-common-answer : (m : List ℕ) (h : ℕ) (a b : Answer) → FindCommonAnswerPromise m h a → FindCommonAnswerPromise m h b → a ≡ b
 one-common-answer m h a b p q = same p q
 
-pub one-transfer : (m : List ℕ) (x : ℕ) (a b : List ℕ) → FindTransferPromise m x a → FindTransferPromise m x b → a ≡ b
-one-transfer m x a b p q = same p q
+pub one-transfer : (m : List ℕ) (x which : ℕ) (a b : List ℕ) → FindTransferPromise m x which a → FindTransferPromise m x which b → a ≡ b
+one-transfer m x which a b p q = same p q
 
-pub one-transfer-answer : (m : List ℕ) (x : ℕ) (a b : Answer) → FindTransferAnswerPromise m x a → FindTransferAnswerPromise m x b → a ≡ b
-one-transfer-answer m x a b p q = same p q
+pub one-transfer-answer : (m : List ℕ) (x which : ℕ) (a b : Answer) → FindTransferAnswerPromise m x which a
+    → FindTransferAnswerPromise m x which b → a ≡ b
+one-transfer-answer m x which a b p q = same p q
 
 -- a part that finding hands back, and the answer to the second question: where in the message the part is
 pub common-where : (m : List ℕ) (h : ℕ) (part : List ℕ) (a : Answer) → FindCommonPromise m h part → FindCommonAnswerPromise m h a
     → part ≡ stretchFrom a (length part) m
 common-where m h part a p q = rw (p, q) (part-where (verdictOf m) m (commonFound h m))
 
-pub transfer-where : (m : List ℕ) (x : ℕ) (part : List ℕ) (a : Answer) → FindTransferPromise m x part → FindTransferAnswerPromise m x a
-    → part ≡ stretchFrom a (length part) m
-transfer-where m x part a p q = rw (p, q) (part-where (verdictOf m) m (transferFound x 0 m))
+pub transfer-where : (m : List ℕ) (x which : ℕ) (part : List ℕ) (a : Answer) → FindTransferPromise m x which part
+    → FindTransferAnswerPromise m x which a → part ≡ stretchFrom a (length part) m
+transfer-where m x which part a p q = rw (p, q) (part-where (verdictOf m) m (transferFound x which m))
 
 pub one-check : (m : List ℕ) (room : ℕ) (a b : Answer) → SpansCheckPromise m room a → SpansCheckPromise m room b → a ≡ b
 one-check m room a b p q = same p q
@@ -193,8 +194,8 @@ one-tk-rows m table a b s t p q = both p q
 pub one-tk-common : (m : List ℕ) (h a b : ℕ) → TkFindCommonPromise m h a → TkFindCommonPromise m h b → a ≡ b
 one-tk-common m h a b p q = same p q
 
-pub one-tk-transfer : (m : List ℕ) (x a b : ℕ) → TkFindTransferPromise m x a → TkFindTransferPromise m x b → a ≡ b
-one-tk-transfer m x a b p q = same p q
+pub one-tk-transfer : (m : List ℕ) (x which a b : ℕ) → TkFindTransferPromise m x which a → TkFindTransferPromise m x which b → a ≡ b
+one-tk-transfer m x which a b p q = same p q
 
 pub one-tk-class : (h x a b : ℕ) → TkClassPromise h x a → TkClassPromise h x b → a ≡ b
 one-tk-class h x a b p q = same p q

@@ -82,6 +82,13 @@ another = Appending (0x41 ∷ 0x01 ∷ [])
 abbrev pub bad : List ℕ
 bad = K ++ (0xC5 ∷ 0x04 ∷ 0x90 ∷ 0x03 ∷ 0x20 ∷ 0x1A ∷ 0x00 ∷ [])
 
+-- two CC, and an edit of the second
+abbrev pub twice : List ℕ
+twice = K ++ (0xC5 ∷ 0x06 ∷ 0xCC ∷ 0x01 ∷ 0x00 ∷ 0xCC ∷ 0x01 ∷ 0x01 ∷ 0x00 ∷ [])
+
+abbrev pub second : Edit
+second = Replacing (0xCC ∷ 0x01 ∷ 0x02 ∷ []) 1
+
 -- M with two octets past it
 abbrev pub roomy : List ℕ
 roomy = M ++ (0xEE ∷ 0xEE ∷ [])
@@ -98,6 +105,8 @@ pub record Said : Type 0 where
   pub dialled : findPart M (transferFound 0x18 0 M) ≡ 0x03 ∷ 0x21 ∷ 0x0A ∷ []
   pub dialled-at : findAnswer M (transferFound 0x18 0 M) ≡ Accepted 19
   pub no-name : findAnswer M (transferFound 0x3F 0 M) ≡ Refused 16 0
+  pub second-part : findPart twice (transferFound 0x0C 1 twice) ≡ 0x01 ∷ []
+  pub second-at : findAnswer twice (transferFound 0x0C 1 twice) ≡ Accepted 11
   pub no-room : spansOf M 8 ≡ Refused 15 0
   pub nothing-held : structWriting (pack []) ≡ Refused 6 0
   pub least-held : structWriting (pack recordOfK) ≡ Accepted 5
@@ -110,6 +119,8 @@ pub record Said : Type 0 where
   pub removed-answer : editingOf (Removing 0x18 0) M 23 ≡ Accepted 19
   pub removed-length : getD (bufferOf (Removing 0x18 0) M 23) 11 0 ≡ 0x06
   pub removed-rest : getD (bufferOf (Removing 0x18 0) M 23) 19 0 ≡ 0x00
+  pub second-replaced : getD (bufferOf second twice 13) 8 0 ≡ 0x00
+  pub second-removed : getD (bufferOf (Removing 0x0C 1) twice 13) 8 0 ≡ 0x00
 
 pub said : Said
 unfolding afterOf leadOf commonExtentOf extentOf nameUsed pliRight oftenOf zeroesOf formOf halves joined digitOf codeOf isCode halvesFault
@@ -131,6 +142,8 @@ said =
       dialled = refl;
       dialled-at = refl;
       no-name = refl;
+      second-part = refl;
+      second-at = refl;
       no-room = refl;
       nothing-held = refl;
       least-held = refl;
@@ -143,6 +156,8 @@ said =
       removed-answer = refl;
       removed-length = refl;
       removed-rest = refl;
+      second-replaced = refl;
+      second-removed = refl;
     }
 
 -- ---- verdict: one that accepts everything; one that places every refusal at 0; of 13, one that looks at the filler before the digits, one
@@ -188,7 +203,7 @@ carries-the-rest r carried e =
     let w : _≡_ {A = ℕ} 0 1 = cc in
     omega arith
 
--- ---- finding: one that hands back nothing; one that hands back another stretch
+-- ---- finding: one that hands back nothing; one that hands back another stretch; one that finds the first, whichever is asked for
 
 pub finds-no-common : FindCommonPromise M 0x83 [] → ⊥
 finds-no-common p = let z : _≡_ {A = ℕ} 0 3 = ap (λ (l : List ℕ). length l) (p ∙ said .own-call) in omega arith
@@ -202,18 +217,24 @@ common-always-there n p = let z : _≡_ {A = ℕ} 0 16 = ap numberOf (p ∙ said
 pub common-at-header : FindCommonAnswerPromise M 0x83 (Accepted 2) → ⊥
 common-at-header p = let z : _≡_ {A = ℕ} 2 3 = ap givenOf (p ∙ said .own-call-at) in omega arith
 
-pub finds-no-transfer : FindTransferPromise M 0x18 [] → ⊥
+pub finds-no-transfer : FindTransferPromise M 0x18 0 [] → ⊥
 finds-no-transfer p = let z : _≡_ {A = ℕ} 0 3 = ap (λ (l : List ℕ). length l) (p ∙ said .dialled) in omega arith
 
 -- the count octet is contents
-pub finds-digits-alone : FindTransferPromise M 0x18 (0x21 ∷ 0x0A ∷ []) → ⊥
+pub finds-digits-alone : FindTransferPromise M 0x18 0 (0x21 ∷ 0x0A ∷ []) → ⊥
 finds-digits-alone p = let z : _≡_ {A = ℕ} 2 3 = ap (λ (l : List ℕ). length l) (p ∙ said .dialled) in omega arith
 
-pub transfer-always-there : (n : ℕ) → FindTransferAnswerPromise M 0x3F (Accepted n) → ⊥
+pub transfer-always-there : (n : ℕ) → FindTransferAnswerPromise M 0x3F 0 (Accepted n) → ⊥
 transfer-always-there n p = let z : _≡_ {A = ℕ} 0 16 = ap numberOf (p ∙ said .no-name) in omega arith
 
-pub transfer-at-header : FindTransferAnswerPromise M 0x18 (Accepted 18) → ⊥
+pub transfer-at-header : FindTransferAnswerPromise M 0x18 0 (Accepted 18) → ⊥
 transfer-at-header p = let z : _≡_ {A = ℕ} 18 19 = ap givenOf (p ∙ said .dialled-at) in omega arith
+
+pub finds-the-first : FindTransferPromise twice 0x0C 1 (0x00 ∷ []) → ⊥
+finds-the-first p = let z : _≡_ {A = ℕ} 0x00 0x01 = ap (λ (l : List ℕ). getD l 0 0) (p ∙ said .second-part) in omega arith
+
+pub tells-the-first : FindTransferAnswerPromise twice 0x0C 1 (Accepted 8) → ⊥
+tells-the-first p = let z : _≡_ {A = ℕ} 8 11 = ap givenOf (p ∙ said .second-at) in omega arith
 
 -- ---- rows: one that ignores the room (an invented count: WrongRows)
 
@@ -236,7 +257,7 @@ refuses-no-record n p = let z : _≡_ {A = ℕ} 0 6 = ap numberOf (p ∙ said .n
 pub refuses-every-record : (k q : ℕ) → RecordRefusalPromise (pack recordOfK) (Refused k q) → ⊥
 refuses-every-record k q p = let z : _≡_ {A = ℕ} 0 5 = ap givenOf (p ∙ said .least-held) in omega arith
 
--- ---- editing: one that claims success and does nothing; one that forgets C5's length octet
+-- ---- editing: one that claims success and does nothing; one that forgets C5's length octet; one that edits the first, whichever is told
 
 -- each of the three edits changes that octet
 pub replaced-differs : M ≡ bufferOf shorter M 23 → ⊥
@@ -267,3 +288,10 @@ removes-nothing k p = removed-differs (p .1)
 -- octets from the new end to the old are 0
 pub leaves-the-rest : (a : Answer) (now : List ℕ) → getD now 19 0 ≡ 0x03 → EditPromise (Removing 0x18 0) M 23 a now → ⊥
 leaves-the-rest a now h p = let z : getD now 19 0 ≡ 0x00 = ap (λ (l : List ℕ). getD l 19 0) (p .1) ∙ said .removed-rest in omega arith
+
+-- the first of two stays where the second is replaced or removed
+pub replaces-the-first : (a : Answer) (now : List ℕ) → getD now 8 0 ≡ 0x02 → EditPromise second twice 13 a now → ⊥
+replaces-the-first a now h p = let z : getD now 8 0 ≡ 0x00 = ap (λ (l : List ℕ). getD l 8 0) (p .1) ∙ said .second-replaced in omega arith
+
+pub removes-the-first : (a : Answer) (now : List ℕ) → getD now 8 0 ≡ 0x01 → EditPromise (Removing 0x0C 1) twice 13 a now → ⊥
+removes-the-first a now h p = let z : getD now 8 0 ≡ 0x00 = ap (λ (l : List ℕ). getD l 8 0) (p .1) ∙ said .second-removed in omega arith

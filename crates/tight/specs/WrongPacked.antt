@@ -72,7 +72,7 @@ use Rattle.annex.specs.declared.Record.{Record}
 use Rattle.annex.specs.declared.Imaged.{Imaged}
 use Rattle.annex.specs.declared.Class.the-variants.{HeldBack}
 use Rattle.annex.specs.declared.ClassAnswer.the-variants as classes
-use Rattle.tight.specs.Wrong.{short, shorter, another, roomy, said, replaced-differs, appended-differs, removed-differs}
+use Rattle.tight.specs.Wrong.{short, shorter, another, twice, second, roomy, said, replaced-differs, appended-differs, removed-differs}
 
 -- the image of case 2's record, and with an octet left over
 abbrev imageOfK : List ℕ
@@ -210,7 +210,8 @@ octets-length-first r now h p = tk-length-first (packedAnswer r) now h (octets-p
 pub octets-for-rows : (now : List ℕ) → OctetSpansPromise short (lent 14) (Accepted 3) now → ⊥
 octets-for-rows now p = tk-octets-for-rows now (octets-packed short (lent 14) (Accepted 3) now p)
 
--- ---- finding: one that tells only where the contents start; one that tells where the header stands; one that gives 16 as the value
+-- ---- finding: one that tells only where the contents start; one that tells where the header stands; one that gives 16 as the value; one
+-- that finds the first, whichever is asked for
 
 pub tk-common-no-length : TkFindCommonPromise M 0x83 (3 * 65536) → ⊥
 tk-common-no-length p = let z : _≡_ {A = ℕ} (3 * 65536) (3 * 65536 + 3) = p ∙ rw (said .own-call-at, said .own-call) in omega arith
@@ -218,11 +219,16 @@ tk-common-no-length p = let z : _≡_ {A = ℕ} (3 * 65536) (3 * 65536 + 3) = p 
 pub tk-common-at-header : TkFindCommonPromise M 0x83 (2 * 65536 + 3) → ⊥
 tk-common-at-header p = let z : _≡_ {A = ℕ} (2 * 65536 + 3) (3 * 65536 + 3) = p ∙ rw (said .own-call-at, said .own-call) in omega arith
 
-pub tk-transfer-at-header : TkFindTransferPromise M 0x18 (18 * 65536 + 3) → ⊥
+pub tk-transfer-at-header : TkFindTransferPromise M 0x18 0 (18 * 65536 + 3) → ⊥
 tk-transfer-at-header p = let z : _≡_ {A = ℕ} (18 * 65536 + 3) (19 * 65536 + 3) = p ∙ rw (said .dialled-at, said .dialled) in omega arith
 
-pub tk-absent-as-value : TkFindTransferPromise M 0x3F 16 → ⊥
+pub tk-absent-as-value : TkFindTransferPromise M 0x3F 0 16 → ⊥
 tk-absent-as-value p = let z : _≡_ {A = ℕ} 16 (16 * 4294967296) = p ∙ rw (said .no-name) in omega arith
+
+pub tk-finds-the-first : TkFindTransferPromise twice 0x0C 1 (8 * 65536 + 1) → ⊥
+tk-finds-the-first p =
+    let z : _≡_ {A = ℕ} (8 * 65536 + 1) (11 * 65536 + 1) = p ∙ rw (said .second-at, said .second-part) in
+    omega arith
 
 -- ---- tk_class: one that calls what is held back spare; one that gives 17 as the value
 
@@ -232,7 +238,8 @@ tk-never-held-back p = let z : _≡_ {A = ℕ} 2 1 = p ∙ ap packedClass (said-
 pub tk-no-list-as-value : TkClassPromise 0x01 1 17 → ⊥
 tk-no-list-as-value p = let z : _≡_ {A = ℕ} 17 (17 * 4294967296) = p ∙ ap packedClass (said-packed .no-list) in omega arith
 
--- ---- editing: one that answers 0 for done, and not the new length; one that claims success and does nothing
+-- ---- editing: one that answers 0 for done, and not the new length; one that claims success and does nothing; one that edits the first,
+-- whichever is told
 
 answers-done : (e : Edit) (buffer : List ℕ) (n k : ℕ) → editingOf e buffer n ≡ Accepted k → 0 < k → k < 65536 → (now : List ℕ)
     → TkEditPromise e buffer n 0 now → ⊥
@@ -255,3 +262,9 @@ tk-appends-nothing r p = appended-differs (p .1)
 
 pub tk-removes-nothing : (r : ℕ) → TkEditPromise (Removing 0x18 0) M 23 r M → ⊥
 tk-removes-nothing r p = removed-differs (p .1)
+
+pub tk-replaces-the-first : (r : ℕ) (now : List ℕ) → at 8 now ≡ 0x02 → TkEditPromise second twice 13 r now → ⊥
+tk-replaces-the-first r now h p = let z : at 8 now ≡ 0x00 = ap (at 8) (p .1) ∙ said .second-replaced in omega arith
+
+pub tk-removes-the-first : (r : ℕ) (now : List ℕ) → at 8 now ≡ 0x01 → TkEditPromise (Removing 0x0C 1) twice 13 r now → ⊥
+tk-removes-the-first r now h p = let z : at 8 now ≡ 0x00 = ap (at 8) (p .1) ∙ said .second-removed in omega arith

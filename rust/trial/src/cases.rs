@@ -8,7 +8,7 @@ const EDITS: &str = include_str!("../../../tests/vectors/edits.txt");
 const RECORDS: &str = include_str!("../../../tests/vectors/records.txt");
 
 /// What the octets of a case begin with: an edit's or a write's place among
-/// these, then three numbers.
+/// these, then four numbers.
 const KINDS: [&str; 7] = [
     "replace",
     "append",
@@ -66,10 +66,17 @@ fn case(line: &str) -> Option<Vec<u8>> {
         let (room, change) = number.split_once(", ").unwrap_or((number, "write 0"));
         let (what, to) = change.split_once(' ')?;
         let numbers = [to.parse().ok()?, room.parse().ok()?];
-        return octets_of(what, numbers, &[], &image(given)?);
+        return octets_of(what, numbers, 0, &[], &image(given)?);
     }
+    let (n, which) = number.split_once(", which ").unwrap_or((number, "0"));
     let (buffer, new) = given.split_once('|')?;
-    edit(kind, number.parse().ok()?, &hex(buffer)?, &hex(new)?)
+    edit(
+        kind,
+        n.parse().ok()?,
+        which.parse().ok()?,
+        &hex(buffer)?,
+        &hex(new)?,
+    )
 }
 
 /// `edit NEW | buffer | n | answer`: the name that is removed is decimal.
@@ -86,6 +93,7 @@ fn edit_vector(line: &str) -> Option<Vec<u8>> {
     edit(
         call.split(' ').next()?,
         n.parse().ok()?,
+        0,
         &hex(buffer)?,
         &new,
     )
@@ -102,16 +110,22 @@ fn record_vector(line: &str) -> Option<Vec<u8>> {
         Some(message) => hex(message)?.len() as u16 + 2,
         None => 8,
     };
-    octets_of("write", [0, room], &[], &image)
+    octets_of("write", [0, room], 0, &[], &image)
 }
 
-fn edit(kind: &str, n: u16, buffer: &[u8], new: &[u8]) -> Option<Vec<u8>> {
-    octets_of(kind, [n, buffer.len() as u16], buffer, new)
+fn edit(kind: &str, n: u16, which: u16, buffer: &[u8], new: &[u8]) -> Option<Vec<u8>> {
+    octets_of(kind, [n, buffer.len() as u16], which, buffer, new)
 }
 
-fn octets_of(kind: &str, numbers: [u16; 2], buffer: &[u8], last: &[u8]) -> Option<Vec<u8>> {
+fn octets_of(
+    kind: &str,
+    numbers: [u16; 2],
+    which: u16,
+    buffer: &[u8],
+    last: &[u8],
+) -> Option<Vec<u8>> {
     let mut octets = vec![KINDS.iter().position(|name| *name == kind)? as u8];
-    for number in [numbers[0], numbers[1], last.len() as u16] {
+    for number in [numbers[0], numbers[1], last.len() as u16, which] {
         octets.extend(number.to_le_bytes());
     }
     octets.extend_from_slice(buffer);
