@@ -72,7 +72,18 @@ use Rattle.annex.specs.declared.Record.{Record}
 use Rattle.annex.specs.declared.Imaged.{Imaged}
 use Rattle.annex.specs.declared.Class.the-variants.{HeldBack}
 use Rattle.annex.specs.declared.ClassAnswer.the-variants as classes
-use Rattle.tight.specs.Wrong.{short, shorter, another, twice, second, roomy, said, replaced-differs, appended-differs, removed-differs}
+use Rattle.tight.specs.Wrong.{
+  short,
+  shorter,
+  another,
+  twice,
+  second,
+  roomy,
+  said,
+  replaced-differs,
+  appended-differs,
+  removed-differs,
+}
 
 -- the image of case 2's record, and with an octet left over
 abbrev imageOfK : List ℕ

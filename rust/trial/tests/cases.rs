@@ -3,7 +3,7 @@
 use trial::cases::octets;
 
 /// The program reads so many octets, and no more.
-const MOST: usize = 65_536;
+const MOST: usize = 131_072;
 
 #[test]
 fn the_text_is_what_the_program_reads() {
