@@ -47,7 +47,7 @@ use Rattle.annex.specs.Reading.{
 use Rattle.annex.specs.Writing.{itemWriting, itemsWriting, dataWriting, partWriting, partsWriting, overLimits, recordWriting}
 use Rattle.annex.specs.Editing.{Edit, editRefusal, instead, editedItems, edited, recordEditing, editingOf}
 use Rattle.annex.specs.Editing.Edit.{Replacing, Appending, Removing}
-use Rattle.annex.specs.BadHalves.{parametersGood, badAt}
+use Rattle.annex.specs.BadHalves.{parsGood, badAt}
 use Rattle.annex.specs.Bench.{M, K, recordOfK}
 use Rattle.annex.specs.declared.Answer.{Answer}
 use Rattle.annex.specs.declared.Answer.the-variants.{Accepted, Refused}
@@ -159,5 +159,5 @@ unfolding afterOf leadOf commonExtentOf extentOf nameUsed pliRight oftenOf zeroe
     dialledFault chargingFault faultOf holdingOf itemOf contentsOf layoutItem layoutItems layoutPart layout lengthRight faultIn valueFits
     walk pars transferBy transfersVerdictBy valueAllowed commonForm endOf dataBy commonBy messageVerdictBy verdictBy commonsBy transfersBy
     openCommonBy recordBy itemWriting itemsWriting dataWriting partWriting partsWriting overLimits recordWriting editRefusal instead
-    editedItems edited recordEditing editingOf parametersGood badAt
+    editedItems edited recordEditing editingOf parsGood badAt
 bad-digits = refl

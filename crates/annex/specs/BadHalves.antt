@@ -11,6 +11,7 @@ use Rattle.annex.specs.Heads.{added-calling-number, withheld, transfer-d
 use Rattle.annex.specs.Digits.{isCode, countOf}
 use Rattle.annex.specs.Rates.{isRight, drawnFor, kindIn}
 use Rattle.annex.specs.Orders.{layoutOf, isFigure, isAreCharacter}
+use Rattle.annex.specs.Carriers.{holdsCode, insideOf, insideAt, codeCount, dependentsIn, carriersIn}
 use Rattle.annex.specs.Contents.{presentationOf}
 use Rattle.annex.specs.Allowed.{Each}
 use Rattle.annex.specs.Walk.{Par, commonSize, transferSize, pars}
@@ -20,7 +21,7 @@ use Rattle.annex.specs.declared.HalfOctets.{HalfOctets}
 use Rattle.annex.specs.declared.Alphabet.{Alphabet}
 use Rattle.annex.specs.declared.Alphabet.the-variants.{Dialled, Numbered, Decimal}
 use Rattle.annex.specs.declared.Check.{Check}
-use Rattle.annex.specs.declared.Check.the-variants.{Nothing, Long, Two, Charging, Order}
+use Rattle.annex.specs.declared.Check.the-variants.{Nothing, Long, Two, Charging, Order, Carriers}
 use Rattle.annex.specs.declared.Drawn.the-variants.{Whole}
 use Rattle.annex.specs.declared.Form.{Form}
 use Rattle.annex.specs.declared.Form.the-variants.{Checked, Digits, Number, Calling, Generic}
@@ -93,16 +94,30 @@ layoutGood AreLogic own = unread
 layoutGood Guidance own = unread
 layoutGood WaitingTime own = λ j x. isFigure x
 
--- its parameters, by their offsets: octet number j belongs to the first that does not end before it
-unfoldable pub parametersGood : List Par → Good
-parametersGood [] j x = true
-parametersGood (q ∷ qs) j x =
-    cond (leb j (q .place + length (q .own))) (behind (q .place + 1) (layoutGood (layoutOf (q .head)) (q .own)) j x)
-    (parametersGood qs j x)
+-- parameters or entries by their offsets, and which octets of each are good: octet number j belongs to the first that does not end before it
+unfoldable pub parsGood : (Par → Good) → List Par → Good
+parsGood good [] j x = true
+parsGood good (q ∷ qs) j x = cond (leb j (q .place + length (q .own))) (good q j x) (parsGood good qs j x)
 
 -- E0: its parameters behind the form, by the length rule
+abbrev pub parameterGood : Par → Good
+parameterGood q = behind (q .place + 1) (layoutGood (layoutOf (q .head)) (q .own))
+
 abbrev pub orderGood : List ℕ → Good
-orderGood s = parametersGood (orderPars s)
+orderGood s = parsGood parameterGood (orderPars s)
+
+-- CC: in dependent entries that hold a code, its digits behind the first octet
+abbrev pub codeGood : List ℕ → Good
+codeGood s = behind 1 (digitsGood Decimal (codeCount s))
+
+abbrev pub dependentGood : Par → Good
+dependentGood q = cond (holdsCode (q .head)) (behind (insideAt q) (codeGood (insideOf q))) unread
+
+abbrev pub carrierGood : Par → Good
+carrierGood q = parsGood dependentGood (dependentsIn q)
+
+abbrev pub carriersGood : List ℕ → Good
+carriersGood s = parsGood carrierGood (carriersIn s)
 
 -- contents that a record holds as they are, by their check; and all contents, by their form
 abbrev pub checkGood : Check → List ℕ → Good
@@ -111,6 +126,7 @@ checkGood (Long n) s = unread
 checkGood (Two mask) s = unread
 checkGood Charging s = chargingGood s
 checkGood Order s = orderGood s
+checkGood Carriers s = carriersGood s
 
 abbrev pub goodBy : Form → List ℕ → Good
 goodBy (Checked c) s = checkGood c s

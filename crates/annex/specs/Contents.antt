@@ -1,5 +1,5 @@
--- What is wrong with the contents of one transfer parameter: document 01, "Transfer data" and refusals 12 and 13; document 02, requests a
--- and b, with refusals 18 and 19. 12 comes before 13 and 13 before 18; in a connection order 19 comes first of each part. The offset is
+-- What is wrong with the contents of one transfer parameter: document 01, "Transfer data" and refusals 12 and 13; document 02, requests a,
+-- b and g, with refusals 18 and 19. 12 comes before 13 and 13 before 18; in a connection order 19 comes first of each part. The offset is
 -- that of the octet in the contents.
 use Prim.Native.Nat.{ℕ, _+_, _-_, _/_, _%_}
 use mathlib.Core.Bool.{cond, not, _&&_}
@@ -11,10 +11,11 @@ use Rattle.annex.specs.Units.{countedBy}
 use Rattle.annex.specs.Heads.{added-calling-number, withheld, clear, zeroesOf, formOf}
 use Rattle.annex.specs.declared.Check.{Check}
 use Rattle.annex.specs.declared.Form.{Form}
-use Rattle.annex.specs.declared.Check.the-variants.{Nothing, Long, Two, Charging, Order}
+use Rattle.annex.specs.declared.Check.the-variants.{Nothing, Long, Two, Charging, Order, Carriers}
 use Rattle.annex.specs.declared.Form.the-variants.{Checked, Digits, Number, Calling, Generic}
 use Rattle.annex.specs.Digits.{digitsFault, numberFault}
 use Rattle.annex.specs.Orders.{orderFault}
+use Rattle.annex.specs.Carriers.{carriersFault}
 use Rattle.annex.specs.Rates.{isKind, drawnFor, kindIn, fieldOctets, drawnFault, checkRight}
 use Rattle.annex.specs.declared.Alphabet.the-variants.{Dialled}
 use Rattle.annex.specs.declared.Fault.{Fault}
@@ -58,6 +59,7 @@ checkFault (Long n) s = formed (eqb (length s) n)
 checkFault (Two mask) s = twoFault mask s
 checkFault Charging s = chargingFault s
 checkFault Order s = orderFault s
+checkFault Carriers s = carriersFault s
 
 abbrev pub faultBy : Form → List ℕ → Fault
 faultBy (Checked c) s = checkFault c s

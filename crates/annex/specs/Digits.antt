@@ -91,9 +91,13 @@ halvesFor ds = record { 0 = length ds }
 abbrev pub oddOf : List ℕ → ℕ
 oddOf s = getD s 0 0 / 128
 
--- the digits of a number with these octets: those behind the first two, and one half less where the odd mark is set
+-- the digits of octets whose first has the odd mark: those behind the first k, and one half less where the mark is set
+abbrev pub countBehind : ℕ → List ℕ → HalfOctets
+countBehind k s = record { 0 = halvesIn (drop k s) .0 - oddOf s }
+
+-- of a number: behind its two octets of fields
 abbrev pub countOf : List ℕ → HalfOctets
-countOf s = record { 0 = halvesIn (drop 2 s) .0 - oddOf s }
+countOf s = countBehind 2 s
 
 -- Transfer data, D7: a number whose first octet is at the offset `at`. Its two octets of fields must be there, and where the odd mark is
 -- set a digit octet too; then the digits, in some code, with filler after an odd count

@@ -8,7 +8,7 @@ use lib.Dec.{eqb}
 use lib.Bits.{bitAnd}
 use Rattle.annex.specs.Units.{pliOf, nameOf}
 use Rattle.annex.specs.declared.Marks.the-variants.{Unmarked, Notified, Verified, Typed}
-use Rattle.annex.specs.declared.Check.the-variants.{Nothing, Long, Two, Charging, Order}
+use Rattle.annex.specs.declared.Check.the-variants.{Nothing, Long, Two, Charging, Order, Carriers}
 use Rattle.annex.specs.declared.Form.{Form}
 use Rattle.annex.specs.declared.Form.the-variants.{Checked, Digits, Number, Calling, Generic}
 
@@ -169,7 +169,7 @@ heads =
     row 0x95 0x40 (Digits Notified) ∷  -- called terminal
     row 0x98 0x00 (Digits Typed) ∷  -- dialled digits
     row 0xA3 0xC0 (Digits Unmarked) ∷  -- re-control digits
-    row carriers 0x00 carried ∷  -- carriers
+    row carriers 0x00 (Checked Carriers) ∷  -- carriers
     row 0xCD 0x00 carried ∷  -- called IN number
     row 0xCE 0x00 carried ∷  -- test call
     row 0xCF 0x00 (Checked (Two 0x08)) ∷  -- forward call

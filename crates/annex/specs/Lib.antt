@@ -6,11 +6,12 @@ pub mod Heads
 pub mod Digits
 pub mod Rates
 pub mod Orders
+pub mod Walk
+pub mod Carriers
 pub mod Contents
 pub mod Items
 pub mod Layout
 pub mod Allowed
-pub mod Walk
 pub mod Reading
 pub mod Records
 pub mod Writing
@@ -21,6 +22,7 @@ pub mod Editing
 pub mod Classes
 pub mod Charging
 pub mod Opened
+pub mod Transit
 pub mod BadHalves
 pub mod Profile
 pub mod Packed
@@ -34,5 +36,6 @@ pub mod Enquiries
 -- And what the functions give that serve these: no rules of the documents, and no promise of the product rests on them.
 pub mod Walking
 pub mod Ordering
+pub mod Entering
 pub mod Memory
 pub mod Opening

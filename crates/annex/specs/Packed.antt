@@ -1,5 +1,5 @@
 -- What the functions for Rust and C give, in numbers and octets alone: an answer as one number, the refusal's number times 2^32, the place
--- times 2^16, and the value, number 0 where accepted (places and values are below 2^16); a record as its image; a row as five octets.
+-- times 2^16, and the value, number 0 where accepted (places and values are below 2^16); a record as its image; a row as five octets, one of carriers as eight.
 use Prim.Native.Nat.{ℕ, _+_, _*_, _/_, _%_}
 use mathlib.Core.List.{List, [], _∷_, _++_}
 use lib.Dec.{ltb}
@@ -23,10 +23,12 @@ use Rattle.annex.specs.Writing.{writingOf}
 use Rattle.annex.specs.Image.{twoOctets, imageOf, imagedOf}
 use Rattle.annex.specs.Spans.{rowsOf, spansOf}
 use Rattle.annex.specs.Opened.{orderRowsOf, orderAnswer}
+use Rattle.annex.specs.Transit.{carrierRowsOf, carriersAnswer}
 use Rattle.annex.specs.Profile.{profileVerdict, profileWriting}
 use Rattle.annex.specs.declared.Answer.{Answer}
 use Rattle.annex.specs.declared.Answer.the-variants.{Accepted, Refused}
 use Rattle.annex.specs.declared.ClassAnswer.{ClassAnswer}
+use Rattle.annex.specs.declared.CarrierRow.{CarrierRow}
 use Rattle.annex.specs.declared.Row.{Row}
 
 -- ---- answers
@@ -105,17 +107,37 @@ rowsOctets (r ∷ rs) = rowOctets r ++ rowsOctets rs
 abbrev pub octetSpans : List ℕ → ℕ → Answer
 octetSpans m room = spansOf m (room / row-octets)
 
--- what the table then holds: the rows at its front, octets past the last as before; unchanged where refused
-abbrev pub octetsBy : Answer → List ℕ → List ℕ → List ℕ
-octetsBy (Accepted n) octets table = octets ++ drop (row-octets * n) table
-octetsBy (Refused k p) octets table = table
+-- what the table then holds, rows taking so many octets: the rows at its front, octets past the last as before; unchanged where refused
+abbrev pub octetsBy : ℕ → Answer → List ℕ → List ℕ → List ℕ
+octetsBy width (Accepted n) octets table = octets ++ drop (width * n) table
+octetsBy width (Refused k p) octets table = table
 
 unfoldable pub octetTable : List ℕ → List ℕ → List ℕ
-octetTable m table = octetsBy (octetSpans m (length table)) (rowsOctets (rowsOf m)) table
+octetTable m table = octetsBy row-octets (octetSpans m (length table)) (rowsOctets (rowsOf m)) table
 
 -- the same of its connection order
 abbrev pub octetOrder : List ℕ → ℕ → Answer
 octetOrder m room = orderAnswer m (room / row-octets)
 
 unfoldable pub octetOrderTable : List ℕ → List ℕ → List ℕ
-octetOrderTable m table = octetsBy (octetOrder m (length table)) (rowsOctets (orderRowsOf m)) table
+octetOrderTable m table = octetsBy row-octets (octetOrder m (length table)) (rowsOctets (orderRowsOf m)) table
+
+-- ---- the rows of its carriers
+
+-- a row: level, tag, offset in two octets, how many octets the entry holds in two, how many digits in two
+abbrev pub carrier-row-octets : ℕ
+carrier-row-octets = 8
+
+abbrev pub carrierRowOctets : CarrierRow → List ℕ
+carrierRowOctets r = r .level ∷ r .tag ∷ (twoOctets (r .offset) ++ (twoOctets (r .len) ++ twoOctets (r .digits)))
+
+unfoldable pub carrierRowsOctets : List CarrierRow → List ℕ
+carrierRowsOctets [] = []
+carrierRowsOctets (r ∷ rs) = carrierRowOctets r ++ carrierRowsOctets rs
+
+abbrev pub octetCarriers : List ℕ → ℕ → ℕ → Answer
+octetCarriers m which room = carriersAnswer m which (room / carrier-row-octets)
+
+unfoldable pub octetCarriersTable : List ℕ → ℕ → List ℕ → List ℕ
+octetCarriersTable m which table =
+    octetsBy carrier-row-octets (octetCarriers m which (length table)) (carrierRowsOctets (carrierRowsOf which m)) table

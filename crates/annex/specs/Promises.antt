@@ -15,6 +15,7 @@ use Rattle.annex.specs.Editing.{Edit, editingOf, bufferOf}
 use Rattle.annex.specs.Classes.{classOf}
 use Rattle.annex.specs.Charging.{chargingOf, octetCharging, octetCharged}
 use Rattle.annex.specs.Opened.{orderAnswer, orderTable}
+use Rattle.annex.specs.Transit.{digitsAnswer, digitsGiven}
 use Rattle.annex.specs.Profile.{
   profileVerdict,
   profileWriting,
@@ -39,6 +40,8 @@ use Rattle.annex.specs.Packed.{
   octetTable,
   octetOrder,
   octetOrderTable,
+  octetCarriers,
+  octetCarriersTable,
 }
 use Rattle.annex.specs.Memory.{Request}
 use Rattle.annex.specs.declared.Answer.{Answer}
@@ -122,6 +125,14 @@ ChargingPromise m r = r ≡ chargingOf m
 abbrev pub OctetChargingPromise : List ℕ → List ℕ → Answer → List ℕ → Type 0
 OctetChargingPromise m room r now = (r ≡ octetCharging m (length room)) × (now ≡ octetCharged m room)
 
+-- carriers::carriers
+abbrev pub CarriersPromise : List ℕ → ℕ → List ℕ → Answer → List ℕ → Type 0
+CarriersPromise m which table r now = (r ≡ octetCarriers m which (length table)) × (now ≡ octetCarriersTable m which table)
+
+-- carriers::carrier_digits
+abbrev pub CarrierDigitsPromise : List ℕ → ℕ → ℕ → List ℕ → Answer → List ℕ → Type 0
+CarrierDigitsPromise m which row room r now = (r ≡ digitsAnswer m which row (length room)) × (now ≡ digitsGiven m which row room)
+
 -- ---- the mobile call profile
 
 -- profile::verdict::profile_verdict
@@ -197,6 +208,16 @@ TkChargingPromise m room r now = (r ≡ packedAnswer (octetCharging m (length ro
 -- tk_order
 abbrev pub TkOrderPromise : List ℕ → List ℕ → ℕ → List ℕ → Type 0
 TkOrderPromise m table r now = (r ≡ packedAnswer (octetOrder m (length table))) × (now ≡ octetOrderTable m table)
+
+-- tk_carriers
+abbrev pub TkCarriersPromise : List ℕ → ℕ → List ℕ → ℕ → List ℕ → Type 0
+TkCarriersPromise m which table r now =
+    (r ≡ packedAnswer (octetCarriers m which (length table))) × (now ≡ octetCarriersTable m which table)
+
+-- tk_carrier_digits
+abbrev pub TkCarrierDigitsPromise : List ℕ → ℕ → ℕ → List ℕ → ℕ → List ℕ → Type 0
+TkCarrierDigitsPromise m which row room r now =
+    (r ≡ packedAnswer (digitsAnswer m which row (length room))) × (now ≡ digitsGiven m which row room)
 
 -- tk_profile_read
 abbrev pub TkProfileReadPromise : List ℕ → List ℕ → ℕ → List ℕ → Type 0

@@ -139,13 +139,14 @@ pub enum Marks {
 }
 
 // What is checked of contents that a record holds as they are: nothing more, so many octets, two octets, these bits of the second 0,
-// charging information, or a connection order.
+// charging information, a connection order, or carriers.
 pub enum Check {
     Nothing,
     Long(u8),
     Two(u8),
     Charging,
     Order,
+    Carriers,
 }
 
 // The forms of contents: held as they are, with a check; digits of PLI 10; a number as in D7, as in DC, as in DA.
@@ -710,6 +711,68 @@ impl Order {
     pub const SEPARATOR: u8 = b';';
 
     pub const ETX: u8 = 0x03;
+}
+
+// The carriers of CC.
+pub struct Carriers;
+
+impl Carriers {
+    // what the direction octet says at most: two bits
+    pub const MOST_DIRECTION: u8 = 3;
+
+    // the tags of carrier entries: the SCP's carrier before and after a move, the SCP's, the originating, the terminating, the selected
+    // transit and the route's carrier
+    pub const SCP_BEFORE: u8 = 0xF8;
+
+    pub const SCP_AFTER: u8 = 0xF9;
+
+    pub const SCP: u8 = 0xFA;
+
+    pub const ORIGINATING: u8 = 0xFB;
+
+    pub const TERMINATING: u8 = 0xFC;
+
+    pub const SELECTED_TRANSIT: u8 = 0xFD;
+
+    pub const ROUTE: u8 = 0xFE;
+
+    // the tags of dependent entries: the stage and the charging area of a point of interface, and a carrier's code
+    pub const POI_STAGE: u8 = 0xFC;
+
+    pub const POI_AREA: u8 = 0xFD;
+
+    pub const CODE: u8 = 0xFE;
+
+    // the direction octet, before the entries
+    pub const HEAD: usize = 1;
+
+    // the first octet of a code, before its digits, by whether they are an even or an odd number
+    pub const CODE_HEAD: usize = 1;
+
+    pub const EVEN_COUNT: u8 = 0x00;
+
+    pub const ODD_COUNT: u8 = 0x80;
+}
+
+// A row of the listing of CC: the level (0 the direction, 1 a carrier entry, 2 a dependent entry), the tag, of the direction its value,
+// the offset of that octet in the message, how many octets the entry holds, and how many digits, where it holds a code.
+pub struct CarrierRow {
+    pub level: u8,
+    pub tag: u8,
+    pub offset: usize,
+    pub len: usize,
+    pub digits: usize,
+}
+
+impl CarrierRow {
+    pub const DIRECTION: u8 = 0;
+
+    pub const CARRIER: u8 = 1;
+
+    pub const DEPENDENT: u8 = 2;
+
+    // the octets of a row in a table of octets
+    pub const OCTETS: usize = 8;
 }
 
 // The class of a code value.

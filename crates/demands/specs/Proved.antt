@@ -197,9 +197,9 @@ after-refusal : {A : Type 0} (a : Answer) (written room : List A) → Kept a roo
 after-refusal (Accepted n) written room k p e = absurd (let z : _≡_ {A = ℕ} 0 1 = cc in omega arith)
 after-refusal (Refused j q) written room k p e = refl
 
-octets-kept : (a : Answer) (octets table : List ℕ) → Kept a table (octetsBy a octets table)
-octets-kept (Accepted n) octets table k p e = absurd (let z : _≡_ {A = ℕ} 0 1 = cc in omega arith)
-octets-kept (Refused j q) octets table k p e = refl
+octets-kept : (width : ℕ) (a : Answer) (octets table : List ℕ) → Kept a table (octetsBy width a octets table)
+octets-kept width (Accepted n) octets table k p e = absurd (let z : _≡_ {A = ℕ} 0 1 = cc in omega arith)
+octets-kept width (Refused j q) octets table k p e = refl
 
 -- a promise that says what the answer is, and what lent memory then holds
 answering : {d : Answer} → HasNumber d → Answering (λ r. r ≡ d)
@@ -365,9 +365,9 @@ demand-1 =
             numbered = λ r p. rw (profile-verdict-so m _ (p .2)) (profile-verdict-told m);
           };
       spans = λ m table. lending (spans-told m (length table)) (after-refusal (spansOf m (length table)) (rowsOf m) table);
-      octet-spans = λ m table. lending (spans-told m _) (octets-kept (octetSpans m (length table)) _ table);
+      octet-spans = λ m table. lending (spans-told m _) (octets-kept _ (octetSpans m (length table)) _ table);
       order = λ m table. lending (order-told m (length table)) (after-refusal (orderAnswer m (length table)) (orderRowsOf m) table);
-      octet-order = λ m table. lending (order-told m _) (octets-kept (octetOrder m (length table)) _ table);
+      octet-order = λ m table. lending (order-told m _) (octets-kept _ (octetOrder m (length table)) _ table);
       write = λ q room. lending (writing-told q (length room)) (after-refusal (writingOf q (length room)) _ room);
       edit = λ e d n. lending (editing-told e d n) (λ k q f. buffer-refused e d n k q f);
       octet-charging = λ m room. lending (octet-charging-told m (length room)) (after-refusal (octetCharging m (length room)) _ room);
@@ -382,13 +382,13 @@ demand-1 =
       tk-read = λ m room. packed-lending (read-image-told m (length room)) (after-refusal (imageReading m (length room)) _ room);
       tk-write = λ image room.
           packed-lending (write-image-told image (length room)) (after-refusal (imageWriting image (length room)) _ room);
-      tk-rows = λ m table. packed-lending (spans-told m _) (octets-kept (octetSpans m (length table)) _ table);
+      tk-rows = λ m table. packed-lending (spans-told m _) (octets-kept _ (octetSpans m (length table)) _ table);
       tk-find-common = λ m h. packed-answering (length-number (findAnswer m (commonFound h m)) _);
       tk-find-transfer = λ m x which. packed-answering (length-number (findAnswer m (transferFound x which m)) _);
       tk-class = λ h x. packed-answering (class-number (classOf h x));
       tk-charging = λ m room.
           packed-lending (octet-charging-told m (length room)) (after-refusal (octetCharging m (length room)) _ room);
-      tk-order = λ m table. packed-lending (order-told m _) (octets-kept (octetOrder m (length table)) _ table);
+      tk-order = λ m table. packed-lending (order-told m _) (octets-kept _ (octetOrder m (length table)) _ table);
       tk-profile-read = λ m room.
           packed-lending (profile-image-reading-told m (length room)) (after-refusal (profileImageReading m (length room)) _ room);
       tk-profile-write = λ image room.

@@ -82,7 +82,7 @@ fn counted_octets(header: u8) -> Asked
 {
     let carried = Form::Checked(Check::Nothing);
     match header {
-        Transfer::CARRIERS => listed(0x00, carried),
+        Transfer::CARRIERS => listed(0x00, Form::Checked(Check::Carriers)),
         Transfer::CALLED_IN_NUMBER => listed(0x00, carried),
         Transfer::TEST_CALL => listed(0x00, carried),
         Transfer::FORWARD_CALL => listed(0x00, Form::Checked(Check::Two(0x08))),

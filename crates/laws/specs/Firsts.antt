@@ -33,6 +33,20 @@ use Rattle.annex.specs.Orders.{
   parametersFault,
   orderFault,
 }
+use Rattle.annex.specs.Carriers.{
+  holdsCode,
+  entrySize,
+  entriesIn,
+  insideOf,
+  insideAt,
+  entriesFault,
+  codeCount,
+  codeFault,
+  dependentFault,
+  carrierFault,
+  carriersFormed,
+  carriersFault,
+}
 use Rattle.annex.specs.Contents.{
   presentationOf,
   callingFault,
@@ -44,7 +58,7 @@ use Rattle.annex.specs.Contents.{
   faultBy,
   faultOf,
 }
-use Rattle.annex.specs.Walk.{parOf, pars}
+use Rattle.annex.specs.Walk.{Par, Size, parOf, pars}
 use Rattle.annex.specs.BadHalves.{
   Good,
   unread,
@@ -57,8 +71,13 @@ use Rattle.annex.specs.BadHalves.{
   genericGood,
   chargingGood,
   layoutGood,
-  parametersGood,
+  parsGood,
+  parameterGood,
   orderGood,
+  codeGood,
+  dependentGood,
+  carrierGood,
+  carriersGood,
   checkGood,
   goodBy,
   badAt,
@@ -69,7 +88,7 @@ use Rattle.annex.specs.declared.HalfOctets.{HalfOctets}
 use Rattle.annex.specs.declared.Alphabet.{Alphabet}
 use Rattle.annex.specs.declared.Alphabet.the-variants.{Dialled, Numbered, Decimal}
 use Rattle.annex.specs.declared.Check.{Check}
-use Rattle.annex.specs.declared.Check.the-variants.{Nothing, Long, Two, Charging, Order}
+use Rattle.annex.specs.declared.Check.the-variants.{Nothing, Long, Two, Charging, Order, Carriers}
 use Rattle.annex.specs.declared.Drawn.{Drawn}
 use Rattle.annex.specs.declared.Drawn.the-variants.{Whole}
 use Rattle.annex.specs.declared.Fault.{Fault}
@@ -89,6 +108,7 @@ use Rattle.annex.specs.declared.OrderLayout.the-variants.{
   WaitingTime,
 }
 use Rattle.laws.specs.Bools.{and-left, and-right}
+use Rattle.laws.specs.Entries.{entry-size}
 use Rattle.laws.specs.Halves.{first-left, half-turn}
 use Rattle.laws.specs.Orders.{after-some}
 
@@ -125,16 +145,33 @@ fewer z n j y = rw (less (2 * j) (2 * suc j) (omega arith), less (2 * j + 1) (2 
         go true t = lt-ltb k n (omega (arith, ltb-true i (n - 2) t))
         go false t = le-ltb k n (omega (arith, ltb-false i (n - 2) t))
 
--- octets before the first parameter
-early-good : (at j y : ℕ) (xs : List ℕ) → j < at → parametersGood (pars orderSize 0 at xs) j y ≡ true
-unfolding pars parametersGood
-early-good at j y [] l = refl
-early-good at j y (x ∷ xs) l = go (leb (orderSize x xs) (length xs))
+-- octets before the first parameter or entry, if they are good by it
+early-good : (size : Size) (G : Par → Good) → ((q : Par) (j y : ℕ) → j < q .place → G q j y ≡ true)
+    → (at j y : ℕ) (xs : List ℕ) → j < at → parsGood G (pars size 0 at xs) j y ≡ true
+unfolding pars parsGood
+early-good size G u at j y [] l = refl
+early-good size G u at j y (x ∷ xs) l = go (leb (size x xs) (length xs))
   where
-    go : (b : Bool)
-        → parametersGood (cond b (parOf at x (orderSize x xs) xs ∷ pars orderSize (orderSize x xs) (at + 1) xs) []) j y ≡ true
-    go true = rw (le-leb j (at + length (take (orderSize x xs) xs)) (omega arith), lt-ltb j (at + 1) (omega arith))
+    n : ℕ
+    n = size x xs
+
+    go : (b : Bool) → parsGood G (cond b (parOf at x n xs ∷ pars size n (at + 1) xs) []) j y ≡ true
+    go true = rw (le-leb j (at + length (take n xs)) (omega arith)) (u (parOf at x n xs) j y l)
     go false = refl
+
+-- before a parameter of an order, and before an entry of either level
+parameter-early : (q : Par) (j y : ℕ) → j < q .place → parameterGood q j y ≡ true
+parameter-early q j y l = rw (lt-ltb j (q .place + 1) (omega arith))
+
+dependent-early : (q : Par) (j y : ℕ) → j < q .place → dependentGood q j y ≡ true
+dependent-early q j y l = go (holdsCode (q .head))
+  where
+    go : (b : Bool) → cond b (behind (insideAt q) (codeGood (insideOf q))) unread j y ≡ true
+    go true = rw (lt-ltb j (insideAt q) (omega arith))
+    go false = refl
+
+carrier-early : (q : Par) (j y : ℕ) → j < q .place → carrierGood q j y ≡ true
+carrier-early q j y l = early-good entrySize dependentGood dependent-early (insideAt q) j y (insideOf q) (omega arith)
 
 -- ---- what a fault shows of the octets from a to b
 
@@ -328,7 +365,7 @@ module _ (good : ℕ → Bool) (size : ℕ) where
 
   -- the octets from behind the one before on are good as the parameters say
   abbrev InParameters : ℕ → ℕ → List ℕ → Type 0
-  InParameters k at xs = (j : ℕ) → at + k ≤ j → j < at + length xs → good j ≡ parametersGood (pars orderSize k at xs) j (getD xs (j - at) 0)
+  InParameters k at xs = (j : ℕ) → at + k ≤ j → j < at + length xs → good j ≡ parsGood parameterGood (pars orderSize k at xs) j (getD xs (j - at) 0)
 
   -- 12 and 19 show nothing, whatever follows
   cut-shown : 0 < size → (a b : ℕ) (t : Bool) (g : Fault) → Shows good size a b (faultThen (faultThen (ordered t) (Bad bad-form 0)) g)
@@ -341,7 +378,7 @@ module _ (good : ℕ → Bool) (size : ℕ) where
 
   parameters-shown : 0 < size → (form : ℕ) (before : List ℕ) (k at : ℕ) (xs : List ℕ) → InParameters k at xs
       → Shows good size (at + k) (at + length xs) (parametersFault form before k at xs)
-  unfolding parametersFault parameterFault ownFault pars parametersGood
+  unfolding parametersFault parameterFault ownFault pars parsGood
   parameters-shown m form before k at [] g = all-good (at + k) (at + 0) (λ j p q. absurd (omega arith))
   parameters-shown m form before (suc k) at (x ∷ xs) g =
       let start : at + 1 + k ≡ at + suc k = omega arith in
@@ -359,7 +396,7 @@ module _ (good : ℕ → Bool) (size : ℕ) where
 
       go : (b : Bool) → leb n (length xs) ≡ b
           → ((j : ℕ) → at + 0 ≤ j → j < at + suc (length xs)
-          → good j ≡ parametersGood (cond b (parOf at x n xs ∷ pars orderSize n (at + 1) xs) []) j (getD (x ∷ xs) (j - at) 0))
+          → good j ≡ parsGood parameterGood (cond b (parOf at x n xs ∷ pars orderSize n (at + 1) xs) []) j (getD (x ∷ xs) (j - at) 0))
           → ((before : List ℕ) → InParameters n (at + 1) xs
           → Shows good size (at + 1 + n) (at + 1 + length xs) (parametersFault form before n (at + 1) xs))
           → Shows good size (at + 0) (at + suc (length xs))
@@ -413,16 +450,159 @@ module _ (good : ℕ → Bool) (size : ℕ) where
   order-shown (form ∷ xs) m g =
       let end : 1 + length xs ≡ 0 + suc (length xs) = omega arith in
       then-shown 0 1 (0 + suc (length xs)) (omega arith) (omega arith) _ _
-      (ordered-shown (omega arith) 0 1 (among form orderForms) (λ j p q. told j (omega arith) ∙ early-good 1 j _ xs q))
+      (ordered-shown (omega arith) 0 1 (among form orderForms) (λ j p q. told j (omega arith) ∙ early-good orderSize parameterGood parameter-early 1 j _ xs q))
       (rw end at (parameters-shown (omega arith) form [] 0 1 xs behind-form))
     where
-      told : (j : ℕ) → j < suc (length xs) → good j ≡ parametersGood (pars orderSize 0 1 xs) j (getD (form ∷ xs) j 0)
+      told : (j : ℕ) → j < suc (length xs) → good j ≡ parsGood parameterGood (pars orderSize 0 1 xs) j (getD (form ∷ xs) j 0)
       told j l = let same : 0 + j ≡ j = omega arith in rw same at (g j l)
 
       behind-form : InParameters 0 1 xs
       behind-form j p q =
           let next : j ≡ suc (j - 1) = omega arith in
-          told j (omega arith) ∙ ap (λ (i : ℕ). parametersGood (pars orderSize 0 1 xs) j (getD (form ∷ xs) i 0)) next
+          told j (omega arith) ∙ ap (λ (i : ℕ). parsGood parameterGood (pars orderSize 0 1 xs) j (getD (form ∷ xs) i 0)) next
+
+  -- ---- carriers
+
+  -- the octets from behind the one before on are good as entries say
+  abbrev InEntries : (Par → Good) → ℕ → ℕ → List ℕ → Type 0
+  InEntries G k at xs = (j : ℕ) → at + k ≤ j → j < at + length xs → good j ≡ parsGood G (pars entrySize k at xs) j (getD xs (j - at) 0)
+
+  -- the octets of an entry, its tag among them, are good as it says
+  abbrev InEntry : (Par → Good) → Par → Type 0
+  InEntry G q = (j : ℕ) → q .place ≤ j → j < q .place + 1 + length (q .own) → good j ≡ G q j (getD (q .head ∷ q .own) (j - q .place) 0)
+
+  -- what is wrong with each entry is shown, and so it is of all
+  entries-shown : (fault : Par → Fault) (G : Par → Good)
+      → ((q : Par) → 0 < length (q .own) → InEntry G q → Shows good size (q .place) (q .place + 1 + length (q .own)) (fault q))
+      → (k at : ℕ) (xs : List ℕ) → InEntries G k at xs
+      → Shows good size (at + k) (at + length xs) (entriesFault fault (pars entrySize k at xs))
+  unfolding pars parsGood entriesFault
+  entries-shown fault G each k at [] g = all-good (at + k) (at + 0) (λ j p q. absurd (omega arith))
+  entries-shown fault G each (suc k) at (x ∷ xs) g =
+      let start : at + 1 + k ≡ at + suc k = omega arith in
+      let end : at + 1 + length xs ≡ at + suc (length xs) = omega arith in
+      rw (start, end) at
+      (entries-shown fault G each k (at + 1) xs
+      (λ j p q.
+      let next : j - at ≡ suc (j - (at + 1)) = omega arith in
+      g j (omega arith) (omega arith) ∙ rw next))
+  entries-shown fault G each zero at (x ∷ xs) g =
+      go (leb n (length xs)) refl g (entries-shown fault G each n (at + 1) xs)
+    where
+      n : ℕ
+      n = entrySize x xs
+
+      go : (b : Bool) → leb n (length xs) ≡ b
+          → ((j : ℕ) → at + 0 ≤ j → j < at + suc (length xs)
+          → good j ≡ parsGood G (cond b (parOf at x n xs ∷ pars entrySize n (at + 1) xs) []) j (getD (x ∷ xs) (j - at) 0))
+          → (InEntries G n (at + 1) xs → Shows good size (at + 1 + n) (at + 1 + length xs) (entriesFault fault (pars entrySize n (at + 1) xs)))
+          → Shows good size (at + 0) (at + suc (length xs)) (entriesFault fault (cond b (parOf at x n xs ∷ pars entrySize n (at + 1) xs) []))
+      go false e g ih = all-good (at + 0) (at + suc (length xs)) (λ j p q. g j p q)
+      go true e g ih =
+          then-shown (at + 0) (at + 1 + n) (at + suc (length xs)) (omega arith) (omega (arith, within)) _ _
+          (front-shown (at + 0) at (at + 1 + n) (omega arith) (omega arith) _ (λ j p l. absurd (omega arith))
+          (rw long at (each q (omega (arith, long, entry-size x xs)) inside)))
+          (rw end at (ih later))
+        where
+          q : Par
+          q = parOf at x n xs
+
+          within : n ≤ length xs
+          within = leb-true n (length xs) e
+
+          long : length (q .own) ≡ n
+          long = length-take-le n xs within
+
+          end : at + 1 + length xs ≡ at + suc (length xs)
+          end = omega arith
+
+          octet : (j : ℕ) → j < suc n → getD (x ∷ xs) j 0 ≡ getD (x ∷ q .own) j 0
+          octet zero l = refl
+          octet (suc j) l = sym (getD-take n xs j 0 (omega arith))
+
+          inside : InEntry G q
+          inside j p l =
+              g j (omega arith) (omega (arith, within, long))
+              ∙ rw (le-leb j (at + length (q .own)) (omega arith), octet (j - at) (omega (arith, long)))
+
+          later : InEntries G n (at + 1) xs
+          later j p l =
+              let next : j - at ≡ suc (j - (at + 1)) = omega arith in
+              g j (omega arith) (omega arith) ∙ rw (lt-leb j (at + length (q .own)) (omega (arith, long)), next)
+
+  -- a code: what stands before its digits is unread
+  code-shown : (at : ℕ) (s : List ℕ) → Agrees at (codeGood s) s → Shows good size at (at + length s) (codeFault at s)
+  unfolding codeFault digitsFault halvesFault halves
+  code-shown at [] g = all-good at (at + 0) (λ j p q. absurd (omega arith))
+  code-shown at (x ∷ s) g =
+      let n = codeCount (x ∷ s) in
+      behind-shown at 1 (digitsGood Decimal n) (x ∷ s) _ (omega arith) g (digits-shown Decimal n (at + 1) s)
+
+  -- an entry's octets behind its length octet
+  own-octet : (q : Par) (j : ℕ) → getD (q .head ∷ q .own) (q .place + 2 + j - q .place) 0 ≡ getD (insideOf q) j 0
+  own-octet q j =
+      let e : q .place + 2 + j - q .place ≡ suc (1 + j) = omega arith in
+      rw e (sym (getD-drop 1 (q .own) j 0))
+
+  inside-end : (q : Par) → 0 < length (q .own) → q .place + 2 + length (insideOf q) ≡ q .place + 1 + length (q .own)
+  inside-end q l = omega (arith, length-drop 1 (q .own))
+
+  dependent-shown : (q : Par) → 0 < length (q .own) → InEntry dependentGood q
+      → Shows good size (q .place) (q .place + 1 + length (q .own)) (dependentFault q)
+  dependent-shown q l g = go (holdsCode (q .head)) g
+    where
+      n : ℕ
+      n = q .place + 1 + length (q .own)
+
+      go : (b : Bool)
+          → ((j : ℕ) → q .place ≤ j → j < n
+          → good j ≡ cond b (behind (insideAt q) (codeGood (insideOf q))) unread j (getD (q .head ∷ q .own) (j - q .place) 0))
+          → Shows good size (q .place) n (cond b (codeFault (insideAt q) (insideOf q)) Sound)
+      go false g = all-good (q .place) n g
+      go true g =
+          front-shown (q .place) (insideAt q) n (omega arith) (omega arith) _
+          (λ j a b. g j a (omega arith) ∙ rw (lt-ltb j (insideAt q) b))
+          (rw (inside-end q l) at (code-shown (insideAt q) (insideOf q) agrees))
+        where
+          agrees : Agrees (insideAt q) (codeGood (insideOf q)) (insideOf q)
+          agrees j m =
+              let less : insideAt q + j - insideAt q ≡ j = omega arith in
+              g (insideAt q + j) (omega arith) (omega (arith, inside-end q l))
+              ∙ rw (le-ltb (insideAt q + j) (insideAt q) (omega arith), less, own-octet q j)
+
+  carrier-shown : (q : Par) → 0 < length (q .own) → InEntry carrierGood q
+      → Shows good size (q .place) (q .place + 1 + length (q .own)) (carrierFault q)
+  carrier-shown q l g =
+      front-shown (q .place) (insideAt q) (q .place + 1 + length (q .own)) (omega arith) (omega arith) _
+      (λ j a b. g j a (omega arith) ∙ early-good entrySize dependentGood dependent-early (insideAt q) j _ (insideOf q) b)
+      (rw (start, inside-end q l) at (entries-shown dependentFault dependentGood dependent-shown 0 (insideAt q) (insideOf q) agrees))
+    where
+      start : insideAt q + 0 ≡ insideAt q
+      start = omega arith
+
+      agrees : InEntries dependentGood 0 (insideAt q) (insideOf q)
+      agrees j a b =
+          let same : q .place + 2 + (j - insideAt q) ≡ j = omega arith in
+          g j (omega arith) (omega (arith, inside-end q l))
+          ∙ ap (λ (x : ℕ). carrierGood q j x) (rw same at (own-octet q (j - insideAt q)))
+
+  carriers-shown : (s : List ℕ) → Agrees 0 (carriersGood s) s → Shows good size 0 (0 + length s) (carriersFault s)
+  unfolding carriersFault carriersFormed
+  carriers-shown [] g = form-shown 0 0
+  carriers-shown (d ∷ xs) g =
+      let end : 1 + length xs ≡ 0 + suc (length xs) = omega arith in
+      formed-shown 0 (0 + suc (length xs)) (carriersFormed (d ∷ xs)) _
+      (λ t. front-shown 0 1 (0 + suc (length xs)) (omega arith) (omega arith) _
+      (λ j p q. told j (omega arith) ∙ early-good entrySize carrierGood carrier-early 1 j _ xs q)
+      (rw end at (entries-shown carrierFault carrierGood carrier-shown 0 1 xs behind-direction)))
+    where
+      told : (j : ℕ) → j < suc (length xs) → good j ≡ parsGood carrierGood (entriesIn 1 xs) j (getD (d ∷ xs) j 0)
+      told j l = let same : 0 + j ≡ j = omega arith in rw same at (g j l)
+
+      behind-direction : InEntries carrierGood 0 1 xs
+      behind-direction j p q =
+          let next : j ≡ suc (j - 1) = omega arith in
+          told j (omega arith) ∙ ap (λ (i : ℕ). parsGood carrierGood (entriesIn 1 xs) j (getD (d ∷ xs) i 0)) next
 
   -- ---- contents
 
@@ -450,6 +630,7 @@ module _ (good : ℕ → Bool) (size : ℕ) where
   check-shown (Two mask) s m g = unread-shown 0 s (eqb (length s) 2 && clear mask (getD s 1 0)) g
   check-shown Charging s m g = charging-shown s m g
   check-shown Order s m g = order-shown s m g
+  check-shown Carriers s m g = carriers-shown s g
 
   dialled-shown : (s : List ℕ) → Agrees 0 (dialledGood s) s → Shows good size 0 (0 + length s) (dialledFault s)
   unfolding dialledFault digitsFault halvesFault halves

@@ -21,6 +21,7 @@ pub mod Numbers
 pub mod Drawings
 pub mod Orders
 pub mod Leaves
+pub mod Entries
 pub mod Firsts
 pub mod Offsets
 pub mod Laid

@@ -8,6 +8,7 @@ use annex::HalfOctets;
 use annex::Transfer;
 use digits::judging::digits_fault;
 use digits::numbers::number_fault;
+use entries::judging::carriers_fault;
 use heads::head_of;
 use octets::octet_at;
 use orders::judging::order_fault;
@@ -78,6 +79,7 @@ fn check_fault(check: Check, s: &[u8]) -> Fault
         Check::Two(mask) => two_fault(mask, s),
         Check::Charging => charging_fault(s),
         Check::Order => order_fault(s),
+        Check::Carriers => carriers_fault(s),
     }
 }
 

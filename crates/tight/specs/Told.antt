@@ -71,6 +71,18 @@ use Rattle.annex.specs.Orders.{
   parametersFault,
   orderFault,
 }
+use Rattle.annex.specs.Carriers.{
+  holdsCode,
+  insideOf,
+  entriesFault,
+  codeFault,
+  dependentFault,
+  dependentsIn,
+  carrierFault,
+  carriersIn,
+  carriersFormed,
+  carriersFault,
+}
 use Rattle.annex.specs.Contents.{
   presentationOf,
   callingFault,
@@ -99,7 +111,7 @@ use Rattle.annex.specs.Allowed.{
   namesOf,
   timesIn,
 }
-use Rattle.annex.specs.Walk.{Seen, unseen, timesSeen, counted, Step, walk, judging, byStep}
+use Rattle.annex.specs.Walk.{Seen, unseen, timesSeen, counted, Par, Step, walk, judging, byStep}
 use Rattle.annex.specs.Reading.{
   octetAllowed,
   commonForm,
@@ -163,7 +175,7 @@ use Rattle.annex.specs.declared.Answer.the-variants.{Accepted, Refused}
 use Rattle.annex.specs.declared.ChargingAnswer.{ChargingAnswer}
 use Rattle.annex.specs.declared.ChargingAnswer.the-variants as chargings
 use Rattle.annex.specs.declared.Check.{Check}
-use Rattle.annex.specs.declared.Check.the-variants.{Nothing, Long, Two, Charging, Order}
+use Rattle.annex.specs.declared.Check.the-variants.{Nothing, Long, Two, Charging, Order, Carriers}
 use Rattle.annex.specs.declared.Class.{Class}
 use Rattle.annex.specs.declared.ClassAnswer.{ClassAnswer}
 use Rattle.annex.specs.declared.ClassAnswer.the-variants as classes
@@ -307,6 +319,22 @@ order-fault-told [] = omega arith
 order-fault-told (form ∷ xs) =
     faulted (ordered (among form orderForms)) _ (ordered-told (among form orderForms)) (parameters-told form [] 0 1 xs)
 
+-- carriers: the digits of entries, at either level
+entries-told : (fault : Par → Fault) → ((q : Par) → FaultHasNumber (fault q)) → (qs : List Par) → FaultHasNumber (entriesFault fault qs)
+unfolding entriesFault
+entries-told fault each [] = record {}
+entries-told fault each (q ∷ qs) = faulted (fault q) _ (each q) (entries-told fault each qs)
+
+dependent-told : (q : Par) → FaultHasNumber (dependentFault q)
+unfolding codeFault digitsFault
+dependent-told q = one-of (holdsCode (q .head)) _ Sound (halves-told Decimal _ _ (halves (drop 1 (insideOf q)))) (record {})
+
+carriers-fault-told : (s : List ℕ) → FaultHasNumber (carriersFault s)
+unfolding carriersFault
+carriers-fault-told s =
+    formed (carriersFormed s) _
+    (entries-told carrierFault (λ q. entries-told dependentFault dependent-told (dependentsIn q)) (carriersIn s))
+
 check-told : (c : Check) (s : List ℕ) → FaultHasNumber (checkFault c s)
 unfolding twoFault chargingFault
 check-told Nothing s = record {}
@@ -317,6 +345,7 @@ check-told Charging s =
     (faulted (drawnFault 2 (drawnFor (kindIn s)) (fieldOctets s)) _ (drawn-told 2 (drawnFor (kindIn s)) (fieldOctets s))
     (one-of (checkRight (kindIn s) (fieldOctets s)) Sound _ (record {}) (omega arith)))
 check-told Order s = order-fault-told s
+check-told Carriers s = carriers-fault-told s
 
 form-told : (f : Form) (s : List ℕ) → FaultHasNumber (faultBy f s)
 unfolding dialledFault digitsFault callingFault genericFault
