@@ -30,5 +30,6 @@ pub mod Headed
 pub mod InPlace
 pub mod Charged
 pub mod Ordered
+pub mod Carried
 pub mod Shown
 pub mod Profiles

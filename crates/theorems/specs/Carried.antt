@@ -1,0 +1,278 @@
+-- Carriers (CC): what is sound opens to carriers that may be said and that lay out to it; carriers that may be said, laid out, are sound and
+-- says to themselves. Both are shown once for a level of entries, and hold of the two. And the rows of a message's carriers, with the
+-- digits of their codes: those of what its contents say.
+use Prim.Native.Nat.{ℕ, zero, suc, _+_, _*_, _≤_}
+use native.Mathlib.Omega.{arith}
+use mathlib.Core.Path.{_≡_, refl, sym, ap, _∙_}
+use mathlib.Core.Bool.{Bool, true, false, cond, not, _&&_}
+use mathlib.Core.List.{List, [], _∷_, _++_, map, append-assoc}
+use mathlib.Core.Logic.{_↔_}
+use borrow.Author.Tests.{eqb-true, eqb-false, eq-eqb, ne-eqb, leb-true, le-leb, not-true}
+use lib.Dec.{eqb, leb}
+use lib.ListN.{length, getD, take, drop, length-append}
+use lib.Seq.{take-append-seam, drop-append-seam}
+use Rattle.annex.specs.Allowed.{every, Each}
+use Rattle.annex.specs.Answers.{faultThen}
+use Rattle.annex.specs.Carriers.{
+  most-direction,
+  lowest-carrier,
+  lowest-dependent,
+  isTag,
+  holdsCode,
+  entrySize,
+  entriesIn,
+  insideOf,
+  insideAt,
+  octetsIn,
+  entriesRight,
+  entriesFormed,
+  entriesFault,
+  codeFormed,
+  codeFault,
+  codeDigits,
+  dependentFormed,
+  dependentFault,
+  carrierFormed,
+  carrierFault,
+  carriersFormed,
+  carriersFault,
+  dependentsIn,
+  carriersIn,
+}
+use Rattle.annex.specs.Digits.{isDigitIn}
+use Rattle.annex.specs.Transit.{
+  Dependent,
+  Carrier,
+  OpenedCarriers,
+  dependentRight,
+  carrierRight,
+  carriersRight,
+  layEntry,
+  layAll,
+  codeOctets,
+  dependentOctets,
+  layDependent,
+  layCarrier,
+  layCarriers,
+  openDependent,
+  openCarrier,
+  openedCarriers,
+}
+use Rattle.annex.specs.Walk.{Par, pars}
+use Rattle.annex.specs.declared.Alphabet.the-variants.{Decimal}
+use Rattle.annex.specs.declared.Fault.{Fault}
+use Rattle.annex.specs.declared.Fault.the-variants.{Sound}
+use Rattle.laws.specs.Bools.{and-left, and-right, and-both}
+use Rattle.laws.specs.Entries.{entry-size, rawEntry, Counts, entries-count, entries-all, code-open, code-closed}
+use Rattle.laws.specs.Faults.{then-sound, then-both}
+use Rattle.laws.specs.Plain.{pars-head}
+
+-- ---- a level: from octets to what they say
+
+-- what is shown of one entry is shown of all
+module _
+    {A : Type 0}
+    (says : Par → A)
+    (lay : A → List ℕ)
+    (good : A → Bool)
+    (lowest : ℕ)
+    (right : Par → Bool)
+    (fault : Par → Fault)
+    (one : (q : Par) → Counts q → isTag lowest (q .head) ≡ true → right q ≡ true → fault q ≡ Sound
+    → (lay (says q) ≡ rawEntry q) × (good (says q) ≡ true))
+  where
+    all-open : (qs : List Par) → Each Counts qs → entriesRight lowest right qs ≡ true → entriesFault fault qs ≡ Sound
+        → (layAll lay (map says qs) ≡ layAll rawEntry qs) × (every good (map says qs) ≡ true)
+    unfolding entriesFault
+    all-open [] c r f = (refl, refl)
+    all-open (q ∷ qs) c r f =
+        let tag = isTag lowest (q .head) in
+        let here = and-left (tag && right q) (entriesRight lowest right qs) r in
+        let g = then-both (fault q) (entriesFault fault qs) f in
+        let w = one q (c .0) (and-left tag (right q) here) (and-right tag (right q) here) (g .0) in
+        let ih = all-open qs (c .1) (and-right (tag && right q) (entriesRight lowest right qs) r) (g .1) in
+        (rw (w .0, ih .0), and-both (good (says q)) _ (w .1) (ih .1))
+
+    pub level-open : (at : ℕ) (xs : List ℕ) → entriesFormed lowest right at xs ≡ true → entriesFault fault (entriesIn at xs) ≡ Sound
+        → (layAll lay (map says (entriesIn at xs)) ≡ xs) × (every good (map says (entriesIn at xs)) ≡ true)
+    unfolding entriesFormed
+    level-open at xs r f =
+        let qs = entriesIn at xs in
+        let closed = eqb (octetsIn qs) (length xs) in
+        let e = eqb-true (octetsIn qs) (length xs) (and-left closed (entriesRight lowest right qs) r) in
+        let w = all-open qs (entries-count 0 at xs) (and-right closed (entriesRight lowest right qs) r) f in
+        (w .0 ∙ entries-all at xs e, w .1)
+
+-- ---- and from what may be said to octets
+
+-- an entry with the tag t that holds s, laid out at p
+abbrev laidAt : ℕ → ℕ → List ℕ → Par
+laidAt p t s = record { place = p; head = t; own = length s ∷ s }
+
+-- it is the first of the octets that it starts
+first-laid : (p t : ℕ) (s rest : List ℕ) → entriesIn p (layEntry t s ++ rest) ≡ laidAt p t s ∷ entriesIn (p + 2 + length s) rest
+first-laid p t s rest =
+    let xs = length s ∷ (s ++ rest) in
+    let n : suc (length s) ≡ entrySize t xs = omega (arith, entry-size t xs) in
+    let long : suc (length s) ≤ length xs = simp length-append (omega arith) in
+    let far : p + 1 + suc (length s) ≡ p + 2 + length s = omega arith in
+    pars-head entrySize p t (suc (length s)) xs n long
+    ∙ rw (take-append-seam s rest, drop-append-seam s rest, far)
+
+module _
+    {A : Type 0}
+    (tag : A → ℕ)
+    (octets : A → List ℕ)
+    (says : Par → A)
+    (good : A → Bool)
+    (lowest : ℕ)
+    (right : Par → Bool)
+    (fault : Par → Fault)
+  where
+    -- what one that may be said is, laid out
+    pub record Laid (a : A) (q : Par) : Type 0 where
+      pub tagged : isTag lowest (tag a) ≡ true
+      pub right-here : right q ≡ true
+      pub sound : fault q ≡ Sound
+      pub opens : says q ≡ a
+
+    abbrev lay : A → List ℕ
+    lay a = layEntry (tag a) (octets a)
+
+    abbrev lays : List A → List ℕ
+    lays = layAll lay
+
+    module _ (one : (a : A) (p : ℕ) → good a ≡ true → Laid a (laidAt p (tag a) (octets a))) where
+      pub record AllLaid (at : ℕ) (es : List A) : Type 0 where
+        pub closed : octetsIn (entriesIn at (lays es)) ≡ length (lays es)
+        pub rights : entriesRight lowest right (entriesIn at (lays es)) ≡ true
+        pub sounds : entriesFault fault (entriesIn at (lays es)) ≡ Sound
+        pub open-all : map says (entriesIn at (lays es)) ≡ es
+
+      all-laid : (at : ℕ) (es : List A) → every good es ≡ true → AllLaid at es
+      unfolding entriesFault pars
+      all-laid at [] g = record { closed = refl; rights = refl; sounds = refl; open-all = refl }
+      all-laid at (a ∷ es) g =
+          let s = octets a in
+          let first = first-laid at (tag a) s (lays es) in
+          let w = one a at (and-left (good a) (every good es) g) in
+          let ih = all-laid (at + 2 + length s) es (and-right (good a) (every good es) g) in
+          record {
+            closed = rw first (simp length-append (omega (arith, ih .closed)));
+            rights = rw (first, w .tagged, w .right-here) (ih .rights);
+            sounds = rw (first, w .sound) (ih .sounds);
+            open-all = rw (first, w .opens, ih .open-all);
+          }
+
+      pub level-laid : (at : ℕ) (es : List A) → every good es ≡ true
+          → (entriesFormed lowest right at (lays es) ≡ true) × (entriesFault fault (entriesIn at (lays es)) ≡ Sound)
+          × (map says (entriesIn at (lays es)) ≡ es)
+      unfolding entriesFormed
+      level-laid at es g =
+          let w = all-laid at es g in
+          (rw (eq-eqb (octetsIn (entriesIn at (lays es))) (length (lays es)) (w .closed)) (w .rights), w .sounds, w .open-all)
+
+-- ---- the two levels
+
+-- a dependent entry of the right form, with nothing wrong in its digits
+dependent-open : (q : Par) → Counts q → isTag lowest-dependent (q .head) ≡ true → dependentFormed q ≡ true → dependentFault q ≡ Sound
+    → (layDependent (openDependent q) ≡ rawEntry q) × (dependentRight (openDependent q) ≡ true)
+dependent-open q c t r f = go (holdsCode (q .head)) refl r f
+  where
+    go : (b : Bool) → holdsCode (q .head) ≡ b → cond b (codeFormed (insideOf q)) true ≡ true
+        → cond b (codeFault (insideAt q) (insideOf q)) Sound ≡ Sound
+        → (layDependent (openDependent q) ≡ rawEntry q) × (dependentRight (openDependent q) ≡ true)
+    go true e u v =
+        let w = code-open (insideAt q) (insideOf q) u v in
+        (rw (e, w .back, ← c), rw (t, e) (w .digits))
+    go false e u v = (rw (e, ← c), rw (t, e))
+
+-- a carrier entry, by those in it
+carrier-open : (q : Par) → Counts q → isTag lowest-carrier (q .head) ≡ true → carrierFormed q ≡ true → carrierFault q ≡ Sound
+    → (layCarrier (openCarrier q) ≡ rawEntry q) × (carrierRight (openCarrier q) ≡ true)
+carrier-open q c t r f =
+    let w =
+    level-open openDependent layDependent dependentRight lowest-dependent dependentFormed dependentFault dependent-open (insideAt q)
+    (insideOf q) r f in
+    (rw (w .0, ← c), rw t (w .1))
+
+-- and one that may be said, laid out
+dependent-laid : (d : Dependent) (p : ℕ) → dependentRight d ≡ true
+    → Laid (λ d. d .tag) dependentOctets openDependent dependentRight lowest-dependent dependentFormed dependentFault d
+    (laidAt p (d .tag) (dependentOctets d))
+dependent-laid d p g = go (holdsCode (d .tag)) refl (and-right tagged _ g)
+  where
+    tagged : Bool
+    tagged = isTag lowest-dependent (d .tag)
+
+    go : (b : Bool) → holdsCode (d .tag) ≡ b → cond b (every (isDigitIn Decimal) (d .values)) true ≡ true
+        → Laid (λ d. d .tag) dependentOctets openDependent dependentRight lowest-dependent dependentFormed dependentFault d
+        (laidAt p (d .tag) (dependentOctets d))
+    go true e h =
+        let w = code-closed (d .values) h in
+        record {
+          tagged = and-left tagged _ g;
+          right-here = rw e (w .formed);
+          sound = rw e (w .sound (p + 2));
+          opens = rw (e, w .digits);
+        }
+    go false e h = record { tagged = and-left tagged _ g; right-here = rw e; sound = rw e; opens = rw e }
+
+-- the dependent entries of one, laid out from p on
+abbrev laidIn : Carrier → List ℕ
+laidIn e = layAll layDependent (e .dependents)
+
+carrier-laid : (e : Carrier) (p : ℕ) → carrierRight e ≡ true
+    → Laid (λ e. e .tag) laidIn openCarrier carrierRight lowest-carrier carrierFormed carrierFault e (laidAt p (e .tag) (laidIn e))
+carrier-laid e p g =
+    let tagged = isTag lowest-carrier (e .tag) in
+    let w =
+    level-laid (λ d. d .tag) dependentOctets openDependent dependentRight lowest-dependent dependentFormed dependentFault dependent-laid
+    (p + 2) (e .dependents) (and-right tagged _ g) in
+    record { tagged = and-left tagged _ g; right-here = w .0; sound = w .1; opens = rw (w .2) }
+
+-- ---- the contents
+
+-- what is sound opens to carriers that may be said, and that lay out to it
+pub sound-carried : (s : List ℕ) → carriersFault s ≡ Sound
+    → (layCarriers (openedCarriers s) ≡ s) × (carriersRight (openedCarriers s) ≡ true)
+unfolding carriersFault carriersFormed layCarriers openedCarriers carriersRight
+sound-carried [] e = absurd (let z : _≡_ {A = ℕ} 0 1 = cc in omega arith)
+sound-carried (d ∷ xs) e =
+    let low = leb d most-direction in
+    let formed = entriesFormed lowest-carrier carrierFormed 1 xs in
+    let t = then-sound (carriersFormed (d ∷ xs)) (entriesFault carrierFault (entriesIn 1 xs)) e in
+    let r = and-right (not (eqb (suc (length xs)) 0)) (low && formed) (t .0) in
+    let w =
+    level-open openCarrier layCarrier carrierRight lowest-carrier carrierFormed carrierFault carrier-open 1 xs (and-right low formed r)
+    (t .1) in
+    (ap (λ (ys : List ℕ). d ∷ ys) (w .0), and-both low _ (and-left low formed r) (w .1))
+
+-- carriers that may be said, laid out, are sound, and open to themselves
+pub carried-sound : (c : OpenedCarriers) → carriersRight c ≡ true
+    → (carriersFault (layCarriers c) ≡ Sound) × (openedCarriers (layCarriers c) ≡ c)
+unfolding carriersFault carriersFormed layCarriers openedCarriers carriersRight
+carried-sound c e =
+    let low = leb (c .direction) most-direction in
+    let n = length (layAll layCarrier (c .entries)) in
+    let w =
+    level-laid (λ e. e .tag) laidIn openCarrier carrierRight lowest-carrier carrierFormed carrierFault carrier-laid 1 (c .entries)
+    (and-right low _ e) in (
+      rw (ne-eqb (suc n) 0 (λ z. omega arith), and-left low (every carrierRight (c .entries)) e, w .0) (w .1),
+      ap (λ (es : List Carrier). record { direction = c .direction; entries = es }) (w .2),
+    )
+
+-- so contents are sound exactly if some carriers that may be said lay out to them, and they are those that they open to, and no others
+pub record SaysCarriers (s : List ℕ) : Type 0 where
+  pub sound : (carriersFault s ≡ Sound) ↔ ((c : OpenedCarriers) × (carriersRight c ≡ true) × (layCarriers c ≡ s))
+  pub only : (c : OpenedCarriers) → carriersRight c ≡ true → layCarriers c ≡ s → openedCarriers s ≡ c
+
+pub says-carriers : (s : List ℕ) → SaysCarriers s
+says-carriers s =
+    record {
+      sound = (
+        λ e. let t = sound-carried s e in (openedCarriers s, t .1, t .0),
+        λ w. rw (w .2) at (carried-sound (w .0) (w .1) .0),
+      );
+      only = λ c r e. ap openedCarriers (sym e) ∙ carried-sound c r .1;
+    }
