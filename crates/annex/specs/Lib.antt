@@ -33,6 +33,7 @@ pub mod Circles
 pub mod Sequences
 pub mod BadDigits
 pub mod Enquiries
+pub mod Partners
 -- And what the functions give that serve these: no rules of the documents, and no promise of the product rests on them.
 pub mod Walking
 pub mod Ordering
