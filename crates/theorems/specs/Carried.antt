@@ -5,14 +5,18 @@ use Prim.Native.Nat.{ℕ, zero, suc, _+_, _*_, _≤_}
 use native.Mathlib.Omega.{arith}
 use mathlib.Core.Path.{_≡_, refl, sym, ap, _∙_}
 use mathlib.Core.Bool.{Bool, true, false, cond, not, _&&_}
-use mathlib.Core.List.{List, [], _∷_, _++_, map, append-assoc}
+use mathlib.Core.List.{List, [], _∷_, _++_, map, map-append, append-assoc}
 use mathlib.Core.Logic.{_↔_}
 use borrow.Author.Tests.{eqb-true, eqb-false, eq-eqb, ne-eqb, leb-true, le-leb, not-true}
 use lib.Dec.{eqb, leb}
 use lib.ListN.{length, getD, take, drop, length-append}
 use lib.Seq.{take-append-seam, drop-append-seam}
-use Rattle.annex.specs.Allowed.{every, Each}
+use Rattle.annex.specs.Allowed.{every, Each, isOctet}
 use Rattle.annex.specs.Answers.{faultThen}
+use Rattle.annex.specs.Heads.{carriers, zeroesOf, formOf}
+use Rattle.annex.specs.Contents.{faultOf}
+use Rattle.annex.specs.Items.{Item, contentsOf}
+use Rattle.annex.specs.Finding.{findAnswer, findPart}
 use Rattle.annex.specs.Carriers.{
   most-direction,
   lowest-carrier,
@@ -57,15 +61,36 @@ use Rattle.annex.specs.Transit.{
   openDependent,
   openCarrier,
   openedCarriers,
+  Entry,
+  entry,
+  flatEntries,
+  entriesOf,
+  isCodeEntry,
+  digitsIn,
+  entryRow,
+  most-carrier-rows,
+  carriersFound,
+  entriesFound,
+  carrierRowsOf,
+  carriersAnswer,
+  digitsAnswer,
 }
 use Rattle.annex.specs.Walk.{Par, pars}
 use Rattle.annex.specs.declared.Alphabet.the-variants.{Decimal}
+use Rattle.annex.specs.declared.Answer.{Answer}
+use Rattle.annex.specs.declared.Answer.the-variants.{Accepted, Refused}
+use Rattle.annex.specs.declared.CarrierRow.{CarrierRow}
+use Rattle.annex.specs.declared.Check.the-variants.{Carriers}
 use Rattle.annex.specs.declared.Fault.{Fault}
 use Rattle.annex.specs.declared.Fault.the-variants.{Sound}
 use Rattle.laws.specs.Bools.{and-left, and-right, and-both}
 use Rattle.laws.specs.Entries.{entry-size, rawEntry, Counts, entries-count, entries-all, code-open, code-closed}
 use Rattle.laws.specs.Faults.{then-sound, then-both}
+use Rattle.laws.specs.Headers.{none-asked}
+use Rattle.laws.specs.Leaves.{as-they-are}
 use Rattle.laws.specs.Plain.{pars-head}
+use Rattle.theorems.specs.Transfers.{AllowedItem}
+use Rattle.theorems.specs.Headed.{found-held}
 
 -- ---- a level: from octets to what they say
 
@@ -276,3 +301,121 @@ says-carriers s =
       );
       only = λ c r e. ap openedCarriers (sym e) ∙ carried-sound c r .1;
     }
+
+-- ---- the rows of what is said
+
+-- of a dependent entry that stands at the place p of a message, and of a carrier entry
+abbrev pub toldDependent : ℕ → Dependent → CarrierRow
+toldDependent p d =
+    record {
+      level = 2;
+      tag = d .tag;
+      offset = p;
+      len = length (dependentOctets d);
+      digits = cond (holdsCode (d .tag)) (length (d .values)) 0;
+    }
+
+abbrev pub toldCarrier : ℕ → Carrier → CarrierRow
+toldCarrier p e = record { level = 1; tag = e .tag; offset = p; len = length (laidIn e); digits = 0 }
+
+-- of several, one behind the other, each carrier entry before those in it
+unfoldable pub toldDependents : ℕ → List Dependent → List CarrierRow
+toldDependents p [] = []
+toldDependents p (d ∷ ds) = toldDependent p d ∷ toldDependents (p + 2 + length (dependentOctets d)) ds
+
+unfoldable pub toldCarriers : ℕ → List Carrier → List CarrierRow
+toldCarriers p [] = []
+toldCarriers p (e ∷ es) = toldCarrier p e ∷ (toldDependents (p + 2) (e .dependents) ++ toldCarriers (p + 2 + length (laidIn e)) es)
+
+-- of all, the direction's first
+abbrev pub toldRows : ℕ → OpenedCarriers → List CarrierRow
+toldRows p c = record { level = 0; tag = c .direction; offset = p; len = 0; digits = 0 } ∷ toldCarriers (p + 1) (c .entries)
+
+-- and the digits of the codes in these rows, of a row without a code none
+abbrev pub codeOf : Dependent → List ℕ
+codeOf d = cond (holdsCode (d .tag)) (d .values) []
+
+unfoldable pub toldIn : List Carrier → List (List ℕ)
+toldIn [] = []
+toldIn (e ∷ es) = [] ∷ (map codeOf (e .dependents) ++ toldIn es)
+
+abbrev pub toldCodes : OpenedCarriers → List (List ℕ)
+toldCodes c = [] ∷ toldIn (c .entries)
+
+abbrev pub codeIn : Entry → List ℕ
+codeIn e = cond (isCodeEntry e) (digitsIn e) []
+
+-- one dependent entry, laid out: its row and its code
+dependent-row : (d : Dependent) → dependentRight d ≡ true → (s k p : ℕ) → s + k ≡ p →
+    let e = entry 2 (laidAt k (d .tag) (dependentOctets d)) in
+    (entryRow s e ≡ toldDependent p d) × (codeIn e ≡ codeOf d)
+dependent-row d g s k p e = go (holdsCode (d .tag)) refl (and-right (isTag lowest-dependent (d .tag)) _ g)
+  where
+    q : Entry
+    q = entry 2 (laidAt k (d .tag) (dependentOctets d))
+
+    go : (b : Bool) → holdsCode (d .tag) ≡ b → cond b (every (isDigitIn Decimal) (d .values)) true ≡ true
+        → (entryRow s q ≡ toldDependent p d) × (codeIn q ≡ codeOf d)
+    go true f h = let w = code-closed (d .values) h in (rw (f, w .digits, e), rw (f, w .digits))
+    go false f h = (rw (f, e), rw f)
+
+dependents-told : (ds : List Dependent) (s k p : ℕ) → every dependentRight ds ≡ true → s + k ≡ p →
+    let es = map (entry 2) (entriesIn k (layAll layDependent ds)) in
+    (map (entryRow s) es ≡ toldDependents p ds) × (map codeIn es ≡ map codeOf ds)
+unfolding pars toldDependents
+dependents-told [] s k p g e = (refl, refl)
+dependents-told (d ∷ ds) s k p g e =
+    let n = length (dependentOctets d) in
+    let first = first-laid k (d .tag) (dependentOctets d) (layAll layDependent ds) in
+    let w = dependent-row d (and-left (dependentRight d) (every dependentRight ds) g) s k p e in
+    let ih = dependents-told ds s (k + 2 + n) (p + 2 + n) (and-right (dependentRight d) (every dependentRight ds) g) (omega arith) in
+    (rw (first, w .0, ih .0), rw (first, w .1, ih .1))
+
+entries-told : (es : List Carrier) (s k p : ℕ) → every carrierRight es ≡ true → s + k ≡ p →
+    let fs = flatEntries (entriesIn k (layAll layCarrier es)) in
+    (map (entryRow s) fs ≡ toldCarriers p es) × (map codeIn fs ≡ toldIn es)
+unfolding pars flatEntries toldCarriers toldIn
+entries-told [] s k p g e = (refl, refl)
+entries-told (c ∷ es) s k p g e =
+    let n = length (laidIn c) in
+    let first = first-laid k (c .tag) (laidIn c) (layAll layCarrier es) in
+    let here = and-left (carrierRight c) (every carrierRight es) g in
+    let w = dependents-told (c .dependents) s (k + 2) (p + 2) (and-right (isTag lowest-carrier (c .tag)) _ here) (omega arith) in
+    let ih = entries-told es s (k + 2 + n) (p + 2 + n) (and-right (carrierRight c) (every carrierRight es) g) (omega arith) in
+    (rw (first, map-append, w .0, ih .0, e), rw (first, map-append, w .1, ih .1))
+
+-- the entries of carriers that may be said, laid out: their rows and their codes
+pub carriers-told : (c : OpenedCarriers) → carriersRight c ≡ true → (p : ℕ)
+    → (map (entryRow p) (entriesOf (layCarriers c)) ≡ toldRows p c) × (map codeIn (entriesOf (layCarriers c)) ≡ toldCodes c)
+unfolding carriersRight layCarriers entriesOf
+carriers-told c r p =
+    let w = entries-told (c .entries) p 1 (p + 1) (and-right (leb (c .direction) most-direction) _ r) refl in
+    let z : p + 0 ≡ p = omega arith in
+    (rw (z, w .0), rw (w .1))
+
+-- ---- in a message
+
+-- what is wrong with its contents is what is wrong with carriers
+pub carriers-asked : (t : List ℕ) → faultOf carriers t ≡ carriersFault t
+unfolding faultOf formOf zeroesOf
+carriers-asked t = rw (none-asked 0 (getD t 0 0) refl)
+
+-- in a record it is sound, and held as its contents
+pub item-carried : (i : Item) → AllowedItem i → i .header ≡ carriers → (contentsOf i ≡ i .values) × (carriersFault (i .values) ≡ Sound)
+unfolding formOf
+item-carried i a h =
+    let t = as-they-are Carriers i (rw h) in
+    (t .contents, sym (carriers-asked (i .values)) ∙ rw h at (sym (t .fault) ∙ a .faultless))
+
+-- so it is in an accepted message, whichever it is
+pub found-carriers : (which : ℕ) (m : List ℕ) → every isOctet m ≡ true → (n : ℕ) → findAnswer m (carriersFound which m) ≡ Accepted n
+    → carriersFault (findPart m (carriersFound which m)) ≡ Sound
+unfolding formOf
+found-carriers which m o n e =
+    sym (carriers-asked (findPart m (carriersFound which m))) ∙ found-held carriers Carriers refl refl which m o n e .faultless
+
+pub formed-carriers : (which : ℕ) (m : List ℕ) → every isOctet m ≡ true → (n : ℕ) → findAnswer m (carriersFound which m) ≡ Accepted n
+    → carriersFormed (findPart m (carriersFound which m)) ≡ true
+unfolding carriersFault
+formed-carriers which m o n e =
+    then-sound (carriersFormed (findPart m (carriersFound which m))) _ (found-carriers which m o n e) .0

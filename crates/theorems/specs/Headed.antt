@@ -10,23 +10,29 @@ use lib.Dec.{eqb, ltb}
 use lib.ListN.{getD}
 use Rattle.annex.specs.Units.{nameOf}
 use Rattle.annex.specs.Heads.{among, signal-kind, heads, isFree, pliRight, oftenOf, formOf}
-use Rattle.annex.specs.Items.{Item, Part, plainItem, holdingOf, ownOf}
+use Rattle.annex.specs.Contents.{faultOf}
+use Rattle.annex.specs.Items.{Item, Part, plainItem, holdingOf, contentsOf, ownOf}
 use Rattle.annex.specs.Layout.{layout}
-use Rattle.annex.specs.Allowed.{every, timesIn, itemsIn, namesOf, Allowed}
-use Rattle.annex.specs.Finding.{commonFound, transferFound, findPart}
+use Rattle.annex.specs.Allowed.{every, isOctet, timesIn, itemsIn, namesOf, Allowed}
+use Rattle.annex.specs.Reading.{verdictOf, recordOf}
+use Rattle.annex.specs.Finding.{commonFound, transferFound, findAnswer, findPart}
 use Rattle.annex.specs.Profile.{data-enquiry, some, isEnquiry, isHeaded, valuesUnder}
+use Rattle.annex.specs.declared.Answer.the-variants.{Accepted}
 use Rattle.annex.specs.declared.Check.{Check}
+use Rattle.annex.specs.declared.Fault.the-variants.{Sound}
 use Rattle.annex.specs.declared.Form.the-variants.{Checked}
 use Rattle.annex.specs.declared.Found.{Found}
 use Rattle.annex.specs.declared.Found.the-variants.{At, Nowhere}
 use Rattle.laws.specs.Bools.{and-left, and-right}
 use Rattle.laws.specs.Leaves.{as-they-are}
 use Rattle.laws.specs.Members.{among-every}
+use Rattle.laws.specs.Steps.{then-passed}
 use Rattle.theorems.specs.Lists.{times-here, times-rest}
 use Rattle.theorems.specs.Records.{allowed-items, item-allowed, allowed-once}
+use Rattle.theorems.specs.Messages.{read-then-laid}
 use Rattle.theorems.specs.Layouts.{laid-then-read}
 use Rattle.theorems.specs.Named.{choose}
-use Rattle.theorems.specs.Places.{isFound, holds, name-is}
+use Rattle.theorems.specs.Places.{isFound, holds, name-is, name-there, found-at}
 use Rattle.theorems.specs.Finds.{transfer-contents, common-contents}
 
 -- ---- a test of those with a name
@@ -90,6 +96,41 @@ named-alone h e k p n = go (isFree h) refl (rw n at p)
     go false f q =
         let t = among-every one headers (and-right (not (isFree h)) _ e) k q in
         eqb-true k h (rw (n, eq-eqb (nameOf h) (nameOf h) refl) at t)
+
+-- in an accepted message the contents that finding finds under it, where they are held as they are, are those of a parameter of its record,
+-- and nothing is wrong with them
+pub record FoundHeld (h which : ℕ) (m : List ℕ) : Type 0 where
+  pub front : List Item
+  pub one : Item
+  pub back : List Item
+  pub whole : itemsIn (recordOf m) ≡ front ++ (one ∷ back)
+  pub headed : one .header ≡ h
+  pub held : contentsOf one ≡ findPart m (transferFound (nameOf h) which m)
+  pub faultless : faultOf h (findPart m (transferFound (nameOf h) which m)) ≡ Sound
+
+pub found-held : (h : ℕ) (c : Check) → formOf h ≡ Checked c → namedAlone h ≡ true → (which : ℕ) (m : List ℕ) → every isOctet m ≡ true
+    → (n : ℕ) → findAnswer m (transferFound (nameOf h) which m) ≡ Accepted n → FoundHeld h which m
+found-held h c form alone which m o n e =
+    let x = nameOf h in
+    let v = then-passed (verdictOf m) _ n e in
+    let w = read-then-laid m o (v .0) (v .1) in
+    let r = recordOf m in
+    let there = sym (name-there x which m o (v .0) (v .1)) ∙ found-at (transferFound x which m) n (v .2) .0 in
+    let d = choose x which (itemsIn r) (ltb-true which (timesIn x (namesOf (itemsIn r))) there) in
+    let a = item-allowed r (w .1) (d .front) (d .one) (d .back) (d .whole) in
+    let head = named-alone h alone (d .one .header) (a .pli) (d .named) in
+    let t = as-they-are c (d .one) (rw head form) in
+    let part =
+    rw (w .2) at (transfer-contents r (w .1) x which (d .front) (d .one) (d .back) (d .whole) (d .named) (d .before)) in
+    record {
+      front = d .front;
+      one = d .one;
+      back = d .back;
+      whole = d .whole;
+      headed = head;
+      held = sym part;
+      faultless = rw (part, t .contents) (rw head at (sym (t .fault) ∙ a .faultless));
+    }
 
 -- ---- the transfer parameter with such a header, held as its contents
 

@@ -77,7 +77,7 @@ use Rattle.theorems.specs.Messages.{read-then-laid}
 use Rattle.theorems.specs.Named.{choose}
 use Rattle.theorems.specs.Places.{found-at, name-there}
 use Rattle.theorems.specs.Finds.{transfer-contents}
-use Rattle.theorems.specs.Headed.{named-alone}
+use Rattle.theorems.specs.Headed.{found-held}
 
 -- ---- what is asked of the parameters together
 
@@ -336,17 +336,9 @@ item-ordered i a h =
 -- so it is in an accepted message
 found-order : (m : List ℕ) → every isOctet m ≡ true → (n : ℕ) → findAnswer m (orderFound m) ≡ Accepted n
     → orderFault (findPart m (orderFound m)) ≡ Sound
+unfolding formOf
 found-order m o n e =
-    let x = nameOf connection-order in
-    let v = then-passed (verdictOf m) _ n e in
-    let w = read-then-laid m o (v .0) (v .1) in
-    let r = recordOf m in
-    let there = sym (name-there x 0 m o (v .0) (v .1)) ∙ found-at (orderFound m) n (v .2) .0 in
-    let c = choose x 0 (itemsIn r) (ltb-true 0 (timesIn x (namesOf (itemsIn r))) there) in
-    let a = item-allowed r (w .1) (c .front) (c .one) (c .back) (c .whole) in
-    let i = item-ordered (c .one) a (named-alone connection-order refl (c .one .header) (a .pli) (c .named)) in
-    let part = transfer-contents r (w .1) x 0 (c .front) (c .one) (c .back) (c .whole) (c .named) (c .before) in
-    rw (rw (w .2) at part, i .0) (i .1)
+    sym (order-asked (findPart m (orderFound m))) ∙ found-held connection-order Order refl refl 0 m o n e .faultless
 
 -- ---- the rows of an order
 
