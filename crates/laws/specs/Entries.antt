@@ -1,5 +1,5 @@
 -- Laws of the entries of carriers (CC), at either level, and of a carrier code.
-use Prim.Native.Nat.{ℕ, zero, suc, _+_, _*_, _/_, _%_, _≤_}
+use Prim.Native.Nat.{ℕ, zero, suc, _+_, _-_, _*_, _/_, _%_, _≤_}
 use native.Mathlib.Nat.{add-zero}
 use native.Mathlib.Omega.{arith}
 use mathlib.Core.Path.{_≡_, refl, sym, ap, _∙_}
@@ -7,14 +7,16 @@ use mathlib.Core.Bool.{Bool, true, false, cond, not, _&&_, _||_}
 use mathlib.Core.List.{List, [], _∷_, _++_, append-assoc, append-nil}
 use borrow.Author.Tests.{eqb-true, eqb-false, eq-eqb, ne-eqb, leb-true, not-true}
 use lib.Dec.{eqb, leb}
-use lib.ListN.{length, getD, take, drop, length-drop, length-append, take-append-drop, drop-of-length-le}
+use lib.ListN.{length, getD, take, drop, length-drop, length-append, length-map, take-append-drop, drop-of-length-le}
 use lib.Seq.{drop-drop, length-take-le, take-append-seam, drop-append-seam}
 use Rattle.annex.specs.Allowed.{every, Each}
 use Rattle.annex.specs.Carriers.{
   entrySize,
   entriesIn,
   insideOf,
+  insideAt,
   octetsIn,
+  carriersIn,
   odd-count,
   even-count,
   codeFormed,
@@ -24,7 +26,7 @@ use Rattle.annex.specs.Carriers.{
 }
 use Rattle.annex.specs.Digits.{isDigitIn, digitsOf, packed, halvesFor}
 use Rattle.annex.specs.Heads.{among}
-use Rattle.annex.specs.Transit.{layEntry, layAll, codeOctets}
+use Rattle.annex.specs.Transit.{layAll, codeOctets, flatEntries, entriesOf}
 use Rattle.annex.specs.Units.{afterOf, octetsOf}
 use Rattle.annex.specs.Walk.{Par, parOf, pars}
 use Rattle.annex.specs.declared.Alphabet.the-variants.{Decimal}
@@ -104,6 +106,49 @@ entries-all at xs e =
     let none : drop (octetsIn (entriesIn at xs)) xs ≡ [] = drop-of-length-le xs {i = octetsIn (entriesIn at xs)} (omega (arith, e)) in
     sym (append-nil (layAll rawEntry (entriesIn at xs)))
     ∙ ap (λ (ys : List ℕ). layAll rawEntry (entriesIn at xs) ++ ys) (sym none) ∙ entries-raw 0 at xs
+
+-- ---- how many there are
+
+-- entries take up no more octets than there are, and each at least two: its tag and its length octet
+raw-long : (qs : List Par) → length (layAll rawEntry qs) ≡ octetsIn qs
+raw-long [] = refl
+raw-long (q ∷ qs) = simp length-append (omega (arith, raw-long qs))
+
+octets-within : (at : ℕ) (xs : List ℕ) → octetsIn (entriesIn at xs) ≤ length xs
+octets-within at xs =
+    let qs = entriesIn at xs in
+    omega (arith, raw-long qs, simp length-append at (ap length (entries-raw 0 at xs)))
+
+entries-few : (qs : List Par) → Each Counts qs → 2 * length qs ≤ octetsIn qs
+entries-few [] c = omega arith
+entries-few (q ∷ qs) c = omega (arith, entries-few qs (c .1), ap length (c .0))
+
+-- so it is where carrier entries have dependent entries in them
+flat-few : (qs : List Par) → Each Counts qs → 2 * length (flatEntries qs) ≤ octetsIn qs
+unfolding flatEntries
+flat-few [] c = omega arith
+flat-few (q ∷ qs) c =
+    let inside = entriesIn (insideAt q) (insideOf q) in
+    let own = ap length (c .0) in
+    simp (length-append, length-map)
+    (omega (
+      arith,
+      flat-few qs (c .1),
+      entries-few inside (entries-count 0 (insideAt q) (insideOf q)),
+      octets-within (insideAt q) (insideOf q),
+      own,
+    ))
+
+-- with the direction's, half as many as octets, and one
+pub entries-of-few : (s : List ℕ) → length (entriesOf s) ≤ 1 + (length s - 1) / 2
+unfolding entriesOf
+entries-of-few s =
+    omega (
+      arith,
+      flat-few (carriersIn s) (entries-count 0 1 (drop 1 s)),
+      octets-within 1 (drop 1 s),
+      length-drop 1 s,
+    )
 
 -- ---- a code
 

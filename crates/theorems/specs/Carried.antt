@@ -7,15 +7,18 @@ use mathlib.Core.Path.{_≡_, refl, sym, ap, _∙_}
 use mathlib.Core.Bool.{Bool, true, false, cond, not, _&&_}
 use mathlib.Core.List.{List, [], _∷_, _++_, map, map-append, append-assoc}
 use mathlib.Core.Logic.{_↔_}
-use borrow.Author.Tests.{eqb-true, eqb-false, eq-eqb, ne-eqb, leb-true, le-leb, not-true}
-use lib.Dec.{eqb, leb}
-use lib.ListN.{length, getD, take, drop, length-append}
+use borrow.Author.Tests.{eqb-true, eqb-false, eq-eqb, ne-eqb, leb-true, le-leb, le-ltb, ltb-false, not-true}
+use lib.Dec.{eqb, leb, ltb}
+use lib.ListN.{length, getD, take, drop, length-append, length-map}
 use lib.Seq.{take-append-seam, drop-append-seam}
-use Rattle.annex.specs.Allowed.{every, Each, isOctet}
-use Rattle.annex.specs.Answers.{faultThen}
+use Rattle.annex.specs.Allowed.{every, Each, isOctet, itemsIn}
+use Rattle.annex.specs.Answers.{no-room, refuse, andThen, givenOf, faultThen}
 use Rattle.annex.specs.Heads.{carriers, zeroesOf, formOf}
 use Rattle.annex.specs.Contents.{faultOf}
 use Rattle.annex.specs.Items.{Item, contentsOf}
+use Rattle.annex.specs.Layout.{layoutItem, layoutItems}
+use Rattle.annex.specs.Reading.{verdictOf, recordOf}
+use Rattle.annex.specs.Units.{extentOf}
 use Rattle.annex.specs.Finding.{findAnswer, findPart}
 use Rattle.annex.specs.Carriers.{
   most-direction,
@@ -84,12 +87,15 @@ use Rattle.annex.specs.declared.Check.the-variants.{Carriers}
 use Rattle.annex.specs.declared.Fault.{Fault}
 use Rattle.annex.specs.declared.Fault.the-variants.{Sound}
 use Rattle.laws.specs.Bools.{and-left, and-right, and-both}
-use Rattle.laws.specs.Entries.{entry-size, rawEntry, Counts, entries-count, entries-all, code-open, code-closed}
+use Rattle.laws.specs.Entries.{entry-size, rawEntry, Counts, entries-count, entries-all, code-open, code-closed, entries-of-few}
 use Rattle.laws.specs.Faults.{then-sound, then-both}
 use Rattle.laws.specs.Headers.{none-asked}
 use Rattle.laws.specs.Leaves.{as-they-are}
 use Rattle.laws.specs.Plain.{pars-head}
+use Rattle.laws.specs.Steps.{passed, then-passed}
 use Rattle.theorems.specs.Transfers.{AllowedItem}
+use Rattle.theorems.specs.Records.{layout-append}
+use Rattle.theorems.specs.Messages.{read-then-laid}
 use Rattle.theorems.specs.Headed.{found-held}
 
 -- ---- a level: from octets to what they say
@@ -419,3 +425,57 @@ pub formed-carriers : (which : ℕ) (m : List ℕ) → every isOctet m ≡ true 
 unfolding carriersFault
 formed-carriers which m o n e =
     then-sound (carriersFormed (findPart m (carriersFound which m))) _ (found-carriers which m o n e) .0
+
+-- they are at most 253 octets, behind CC's header and length octet
+contents-short : (which : ℕ) (m : List ℕ) → every isOctet m ≡ true → (n : ℕ) → findAnswer m (carriersFound which m) ≡ Accepted n
+    → length (findPart m (carriersFound which m)) ≤ 253
+unfolding formOf layoutItems layoutItem extentOf
+contents-short which m o n e =
+    let f = found-held carriers Carriers refl refl which m o n e in
+    let v = then-passed (verdictOf m) _ n e in
+    let w = read-then-laid m o (v .0) (v .1) in
+    let parted : layoutItems (itemsIn (recordOf m)) ≡ layoutItems (f .front) ++ (layoutItem (f .one) ++ layoutItems (f .back)) =
+    ap layoutItems (f .whole) ∙ layout-append (f .front) (f .one ∷ f .back) in
+    let own : length (layoutItem (f .one)) ≡ 2 + length (findPart m (carriersFound which m)) =
+    rw (f .headed, f .held) (omega arith) in
+    omega (arith, w .1 .few-octets, own, simp length-append at (ap length parted))
+
+-- so there are at most 127 rows
+listed-few : (which : ℕ) (m : List ℕ) → every isOctet m ≡ true → (n : ℕ) → findAnswer m (carriersFound which m) ≡ Accepted n
+    → length (carrierRowsOf which m) ≤ most-carrier-rows
+unfolding carrierRowsOf
+listed-few which m o n e =
+    let s = findPart m (carriersFound which m) in
+    simp length-map (omega (arith, entries-of-few s, contents-short which m o n e))
+
+-- what an accepted listing has passed
+pub carriers-given : (m : List ℕ) (which room n : ℕ) → carriersAnswer m which room ≡ Accepted n
+    → (k : ℕ) × (findAnswer m (carriersFound which m) ≡ Accepted k) × (n ≡ length (carrierRowsOf which m)) × (n ≤ room)
+unfolding carriersAnswer
+carriers-given m which room n e =
+    let count = length (carrierRowsOf which m) in
+    let t = then-passed (findAnswer m (carriersFound which m)) _ n e in
+    let u = passed (ltb room count) no-room 0 n (Accepted count) (t .2) in
+    let same : n ≡ count = sym (ap givenOf (u .1)) in
+    (t .0, t .1, same, omega (arith, ltb-false room count (u .0)))
+
+pub carrier-rows-few : (m : List ℕ) → every isOctet m ≡ true → (which room n : ℕ) → carriersAnswer m which room ≡ Accepted n
+    → n ≤ most-carrier-rows
+carrier-rows-few m o which room n e =
+    let g = carriers-given m which room n e in
+    omega (arith, g .2, listed-few which m o (g .0) (g .1))
+
+-- and with room for these it is never 15
+pub carriers-roomy : (m : List ℕ) → every isOctet m ≡ true → (which room : ℕ) → most-carrier-rows ≤ room
+    → carriersAnswer m which room
+    ≡ andThen (findAnswer m (carriersFound which m)) (λ _. Accepted (length (carrierRowsOf which m)))
+unfolding carriersAnswer
+carriers-roomy m o which room l = go (findAnswer m (carriersFound which m)) refl
+  where
+    n : ℕ
+    n = length (carrierRowsOf which m)
+
+    go : (a : Answer) → findAnswer m (carriersFound which m) ≡ a
+        → andThen a (λ _. refuse (ltb room n) no-room 0 (Accepted n)) ≡ andThen a (λ _. Accepted n)
+    go (Accepted k) e = rw (le-ltb room n (omega (arith, listed-few which m o k e)))
+    go (Refused k p) e = refl
