@@ -84,6 +84,7 @@ use Rattle.annex.specs.Spans.{rowsOf, spansOf, spansBy}
 use Rattle.annex.specs.Editing.{Edit, recordEditing, editingOf}
 use Rattle.annex.specs.Charging.{chargingFound, chargingBy, chargingOf, charging-octets, octetChargingBy, octetCharging}
 use Rattle.annex.specs.Opened.{orderFound, orderRowsOf, orderAnswer}
+use Rattle.annex.specs.Transit.{isCodeEntry, digitsIn, carriersFound, carrierRowsOf, carriersAnswer, entryFound, digitsAnswer}
 use Rattle.annex.specs.Packed.{imageReading, profileImageReading}
 use Rattle.annex.specs.Profile.{
   pairOctets,
@@ -565,6 +566,20 @@ unfolding orderAnswer
 order-passes m room =
     let n = length (orderRowsOf m) in
     then-passes m (findAnswer m (orderFound m)) _ (find-passes m (orderFound m)) (λ _ p. room-other (ltb room n) n p)
+
+pub carriers-passes : (m : List ℕ) (which room : ℕ) → Passes m (carriersAnswer m which room)
+unfolding carriersAnswer
+carriers-passes m which room =
+    let n = length (carrierRowsOf which m) in
+    then-passes m (findAnswer m (carriersFound which m)) _ (find-passes m (carriersFound which m)) (λ _ p. room-other (ltb room n) n p)
+
+pub carrier-digits-passes : (m : List ℕ) (which row room : ℕ) → Passes m (digitsAnswer m which row room)
+unfolding digitsAnswer
+carrier-digits-passes m which row room =
+    let e = entryFound which row m in
+    let n = length (digitsIn e) in
+    then-passes m (findAnswer m (carriersFound which m)) _ (find-passes m (carriersFound which m))
+    (λ _ p f. room-other (ltb room n) n p (other (not (isCodeEntry e)) absent 0 _ bad-digit p (λ z. omega arith) f .1))
 
 pub charging-passes : (m : List ℕ) (p : ℕ) → chargingOf m ≡ chargings.Refused bad-digit p → verdictOf m ≡ Refused bad-digit p
 unfolding chargingOf
