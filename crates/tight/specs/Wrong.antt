@@ -13,11 +13,12 @@ use Rattle.annex.specs.Answers.{numberOf, placeOf, givenOf}
 use Rattle.annex.specs.Units.{afterOf, leadOf, commonExtentOf, extentOf}
 use Rattle.annex.specs.Heads.{valueAllowed, among, nameUsed, pliRight, oftenOf, zeroesOf, formOf}
 use Rattle.annex.specs.Digits.{halves, joined, digitOf, codeOf, isCode, halvesFault, digitsFault, digitsOf, packed, numberFaultIn}
+use Rattle.annex.specs.Carriers.{entriesFormed, entriesFault, carriersFormed, carriersFault}
 use Rattle.annex.specs.Contents.{callingFault, genericFault, dialledFault, twoFault, faultOf}
 use Rattle.annex.specs.Items.{holdingOf, itemOf, contentsOf, ownOf}
 use Rattle.annex.specs.Layout.{layoutItem, layoutItems, layoutPart, layout}
 use Rattle.annex.specs.Allowed.{lengthRight, faultIn, valueFits}
-use Rattle.annex.specs.Walk.{walk}
+use Rattle.annex.specs.Walk.{walk, pars}
 use Rattle.annex.specs.Reading.{
   commonForm,
   endOf,
@@ -124,12 +125,13 @@ pub record Said : Type 0 where
 
 pub said : Said
 unfolding afterOf leadOf commonExtentOf extentOf nameUsed pliRight oftenOf zeroesOf formOf halves joined digitOf codeOf isCode halvesFault
-    digitsFault digitsOf packed numberFaultIn callingFault genericFault dialledFault twoFault faultOf holdingOf itemOf contentsOf ownOf
-    layoutItem layoutItems layoutPart layout lengthRight faultIn valueFits walk transferBy transfersVerdictBy valueAllowed commonForm endOf
-    dataBy commonBy messageVerdictBy verdictBy commonsBy transfersBy openCommonBy recordBy pad valuesOf pack viewItems lengthsOf
-    transfersSum viewParts isWhole view readingOf itemWriting itemsWriting dataWriting partWriting partsWriting overLimits recordWriting
-    structWriting writingOf writtenOf commonIn commonFound transferIn transferAmong transferFound transferRows commonRowsBy rowsBy spansBy
-    editRefusal instead editedItems edited recordEditing editingOf bufferOf
+    digitsFault digitsOf packed numberFaultIn callingFault genericFault dialledFault twoFault entriesFormed entriesFault carriersFormed
+    carriersFault faultOf holdingOf itemOf contentsOf ownOf layoutItem layoutItems layoutPart layout lengthRight faultIn valueFits walk pars
+    transferBy transfersVerdictBy valueAllowed commonForm endOf dataBy commonBy messageVerdictBy verdictBy commonsBy transfersBy
+    openCommonBy recordBy pad valuesOf pack viewItems lengthsOf transfersSum viewParts isWhole view readingOf itemWriting itemsWriting
+    dataWriting partWriting partsWriting overLimits recordWriting structWriting writingOf writtenOf commonIn commonFound transferIn
+    transferAmong transferFound transferRows commonRowsBy rowsBy spansBy editRefusal instead editedItems edited recordEditing editingOf
+    bufferOf
 said =
     record {
       verdict-cut = refl;
