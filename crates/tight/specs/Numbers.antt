@@ -28,6 +28,7 @@ use Rattle.annex.specs.Charging.{
   octetCharged,
 }
 use Rattle.annex.specs.Opened.{orderAnswer, orderTable}
+use Rattle.annex.specs.Transit.{digitsAnswer, digitsGiven}
 use Rattle.annex.specs.Profile.{
   profileVerdict,
   profileWriting,
@@ -50,6 +51,8 @@ use Rattle.annex.specs.Packed.{
   octetTable,
   octetOrder,
   octetOrderTable,
+  octetCarriers,
+  octetCarriersTable,
 }
 use Rattle.annex.specs.Promises.{
   VerdictPromise,
@@ -68,6 +71,8 @@ use Rattle.annex.specs.Promises.{
   ClassPromise,
   ChargingPromise,
   OctetChargingPromise,
+  CarriersPromise,
+  CarrierDigitsPromise,
   ProfileVerdictPromise,
   ProfileReadPromise,
   ProfileWritePromise,
@@ -110,6 +115,8 @@ use Rattle.tight.specs.Told.{
   charging-told,
   octet-charging-told,
   order-told,
+  carriers-told,
+  carrier-digits-told,
   profile-verdict-told,
   profile-writing-told,
   profile-image-reading-told,
@@ -198,6 +205,18 @@ pub octet-charging-numbers : (m room : List ℕ) (r : Answer) (now : List ℕ)
     → OctetChargingPromise m room r now ↔ (Right (octetCharging m (length room)) r × (now ≡ octetCharged m room))
 octet-charging-numbers m room r now =
     right-with (octetCharging m (length room)) r (octetCharged m room) now (octet-charging-told m (length room))
+
+pub carriers-numbers : (m : List ℕ) (which : ℕ) (table : List ℕ) (r : Answer) (now : List ℕ) → CarriersPromise m which table r now
+    ↔ (Right (octetCarriers m which (length table)) r × (now ≡ octetCarriersTable m which table))
+carriers-numbers m which table r now =
+    right-with (octetCarriers m which (length table)) r (octetCarriersTable m which table) now (carriers-told m which _)
+
+pub carrier-digits-numbers : (m : List ℕ) (which row : ℕ) (room : List ℕ) (r : Answer) (now : List ℕ)
+    → CarrierDigitsPromise m which row room r now
+    ↔ (Right (digitsAnswer m which row (length room)) r × (now ≡ digitsGiven m which row room))
+carrier-digits-numbers m which row room r now =
+    right-with (digitsAnswer m which row (length room)) r (digitsGiven m which row room) now
+    (carrier-digits-told m which row (length room))
 
 pub profile-verdict-numbers : (m : List ℕ) (r : Answer) → ProfileVerdictPromise m r ↔ Right (profileVerdict m) r
 profile-verdict-numbers m r = right (profileVerdict m) r (profile-verdict-told m)

@@ -150,6 +150,7 @@ use Rattle.annex.specs.Image.Front.{Taken, Short}
 use Rattle.annex.specs.Finding.{foundAnswer, findAnswer, findPart}
 use Rattle.annex.specs.Packed.{imageReading, imageWriting, profileImageReading, profileImageWriting}
 use Rattle.annex.specs.Opened.{orderFound, orderRowsOf, orderAnswer}
+use Rattle.annex.specs.Transit.{isCodeEntry, digitsIn, carriersFound, carrierRowsOf, carriersAnswer, entryFound, digitsAnswer}
 use Rattle.annex.specs.Spans.{rowsOf, spansOf, spansBy}
 use Rattle.annex.specs.Editing.{Edit, newHeader, newAfter, newHead, newContents, editRefusal, edited, recordEditing, editingOf}
 use Rattle.annex.specs.Editing.Edit.{Replacing, Appending, Removing}
@@ -606,6 +607,24 @@ unfolding orderAnswer
 order-told m room =
     followed (findAnswer m (orderFound m)) _ (find-told m (orderFound m))
     (λ _. refused (ltb room (length (orderRowsOf m))) no-room 0 (Accepted (length (orderRowsOf m))) (omega arith) (record {}))
+
+-- ---- carriers, for a table of octets, and the digits of a code
+
+pub carriers-told : (m : List ℕ) (which room : ℕ) → HasNumber (carriersAnswer m which room)
+unfolding carriersAnswer
+carriers-told m which room =
+    let n = length (carrierRowsOf which m) in
+    followed (findAnswer m (carriersFound which m)) _ (find-told m (carriersFound which m))
+    (λ _. refused (ltb room n) no-room 0 (Accepted n) (omega arith) (record {}))
+
+pub carrier-digits-told : (m : List ℕ) (which row room : ℕ) → HasNumber (digitsAnswer m which row room)
+unfolding digitsAnswer
+carrier-digits-told m which row room =
+    let e = entryFound which row m in
+    let n = length (digitsIn e) in
+    followed (findAnswer m (carriersFound which m)) _ (find-told m (carriersFound which m))
+    (λ _. refused (not (isCodeEntry e)) absent 0 _ (omega arith)
+    (refused (ltb room n) no-room 0 (Accepted n) (omega arith) (record {})))
 
 -- ---- the mobile call profile
 

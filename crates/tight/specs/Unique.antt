@@ -28,6 +28,8 @@ use Rattle.annex.specs.Promises.{
   ClassPromise,
   ChargingPromise,
   OctetChargingPromise,
+  CarriersPromise,
+  CarrierDigitsPromise,
   ProfileVerdictPromise,
   ProfileReadPromise,
   ProfileWritePromise,
@@ -45,6 +47,8 @@ use Rattle.annex.specs.Promises.{
   TkClassPromise,
   TkChargingPromise,
   TkOrderPromise,
+  TkCarriersPromise,
+  TkCarrierDigitsPromise,
   TkProfileReadPromise,
   TkProfileWritePromise,
   TkClassesPromise,
@@ -142,6 +146,14 @@ pub one-octet-charging : (m room : List ℕ) (a b : Answer) (s t : List ℕ) →
     → OctetChargingPromise m room b t → (a ≡ b) × (s ≡ t)
 one-octet-charging m room a b s t p q = both p q
 
+pub one-carriers : (m : List ℕ) (which : ℕ) (table : List ℕ) (a b : Answer) (s t : List ℕ) → CarriersPromise m which table a s
+    → CarriersPromise m which table b t → (a ≡ b) × (s ≡ t)
+one-carriers m which table a b s t p q = both p q
+
+pub one-carrier-digits : (m : List ℕ) (which row : ℕ) (room : List ℕ) (a b : Answer) (s t : List ℕ)
+    → CarrierDigitsPromise m which row room a s → CarrierDigitsPromise m which row room b t → (a ≡ b) × (s ≡ t)
+one-carrier-digits m which row room a b s t p q = both p q
+
 -- ---- the mobile call profile
 
 pub one-profile-verdict : (m : List ℕ) (a b : Answer) → ProfileVerdictPromise m a → ProfileVerdictPromise m b → a ≡ b
@@ -207,6 +219,14 @@ one-tk-charging m room a b s t p q = both p q
 pub one-tk-order : (m table : List ℕ) (a b : ℕ) (s t : List ℕ) → TkOrderPromise m table a s → TkOrderPromise m table b t
     → (a ≡ b) × (s ≡ t)
 one-tk-order m table a b s t p q = both p q
+
+pub one-tk-carriers : (m : List ℕ) (which : ℕ) (table : List ℕ) (a b : ℕ) (s t : List ℕ) → TkCarriersPromise m which table a s
+    → TkCarriersPromise m which table b t → (a ≡ b) × (s ≡ t)
+one-tk-carriers m which table a b s t p q = both p q
+
+pub one-tk-carrier-digits : (m : List ℕ) (which row : ℕ) (room : List ℕ) (a b : ℕ) (s t : List ℕ)
+    → TkCarrierDigitsPromise m which row room a s → TkCarrierDigitsPromise m which row room b t → (a ≡ b) × (s ≡ t)
+one-tk-carrier-digits m which row room a b s t p q = both p q
 
 pub one-tk-profile-read : (m room : List ℕ) (a b : ℕ) (s t : List ℕ) → TkProfileReadPromise m room a s → TkProfileReadPromise m room b t
     → (a ≡ b) × (s ≡ t)
