@@ -24,7 +24,16 @@ use Rattle.annex.specs.Editing.{Edit, edited, editingOf}
 use Rattle.annex.specs.Classes.{classOf}
 use Rattle.annex.specs.Charging.{octetCharging}
 use Rattle.annex.specs.Profile.{OfPairs, adjacent-network, added-class, InProfile, networkValue, profileOf, classesAnswer}
-use Rattle.annex.specs.Packed.{imageReading, imageWriting, profileImageReading, profileImageWriting, octetSpans, octetOrder}
+use Rattle.annex.specs.Transit.{digitsAnswer}
+use Rattle.annex.specs.Packed.{
+  imageReading,
+  imageWriting,
+  profileImageReading,
+  profileImageWriting,
+  octetSpans,
+  octetOrder,
+  octetCarriers,
+}
 use Rattle.annex.specs.BadHalves.{ShownAt}
 use Rattle.annex.specs.Walking.{noRow}
 use Rattle.annex.specs.Opened.{formRow}
@@ -43,6 +52,8 @@ use Rattle.annex.specs.Promises.{
   WritePromise,
   EditPromise,
   OctetChargingPromise,
+  CarriersPromise,
+  CarrierDigitsPromise,
   ProfileVerdictPromise,
   ProfileReadPromise,
   ProfileWritePromise,
@@ -59,6 +70,8 @@ use Rattle.annex.specs.Promises.{
   TkClassPromise,
   TkChargingPromise,
   TkOrderPromise,
+  TkCarriersPromise,
+  TkCarrierDigitsPromise,
   TkProfileReadPromise,
   TkProfileWritePromise,
   TkClassesPromise,
@@ -162,6 +175,9 @@ pub record Showing (m : List ℕ) : Type 0 where
   pub order : (table now : List Row) (p : ℕ) → OrderPromise m table (Refused bad-digit p) now → ShownAt m p
   pub octet-order : (table now : List ℕ) (p : ℕ) → OctetOrderPromise m table (Refused bad-digit p) now → ShownAt m p
   pub octet-charging : (room now : List ℕ) (p : ℕ) → OctetChargingPromise m room (Refused bad-digit p) now → ShownAt m p
+  pub carriers : (which : ℕ) (table now : List ℕ) (p : ℕ) → CarriersPromise m which table (Refused bad-digit p) now → ShownAt m p
+  pub carrier-digits : (which row : ℕ) (room now : List ℕ) (p : ℕ) → CarrierDigitsPromise m which row room (Refused bad-digit p) now
+      → ShownAt m p
   pub read-image : (room now : List ℕ) (p : ℕ) → ImageReadPromise m room (Refused bad-digit p) now → ShownAt m p
   pub profile-read-image : (room now : List ℕ) (p : ℕ) → ProfileImageReadPromise m room (Refused bad-digit p) now → ShownAt m p
   pub added-classes : (room now : List ℕ) (p : ℕ) → ClassesPromise m room (Refused bad-digit p) now → ShownAt m p
@@ -176,6 +192,10 @@ pub record Showing (m : List ℕ) : Type 0 where
       → ShownAt m (packedPlace r)
   pub tk-order : (table : List ℕ) (r : ℕ) (now : List ℕ) → TkOrderPromise m table r now → packedNumber r ≡ bad-digit
       → ShownAt m (packedPlace r)
+  pub tk-carriers : (which : ℕ) (table : List ℕ) (r : ℕ) (now : List ℕ) → TkCarriersPromise m which table r now
+      → packedNumber r ≡ bad-digit → ShownAt m (packedPlace r)
+  pub tk-carrier-digits : (which row : ℕ) (room : List ℕ) (r : ℕ) (now : List ℕ) → TkCarrierDigitsPromise m which row room r now
+      → packedNumber r ≡ bad-digit → ShownAt m (packedPlace r)
   pub tk-profile-read : (room : List ℕ) (r : ℕ) (now : List ℕ) → TkProfileReadPromise m room r now → packedNumber r ≡ bad-digit
       → ShownAt m (packedPlace r)
   pub tk-added-classes : (room : List ℕ) (r : ℕ) (now : List ℕ) → TkClassesPromise m room r now → packedNumber r ≡ bad-digit
@@ -205,6 +225,8 @@ pub record Demand1 : Type 0 where
   pub write : (q : Record) (room : List ℕ) → Lending room (WritePromise q room)
   pub edit : (e : Edit) (d : List ℕ) (n : ℕ) → Lending d (EditPromise e d n)
   pub octet-charging : (m room : List ℕ) → Lending room (OctetChargingPromise m room)
+  pub carriers : (m : List ℕ) (which : ℕ) (table : List ℕ) → Lending table (CarriersPromise m which table)
+  pub carrier-digits : (m : List ℕ) (which row : ℕ) (room : List ℕ) → Lending room (CarrierDigitsPromise m which row room)
   pub read-image : (m room : List ℕ) → Lending room (ImageReadPromise m room)
   pub write-image : (image room : List ℕ) → Lending room (ImageWritePromise image room)
   pub profile-write : (q : Record) (room : List ℕ) → Lending room (ProfileWritePromise q room)
@@ -220,6 +242,10 @@ pub record Demand1 : Type 0 where
   pub tk-class : (h x : ℕ) → PackedAnswering (classNumberOf (classOf h x)) (TkClassPromise h x)
   pub tk-charging : (m room : List ℕ) → PackedLending room (octetCharging m (length room)) (TkChargingPromise m room)
   pub tk-order : (m table : List ℕ) → PackedLending table (octetOrder m (length table)) (TkOrderPromise m table)
+  pub tk-carriers : (m : List ℕ) (which : ℕ) (table : List ℕ)
+      → PackedLending table (octetCarriers m which (length table)) (TkCarriersPromise m which table)
+  pub tk-carrier-digits : (m : List ℕ) (which row : ℕ) (room : List ℕ)
+      → PackedLending room (digitsAnswer m which row (length room)) (TkCarrierDigitsPromise m which row room)
   pub tk-profile-read : (m room : List ℕ) → PackedLending room (profileImageReading m (length room)) (TkProfileReadPromise m room)
   pub tk-profile-write : (image room : List ℕ)
       → PackedLending room (profileImageWriting image (length room)) (TkProfileWritePromise image room)

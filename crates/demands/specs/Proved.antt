@@ -38,10 +38,13 @@ use Rattle.annex.specs.Packed.{
   octetTable,
   octetOrder,
   octetOrderTable,
+  octetCarriers,
+  octetCarriersTable,
   packedLength,
   packedClass,
 }
 use Rattle.annex.specs.Opened.{formRow, orderListing, orderFound, orderRowsOf, orderAnswer, orderTable}
+use Rattle.annex.specs.Transit.{digitsAnswer, digitsGiven}
 use Rattle.annex.specs.Charging.{chargingFound, chargingBy, chargingOf, octetCharging, octetCharged}
 use Rattle.annex.specs.Profile.{profileWriting, profileWritten, classesAnswer, classesGiven}
 use Rattle.annex.specs.Promises.{
@@ -103,6 +106,8 @@ use Rattle.theorems.specs.Shown.{
   profile-image-passes,
   classes-passes,
   order-passes,
+  carriers-passes,
+  carrier-digits-passes,
   charging-passes,
   octet-charging-passes,
   edit-passes,
@@ -146,6 +151,8 @@ use Rattle.tight.specs.Told.{
   charging-told,
   octet-charging-told,
   order-told,
+  carriers-told,
+  carrier-digits-told,
   profile-verdict-told,
   profile-writing-told,
   profile-image-reading-told,
@@ -319,6 +326,8 @@ shows m =
       order = λ table now p e. shown m p (order-passes m (length table) p (sym (e .0)));
       octet-order = λ table now p e. shown m p (order-passes m _ p (sym (e .0)));
       octet-charging = λ room now p e. shown m p (octet-charging-passes m (length room) p (sym (e .0)));
+      carriers = λ which table now p e. shown m p (carriers-passes m which _ p (sym (e .0)));
+      carrier-digits = λ which row room now p e. shown m p (carrier-digits-passes m which row (length room) p (sym (e .0)));
       read-image = λ room now p e. shown m p (image-passes m (length room) p (sym (e .0)));
       profile-read-image = λ room now p e. shown m p (profile-image-passes m (length room) p (sym (e .0)));
       added-classes = λ room now p e. shown m p (classes-passes m (length room) p (sym (e .0)));
@@ -329,6 +338,10 @@ shows m =
       tk-find-transfer = λ x which r e. find-shown m (transferFound x which m) r e;
       tk-charging = λ room r now e. answer-shown m (octetCharging m (length room)) (octet-charging-passes m (length room)) r (e .0);
       tk-order = λ table r now e. answer-shown m (octetOrder m (length table)) (order-passes m _) r (e .0);
+      tk-carriers = λ which table r now e.
+          answer-shown m (octetCarriers m which (length table)) (carriers-passes m which _) r (e .0);
+      tk-carrier-digits = λ which row room r now e.
+          answer-shown m (digitsAnswer m which row (length room)) (carrier-digits-passes m which row (length room)) r (e .0);
       tk-profile-read = λ room r now e.
           answer-shown m (profileImageReading m (length room)) (profile-image-passes m (length room)) r (e .0);
       tk-added-classes = λ room r now e. answer-shown m (classesAnswer m (length room)) (classes-passes m (length room)) r (e .0);
@@ -336,8 +349,8 @@ shows m =
     }
 
 pub demand-1 : Demand1
-unfolding tableOf octetTable orderTable octetOrderTable writtenOf bufferOf octetCharged imageRead imageWritten profileWritten
-    profileImageRead profileImageWritten classesGiven
+unfolding tableOf octetTable orderTable octetOrderTable writtenOf bufferOf octetCharged octetCarriersTable digitsGiven imageRead
+    imageWritten profileWritten profileImageRead profileImageWritten classesGiven
 demand-1 =
     record {
       verdict = λ m. answering (verdict-told m);
@@ -371,6 +384,9 @@ demand-1 =
       write = λ q room. lending (writing-told q (length room)) (after-refusal (writingOf q (length room)) _ room);
       edit = λ e d n. lending (editing-told e d n) (λ k q f. buffer-refused e d n k q f);
       octet-charging = λ m room. lending (octet-charging-told m (length room)) (after-refusal (octetCharging m (length room)) _ room);
+      carriers = λ m which table. lending (carriers-told m which _) (octets-kept _ (octetCarriers m which (length table)) _ table);
+      carrier-digits = λ m which row room.
+          lending (carrier-digits-told m which row (length room)) (after-refusal (digitsAnswer m which row (length room)) _ room);
       read-image = λ m room. lending (read-image-told m (length room)) (after-refusal (imageReading m (length room)) _ room);
       write-image = λ image room. lending (write-image-told image (length room)) (after-refusal (imageWriting image (length room)) _ room);
       profile-write = λ q room. lending (profile-writing-told q (length room)) (after-refusal (profileWriting q (length room)) _ room);
@@ -389,6 +405,10 @@ demand-1 =
       tk-charging = λ m room.
           packed-lending (octet-charging-told m (length room)) (after-refusal (octetCharging m (length room)) _ room);
       tk-order = λ m table. packed-lending (order-told m _) (octets-kept _ (octetOrder m (length table)) _ table);
+      tk-carriers = λ m which table.
+          packed-lending (carriers-told m which _) (octets-kept _ (octetCarriers m which (length table)) _ table);
+      tk-carrier-digits = λ m which row room.
+          packed-lending (carrier-digits-told m which row (length room)) (after-refusal (digitsAnswer m which row (length room)) _ room);
       tk-profile-read = λ m room.
           packed-lending (profile-image-reading-told m (length room)) (after-refusal (profileImageReading m (length room)) _ room);
       tk-profile-write = λ image room.
