@@ -8,5 +8,6 @@ pub mod WrongClasses
 pub mod WrongPacked
 pub mod WrongCharging
 pub mod WrongOrders
+pub mod WrongCarriers
 pub mod WrongProfile
 pub mod Constants

@@ -1,6 +1,6 @@
 -- Wrong programs that the promises about a record's image and the functions for Rust and C shut out, at least two for each function, each
--- with the input at which it breaks its promise; tk_charging's stand in WrongCharging, tk_order's in WrongOrders, those of the functions of
--- the mobile call profile in WrongProfile.
+-- with the input at which it breaks its promise; tk_charging's stand in WrongCharging, tk_order's in WrongOrders, those of tk_carriers and
+-- tk_carrier_digits in WrongCarriers, those of the functions of the mobile call profile in WrongProfile.
 use Prim.Native.Nat.{ℕ, _+_, _*_, _%_, _<_}
 use native.Mathlib.Omega.{arith}
 use mathlib.Core.Path.{_≡_, refl, ap, _∙_}
