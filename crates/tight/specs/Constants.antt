@@ -1,7 +1,7 @@
 -- Wrong programs for each function that serves the product's. A row of the table has two inputs of a function and what its own definition
 -- gives at each; `shut-out` says of every row: a program that answers the same at both inputs breaks the promise, and of a function that
 -- stores, so does one that says the same at both, and one that stores nothing. For `Common::none`, `Transfer::none`, `AddedClass::none`,
--- `walk::cursor::first` and `reader::reading::empty` a constant is right, and they have no row.
+-- `walk::cursor::first`, `entries::cursor::first` and `reader::reading::empty` a constant is right, and they have no row.
 use Prim.Native.Nat.{ℕ, _+_, min}
 use native.Mathlib.Omega.{arith}
 use mathlib.Core.Path.{_≡_, refl, sym, ap, _∙_}
@@ -37,6 +37,7 @@ use Rattle.annex.specs.Digits.{
   digitsOf,
   packed,
   halvesFor,
+  countBehind,
   countOf,
   numberFaultIn,
 }
@@ -54,6 +55,7 @@ use Rattle.annex.specs.Orders.{
   isAreCharacter,
   outsideFault,
 }
+use Rattle.annex.specs.Carriers.{entriesFormed, entriesFault, codeFormed, codeCount, codeFault, carriersFormed, carriersFault}
 use Rattle.annex.specs.Contents.{dialledFault, chargingFault, faultUnder, faultOf}
 use Rattle.annex.specs.Items.{Item, valuePart, holdingBy, holdingOf, openBy, itemOf, contentsOf, ownOf}
 use Rattle.annex.specs.Layout.{layoutItem, layoutPart, callOctets}
@@ -96,6 +98,7 @@ use Rattle.annex.specs.Image.{imageHead, headFront, itemSize, commonFront}
 use Rattle.annex.specs.Promises.{Gives, Keeps}
 use Rattle.annex.specs.Bench.{K, recordOfK, recordOfM}
 use Rattle.annex.specs.Opened.{orderListing}
+use Rattle.annex.specs.Entering.{entryStretch, entryNext, isCodeHere}
 use Rattle.annex.specs.Ordering.{takenOf, orderRowsFrom, orderRowHere, orderNext}
 use Rattle.annex.specs.Walking.{soughtIn, searchIn, commonPlain, stretchAt, cursorTo, stretchHere, rowHere, nextOf, transferPlain}
 use Rattle.annex.specs.Memory.{Request, put, laidAt, spliced, copying, splicing, packing, unpacking, laying, layingHead, valuesFit}
@@ -244,6 +247,14 @@ carried = itemFrom (carriedHead 0x41 1) (1 ∷ [])
 abbrev trunk : List ℕ
 trunk = K ++ (0xC5 ∷ 0x05 ∷ 0xE0 ∷ 0x03 ∷ 0x23 ∷ 0x41 ∷ 0x05 ∷ 0x00 ∷ [])
 
+-- contents of CC with one carrier entry, which holds an empty dependent entry and a code
+abbrev coded : List ℕ
+coded = 0x01 ∷ 0xF8 ∷ 0x06 ∷ 0xFC ∷ 0x00 ∷ 0xFE ∷ 0x02 ∷ 0x00 ∷ 0x21 ∷ []
+
+-- and with one that holds a code of one digit, in the octet x
+abbrev codedBy : ℕ → List ℕ
+codedBy x = 0x01 ∷ 0xF8 ∷ 0x04 ∷ 0xFE ∷ 0x02 ∷ 0x80 ∷ x ∷ []
+
 abbrev laidCarried : ℕ → List ℕ → List ℕ
 laidCarried at room = laidAt (itemWriting 0 0 carried) (layoutItem carried) at room
 
@@ -278,6 +289,7 @@ rows =
     counts (codeOf Dialled 0) (codeOf Numbered 0) ∷  -- code_of
     tests (isCode Dialled 10) (isCode Numbered 10) ∷  -- is_code
     faults (digitsFault Numbered (countedBy 1) 0 (0x0A ∷ [])) (digitsFault Dialled (countedBy 1) 0 (0x0A ∷ [])) ∷  -- digits_fault
+    gives HalfOctets (λ n. n .0) (countBehind 1 (0x00 ∷ 0x21 ∷ 0x43 ∷ [])) (countBehind 2 (0x00 ∷ 0x21 ∷ 0x43 ∷ [])) ∷  -- count_behind
     gives HalfOctets (λ n. n .0) (countOf (0x00 ∷ 0x00 ∷ 0x21 ∷ [])) (countOf (0x80 ∷ 0x00 ∷ 0x01 ∷ [])) ∷  -- count_of
     faults (numberFaultIn Numbered 0 (0x00 ∷ 0x00 ∷ 0xCB ∷ [])) (numberFaultIn Decimal 0 (0x00 ∷ 0x00 ∷ 0xCB ∷ [])) ∷  -- number_fault
     tests (isFigure 0x39) (isFigure 0x3A) ∷  -- is_figure
@@ -296,6 +308,13 @@ rows =
     counts (orderAfter (layoutOf 0x91) 4) (orderAfter (layoutOf 0xCB) 4) ∷  -- order_size
     faults (orderFault (0x28 ∷ 0x42 ∷ 0x01 ∷ 0x00 ∷ [])) (orderFault (0x29 ∷ 0x42 ∷ 0x01 ∷ 0x00 ∷ [])) ∷  -- order_fault, form
     faults (orderFault (0x37 ∷ 0xCB ∷ 0x00 ∷ [])) (orderFault (0x37 ∷ 0xCB ∷ 0x01 ∷ [])) ∷  -- order_fault, length
+    tests (codeFormed (0x80 ∷ 0x01 ∷ [])) (codeFormed (0x80 ∷ [])) ∷  -- code_formed
+    gives HalfOctets (λ n. n .0) (codeCount (0x00 ∷ 0x21 ∷ [])) (codeCount (0x80 ∷ 0x01 ∷ [])) ∷  -- code_count
+    finds (entryStretch coded (cursorTo 1 1)) (entryStretch coded (cursorTo 3 9)) ∷  -- inside
+    gives Cursor (λ c. c .at) (entryNext coded (cursorTo 1 1)) (entryNext coded (cursorTo 3 9)) ∷  -- entries::cursor::next
+    tests (isCodeHere coded (cursorTo 5 9)) (isCodeHere coded (cursorTo 5 5)) ∷  -- entries::cursor::is_code
+    faults (carriersFault coded) (carriersFault (0x04 ∷ [])) ∷  -- carriers_fault, form
+    faults (carriersFault (codedBy 0x01)) (carriersFault (codedBy 0x11)) ∷  -- carriers_fault, digits
     faults (formed true) (formed false) ∷  -- Fault::formed
     answers (soundThen (headerAt 0) Sound (Accepted 1)) (soundThen (headerAt 0) (Bad 13 2) (Accepted 1)) ∷  -- at_header
     counts (getD (0x21 ∷ 0x43 ∷ []) 0 0) (getD (0x21 ∷ 0x43 ∷ []) 1 0) ∷  -- octet_at
@@ -353,11 +372,11 @@ rows =
 rows-differ : allDiffer rows ≡ true
 unfolding afterOf extentOf commonExtentOf leadOf nameUsed pliRight oftenOf zeroesOf formOf halves joined digitOf codeOf isCode halvesFault
     digitsFault digitsOf packed numberFaultIn outsideFault isKind fieldsOf numbersDrawn drawnFault checkRight decimal fieldIn chargesOf
-    chargingFault formsOf layoutOf orderAfter layoutFault ownFault parameterFault parametersFault orderFault dialledFault faultOf holdingOf
-    itemOf contentsOf ownOf layoutItem lengthRight faultIn valueFits walk transferBy valueAllowed commonForm endOf commonBy messageVerdictBy
-    verdictBy commonsBy commonIn commonFound pad valuesOf pack lengthsOf transfersSum isWhole viewItems viewParts view overLimits
-    itemWriting partWriting layoutPart pars soughtIn stretchAt stretchHere rowHere nextOf orderListing takenOf orderRowsFrom orderNext put
-    spliced
+    chargingFault formsOf layoutOf orderAfter layoutFault ownFault parameterFault parametersFault orderFault entriesFormed entriesFault
+    codeFormed codeFault carriersFormed carriersFault dialledFault faultOf holdingOf itemOf contentsOf ownOf layoutItem lengthRight faultIn
+    valueFits walk transferBy valueAllowed commonForm endOf commonBy messageVerdictBy verdictBy commonsBy commonIn commonFound pad valuesOf
+    pack lengthsOf transfersSum isWhole viewItems viewParts view overLimits itemWriting partWriting layoutPart pars soughtIn stretchAt
+    stretchHere rowHere nextOf orderListing takenOf orderRowsFrom orderNext entryStretch entryNext put spliced
 rows-differ = refl
 
 -- every row's programs are shut out
