@@ -164,19 +164,21 @@ carriersAnswer m which room =
     andThen (findAnswer m (carriersFound which m))
     (λ _. refuse (ltb room (length (carrierRowsOf which m))) no-room 0 (Accepted (length (carrierRowsOf which m))))
 
--- the digits of the code in row number `row`, counted from 0; none where there is no such row, or it has no code
+-- the entry in row number `row`, counted from 0
 abbrev pub entryFound : ℕ → ℕ → List ℕ → Entry
 entryFound which row m = getD (entriesFound which m) row noEntry
 
--- their count, or number and place: 16 also where there is no such row, or it has no code
-unfoldable pub digitsAnswer : List ℕ → ℕ → ℕ → ℕ → Answer
-digitsAnswer m which row room =
-    let e = entryFound which row m in
-    andThen (findAnswer m (carriersFound which m))
-    (λ _.
+-- how many digits the code of an entry has: 16 where it has none, then 15
+abbrev pub codeAnswer : Entry → ℕ → Answer
+codeAnswer e room =
     refuse (not (isCodeEntry e)) absent 0
     (refuse (ltb room (length (digitsIn e))) no-room 0
-    (Accepted (length (digitsIn e)))))
+    (Accepted (length (digitsIn e))))
+
+-- of the code in that row, or number and place: 16 also where there is no such row
+unfoldable pub digitsAnswer : List ℕ → ℕ → ℕ → ℕ → Answer
+digitsAnswer m which row room =
+    andThen (findAnswer m (carriersFound which m)) (λ _. codeAnswer (entryFound which row m) room)
 
 -- what the room then holds: the digits at its front, one an octet, octets past them as before; unchanged where refused
 unfoldable pub digitsGiven : List ℕ → ℕ → ℕ → List ℕ → List ℕ

@@ -104,10 +104,10 @@ pub record Lies (s : List ℕ) (c : Cursor) : Type 0 where
 
 module _ (t : List ℕ) (i : ℕ) where
   -- how many octets behind its tag are its own, and the entry
-  abbrev own : ℕ
+  abbrev pub own : ℕ
   own = afterOf (Counted Octet) (getD t (i + 1) 0)
 
-  abbrev here : Par
+  abbrev pub here : Par
   here = parOf i (getD t i 0) own (drop (i + 1) t)
 
   -- where it is not cut
@@ -172,40 +172,54 @@ pub record Stands (n i a b : ℕ) : Type 0 where
   pub order : a ≤ b
   pub within : b ≤ n
 
-stretch-stands : (t : List ℕ) (i a b : ℕ) → stretchAt t i (Counted Octet) ≡ At a b → Stands (length t) i a b
+-- its length octet counts what it holds
+abbrev pub Sized : List ℕ → ℕ → ℕ → ℕ → Type 0
+Sized t i a b = b ≡ a + getD t (i + 1) 0
+
+stretch-stands : (t : List ℕ) (i a b : ℕ) → stretchAt t i (Counted Octet) ≡ At a b → Stands (length t) i a b × Sized t i a b
 unfolding stretchAt leadOf afterOf
 stretch-stands t i a b e = go (ltb i (length t)) (leb (own t i) (length t - (i + 1))) refl refl e
   where
     go : (x y : Bool) → ltb i (length t) ≡ x → leb (own t i) (length t - (i + 1)) ≡ y
-        → cond x (cond y (At (i + 1 + 1) (i + 1 + own t i)) Nowhere) Nowhere ≡ At a b → Stands (length t) i a b
+        → cond x (cond y (At (i + 1 + 1) (i + 1 + own t i)) Nowhere) Nowhere ≡ At a b → Stands (length t) i a b × Sized t i a b
     go true true p q f =
         let u : i + 1 + 1 ≡ a = cc in
         let v : i + 1 + own t i ≡ b = cc in
         let l = ltb-true i (length t) p in
         let m = leb-true (own t i) (length t - (i + 1)) q in
-        record { tag = l; start = omega arith; order = omega arith; within = omega arith }
+        (record { tag = l; start = omega arith; order = omega arith; within = omega arith }, omega arith)
     go true false p q f = absurd (let z : _≡_ {A = ℕ} 0 1 = cc in omega arith)
     go false y p q f = absurd (let z : _≡_ {A = ℕ} 0 1 = cc in omega arith)
 
-pub entry-stands : (s : List ℕ) (c : Cursor) (a b : ℕ) → entryStretch s c ≡ At a b → Stands (length s) (c .at) a b
+entry-found : (s : List ℕ) (c : Cursor) (a b : ℕ) → entryStretch s c ≡ At a b → Stands (length s) (c .at) a b × Sized s (c .at) a b
 unfolding entryStretch
-entry-stands s c a b e = go (inCarrier c) (ltb (length s) (c .end)) refl e
+entry-found s c a b e = go (inCarrier c) (ltb (length s) (c .end)) refl e
   where
     go : (x y : Bool) → ltb (length s) (c .end) ≡ y
         → cond x (cond y Nowhere (stretchAt (take (c .end) s) (c .at) (Counted Octet))) (stretchAt s (c .at) (Counted Octet)) ≡ At a b
-        → Stands (length s) (c .at) a b
+        → Stands (length s) (c .at) a b × Sized s (c .at) a b
     go false y q f = stretch-stands s (c .at) a b f
     go true true q f = absurd (let z : _≡_ {A = ℕ} 0 1 = cc in omega arith)
     go true false q f =
-        let k = stretch-stands (take (c .end) s) (c .at) a b f in
+        let found = stretch-stands (take (c .end) s) (c .at) a b f in
+        let k = found .0 in
         let l : length (take (c .end) s) ≡ c .end = length-take-le (c .end) s (ltb-false (length s) (c .end) q) in
         let w = ltb-false (length s) (c .end) q in
-        record {
-          tag = omega (arith, k .tag, l, w);
-          start = k .start;
-          order = k .order;
-          within = omega (arith, k .within, l, w);
-        }
+        let octet = getD-take (c .end) s (c .at + 1) 0 (omega (arith, k .start, k .order, k .within, l)) in (
+          record {
+            tag = omega (arith, k .tag, l, w);
+            start = k .start;
+            order = k .order;
+            within = omega (arith, k .within, l, w);
+          },
+          omega (arith, found .1, octet),
+        )
+
+pub entry-stands : (s : List ℕ) (c : Cursor) (a b : ℕ) → entryStretch s c ≡ At a b → Stands (length s) (c .at) a b
+entry-stands s c a b e = entry-found s c a b e .0
+
+pub entry-sized : (s : List ℕ) (c : Cursor) (a b : ℕ) → entryStretch s c ≡ At a b → Sized s (c .at) a b
+entry-sized s c a b e = entry-found s c a b e .1
 
 -- ---- the next entry at a cursor
 
