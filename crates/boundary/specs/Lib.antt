@@ -3,3 +3,4 @@ pub mod Round
 pub mod Small
 pub mod SmallImages
 pub mod SmallProfile
+pub mod SmallCarriers

@@ -4,6 +4,8 @@ use annex::Answer;
 use annex::Class;
 use annex::ClassAnswer;
 use annex::Key;
+use carriers::carriers;
+use carriers::unpacking::carrier_digits;
 use charging::packing::octet_charging;
 use classes::class_of;
 use editor::append;
@@ -29,6 +31,8 @@ ghost use Rattle.annex.specs.Promises.{
   TkClassPromise,
   TkChargingPromise,
   TkOrderPromise,
+  TkCarriersPromise,
+  TkCarrierDigitsPromise,
   TkProfileReadPromise,
   TkProfileWritePromise,
   TkClassesPromise,
@@ -142,6 +146,24 @@ pub extern "C" fn tk_order(message: &[u8], table: &mut [u8]) -> u64
     ensures { λ r. ⌜ TkOrderPromise (now (message .entry)) (now (table .entry)) r (now (table .exit)) ⌝ }
 {
     pack_answer(octet_order(message, table))
+}
+
+// The rows of the CC with the number `which`, counted from 0, eight octets each, from the table's front on: how many there are. A refusal
+// leaves the table as it was.
+#[no_mangle]
+pub extern "C" fn tk_carriers(message: &[u8], which: usize, table: &mut [u8]) -> u64
+    ensures { λ r. ⌜ TkCarriersPromise (now (message .entry)) which (now (table .entry)) r (now (table .exit)) ⌝ }
+{
+    pack_answer(carriers(message, which, table))
+}
+
+// The digits of the code in that row of the CC, one an octet, from the front of the lent octets on: how many there are. A refusal leaves
+// them as they were.
+#[no_mangle]
+pub extern "C" fn tk_carrier_digits(message: &[u8], which: usize, row: usize, out: &mut [u8]) -> u64
+    ensures { λ r. ⌜ TkCarrierDigitsPromise (now (message .entry)) which row (now (out .entry)) r (now (out .exit)) ⌝ }
+{
+    pack_answer(carrier_digits(message, which, row, out))
 }
 
 // The record of a message that keeps the mobile call profile, as tk_read gives it. A refusal leaves the lent octets as they were.
