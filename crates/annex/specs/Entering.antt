@@ -1,7 +1,7 @@
 -- The entries of CC from a cursor on, by the length rule alone, in octets of any kind: what the functions give that serve its check and its
 -- listing. `at` is the offset of the next tag, `end` where the carrier entry ends that it stands in; between carrier entries `end` is `at`.
 -- No rule of the documents; in contents of the right form the entries from the first cursor on are those of Carriers.
-use Prim.Native.Nat.{ℕ, _+_, _-_}
+use Prim.Native.Nat.{ℕ, _-_}
 use mathlib.Core.Bool.{Bool, cond, _&&_}
 use mathlib.Core.List.{List}
 use lib.Dec.{ltb}

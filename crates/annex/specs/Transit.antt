@@ -1,7 +1,7 @@
 -- The carriers of a message, told beside its record: document 02, request g. What the contents of a CC may say, and how that is laid out;
 -- the entries of contents in their order; and for a message reading's numbers, then 16 where that CC is not there, then 15. A row to the
 -- direction and one to each entry, each dependent entry right behind the carrier entry that it stands in; and the digits of a code.
-use Prim.Native.Nat.{ℕ, zero, suc, _+_, _*_, _/_, _%_}
+use Prim.Native.Nat.{ℕ, _+_, _*_, _/_, _%_}
 use mathlib.Core.Bool.{Bool, true, cond, not, _&&_}
 use mathlib.Core.List.{List, [], _∷_, _++_, map}
 use lib.Dec.{eqb, leb, ltb}

@@ -1,15 +1,14 @@
 -- The places, counts and rows that the functions about carriers tell are below 2^16; and with a table of the most rows it is never 15.
-use Prim.Native.Nat.{ℕ, zero, suc, _+_, _-_, _*_, _/_, _≤_}
+use Prim.Native.Nat.{ℕ, zero, suc, _+_, _*_, _/_, _≤_}
 use native.Mathlib.Omega.{arith}
-use mathlib.Core.Path.{_≡_, refl}
+use mathlib.Core.Path.{_≡_}
 use mathlib.Core.Bool.{Bool, true, false, cond, not}
 use mathlib.Core.List.{List, [], _∷_, _++_, map}
-use borrow.Author.Tests.{leb-true}
 use lib.Dec.{leb, ltb}
-use lib.ListN.{length, getD, take, drop, length-map, length-take, length-drop}
+use lib.ListN.{length, getD, drop, length-map, length-take, length-drop}
 use Rattle.annex.specs.Allowed.{every, isOctet, Each}
 use Rattle.annex.specs.Answers.{numberOf, no-room, absent, refuse, andThen}
-use Rattle.annex.specs.Carriers.{insideOf, insideAt, entriesIn, codeDigits, carriersIn, dependentsIn}
+use Rattle.annex.specs.Carriers.{insideOf, insideAt, carriersIn, dependentsIn}
 use Rattle.annex.specs.Finding.{findAnswer, findPart}
 use Rattle.annex.specs.Heads.{carriers}
 use Rattle.annex.specs.Packed.{packedAnswer, carrier-row-octets, octetCarriers}
@@ -24,7 +23,6 @@ use Rattle.annex.specs.Transit.{
   digitsIn,
   most-carrier-rows,
   carriersFound,
-  entriesFound,
   carrierRowsOf,
   carriersAnswer,
   entryFound,
@@ -32,14 +30,13 @@ use Rattle.annex.specs.Transit.{
 }
 use Rattle.annex.specs.Units.{nameOf}
 use Rattle.annex.specs.Walk.{Par, Size, parOf, pars}
-use Rattle.annex.specs.declared.Alphabet.the-variants.{Decimal}
 use Rattle.annex.specs.declared.Answer.{Answer}
 use Rattle.annex.specs.declared.Answer.the-variants.{Accepted, Refused}
 use Rattle.annex.specs.declared.Key.the-variants.{Name}
 use Rattle.laws.specs.Entries.{entries-of-few}
 use Rattle.theorems.specs.Carried.{carriers-roomy}
 use Rattle.carriers.specs.Rows.{code-long}
-use Rattle.boundary.specs.Small.{Upto, farthest, upto-more, upto-refuse, upto-then, find-upto}
+use Rattle.boundary.specs.Small.{Upto, farthest, upto-refuse, upto-then, find-upto}
 
 -- ---- rows
 

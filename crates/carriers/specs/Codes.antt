@@ -1,15 +1,15 @@
 -- The digits of a code, by the entry that a cursor stands at.
-use Prim.Native.Nat.{ℕ, zero, suc, _+_, _-_, _*_, _≤_, _<_}
+use Prim.Native.Nat.{ℕ, zero, suc, _+_, _-_, _≤_, _<_}
 use native.Mathlib.Nat.{zero-add}
 use native.Mathlib.Omega.{arith}
 use mathlib.Core.Path.{_≡_, refl, sym, ap, _∙_}
-use mathlib.Core.Bool.{Bool, true, false, cond, not, _&&_}
-use mathlib.Core.List.{List, [], _∷_, _++_}
+use mathlib.Core.Bool.{Bool, true, false, cond, _&&_}
+use mathlib.Core.List.{List}
 use borrow.Author.Tests.{ltb-true, ltb-false, lt-ltb, le-ltb, le-leb, leb-true, leb-false}
-use lib.Dec.{eqb, leb, ltb}
+use lib.Dec.{ltb}
 use lib.ListN.{length, getD, take, drop, length-take, length-drop}
 use lib.Seq.{sets, getD-take, getD-drop}
-use Rattle.annex.specs.Answers.{no-room, absent, andThen, roomAfter}
+use Rattle.annex.specs.Answers.{no-room, absent, roomAfter}
 use Rattle.annex.specs.Carriers.{holdsCode, codeCount, codeDigits, carriersIn}
 use Rattle.annex.specs.Digits.{digitsOf}
 use Rattle.annex.specs.Entering.{inCarrier, entryStretch, entryInside, isCodeHere}
@@ -24,7 +24,6 @@ use Rattle.annex.specs.Transit.{
   isCodeEntry,
   digitsIn,
   carriersFound,
-  entriesFound,
   entryFound,
   codeAnswer,
   digitsAnswer,
@@ -37,7 +36,7 @@ use Rattle.annex.specs.declared.Cursor.{Cursor}
 use Rattle.annex.specs.declared.Found.the-variants.{At, Nowhere}
 use Rattle.laws.specs.Bools.{and-left}
 use Rattle.laws.specs.Fronts.{front-all}
-use Rattle.entries.specs.Left.{Lies, Stands, entry-stands, entry-sized, entriesLeft, here, entryHere, held-here}
+use Rattle.entries.specs.Left.{entry-sized, entriesLeft, here, entryHere, held-here}
 use Rattle.carriers.specs.Rows.{Going, right-here, entries-next, none-left, code-long}
 
 -- behind so many entries, of all

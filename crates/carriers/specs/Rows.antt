@@ -1,15 +1,14 @@
 -- The rows of carriers as the code makes them, from a cursor: in contents of the right form they are those of the entries that are left.
-use Prim.Native.Nat.{ℕ, suc, _+_, _*_, _/_, _≤_, _<_}
+use Prim.Native.Nat.{ℕ, _+_, _*_, _/_, _≤_, _<_}
 use native.Mathlib.Omega.{arith}
 use mathlib.Core.Path.{_≡_, refl, sym, ap, _∙_}
 use mathlib.Core.Bool.{Bool, true, false, cond, _&&_}
-use mathlib.Core.List.{List, [], _∷_, _++_, map}
+use mathlib.Core.List.{List, [], _∷_, map}
 use borrow.Author.Tests.{ltb-true, lt-ltb, le-ltb}
-use lib.Dec.{ltb}
 use lib.ListN.{length, getD, take, drop, length-append, length-map}
 use lib.Seq.{sets, getD-take}
 use Rattle.annex.specs.Answers.{startOf, no-room}
-use Rattle.annex.specs.Carriers.{holdsCode, insideOf, codeCount, codeDigits, carriersIn, carriersFormed}
+use Rattle.annex.specs.Carriers.{holdsCode, insideOf, codeCount, codeDigits, carriersFormed}
 use Rattle.annex.specs.Entering.{firstEntry, inCarrier, entryInside, entryNext, isCodeHere}
 use Rattle.annex.specs.Finding.{foundAnswer, findAnswer, findPart}
 use Rattle.annex.specs.Packed.{carrier-row-octets, carrierRowOctets, carrierRowsOctets, octetCarriers, octetCarriersTable}
@@ -36,7 +35,7 @@ use Rattle.laws.specs.Filling.{sets-append}
 use Rattle.laws.specs.Found.{part-where}
 use Rattle.laws.specs.Fronts.{front-all}
 use Rattle.laws.specs.Halves.{length-digitsOf}
-use Rattle.laws.specs.Runs.{Left, left-all, left-none, left-some, left-fits}
+use Rattle.laws.specs.Runs.{Left, left-none, left-some, left-fits}
 use Rattle.laws.specs.Steps.{then-passed}
 use Rattle.entries.specs.Left.{
   Lies,

@@ -11,7 +11,7 @@ use mathlib.Core.Logic.{_↔_}
 use lib.ListN.{length, getD, take, drop}
 use Rattle.annex.specs.Answers.{bad-digit, absent, outside-profile, numberOf, classNumberOf}
 use Rattle.annex.specs.Units.{nameOf}
-use Rattle.annex.specs.Heads.{among, end-mark, sequence, sequence-number, charging-information, connection-order}
+use Rattle.annex.specs.Heads.{among, end-mark, sequence, sequence-number, charging-information, connection-order, carriers}
 use Rattle.annex.specs.Rates.{chargesOf, chargedContents, Chargeable}
 use Rattle.annex.specs.Orders.{OpenedOrder, layOrder, orderRight}
 use Rattle.annex.specs.Contents.{faultOf}
@@ -24,7 +24,7 @@ use Rattle.annex.specs.Editing.{Edit, edited, editingOf}
 use Rattle.annex.specs.Classes.{classOf}
 use Rattle.annex.specs.Charging.{octetCharging}
 use Rattle.annex.specs.Profile.{OfPairs, adjacent-network, added-class, InProfile, networkValue, profileOf, classesAnswer}
-use Rattle.annex.specs.Transit.{digitsAnswer}
+use Rattle.annex.specs.Transit.{OpenedCarriers, layCarriers, carriersRight, most-carrier-rows, digitsAnswer}
 use Rattle.annex.specs.Packed.{
   imageReading,
   imageWriting,
@@ -33,6 +33,8 @@ use Rattle.annex.specs.Packed.{
   octetSpans,
   octetOrder,
   octetCarriers,
+  carrier-row-octets,
+  carrierRowsOctets,
 }
 use Rattle.annex.specs.BadHalves.{ShownAt}
 use Rattle.annex.specs.Walking.{noRow}
@@ -104,6 +106,7 @@ use Rattle.theorems.specs.Edits.{OfOctets}
 use Rattle.theorems.specs.InPlace.{InPlace}
 use Rattle.theorems.specs.Listings.{partContents, partRows}
 use Rattle.theorems.specs.Ordered.{toldRows, octetsTold, stretchesOf, Following}
+use Rattle.theorems.specs.Carried.{toldCarrierRows, toldCodes, noCarrierRow, isCodeRow}
 use Rattle.tight.specs.Told.{HasNumber, ClassHasNumber, ChargingHasNumber}
 
 abbrev pub Octetwise : List ℕ → Type 0
@@ -345,6 +348,42 @@ pub record Demand2 : Type 0 where
       → (start : ℕ) → FindTransferAnswerPromise m (nameOf connection-order) 0 (Accepted start)
       → (stretchesOf m (take n now) ≡ part) × Following start (take n now) × (sumOf octetsTold (take n now) ≡ length part)
       × (getD (take n now) 0 noRow ≡ formRow start (getD part 0 0))
+  -- And its carriers are told beside it (document 02, request g). Nothing is wrong with contents of CC exactly if some carriers that may be
+  -- said lay out to them; there are no others; and each CC of the record has them.
+  pub carriers-contents : (t : List ℕ)
+      → (faultOf carriers t ≡ Sound) ↔ ((c : OpenedCarriers) × (carriersRight c ≡ true) × (layCarriers c ≡ t))
+  pub carriers-only : (c d : OpenedCarriers) → carriersRight c ≡ true → carriersRight d ≡ true → layCarriers c ≡ layCarriers d → c ≡ d
+  pub carried : (s : List Part) → Allowed s → (front : List Item) (one : Item) (back : List Item) → itemsIn s ≡ front ++ (one ∷ back)
+      → one .header ≡ carriers → (c : OpenedCarriers) × (carriersRight c ≡ true) × (layCarriers c ≡ one .values)
+  -- The listing tells the carriers of that CC, whose contents start where finding says: a row to the direction, and one to each carrier
+  -- entry before those to the dependent entries in it, in a table that has room for so many. 16 is answered exactly if there is no such
+  -- CC; and no listing has more than 127 rows.
+  pub carriers-listed : (s : List Part) → Allowed s → (front : List Item) (one : Item) (back : List Item) → itemsIn s ≡ front ++ (one ∷ back)
+      → one .header ≡ carriers → (which : ℕ) → timesIn (nameOf carriers) (namesOf front) ≡ which
+      → (c : OpenedCarriers) → carriersRight c ≡ true → layCarriers c ≡ one .values
+      → (start : ℕ) → FindTransferAnswerPromise (layout s) (nameOf carriers) which (Accepted start) →
+      let rows = toldCarrierRows start c in
+      (table : List ℕ) → carrier-row-octets * length rows ≤ length table
+      → (r : Answer) (now : List ℕ) → CarriersPromise (layout s) which table r now
+      → (r ≡ Accepted (length rows)) × (now ≡ carrierRowsOctets rows ++ drop (carrier-row-octets * length rows) table)
+  pub carriers-there : (s : List Part) → Allowed s → (which : ℕ) (table : List ℕ) (r : Answer) (now : List ℕ)
+      → CarriersPromise (layout s) which table r now
+      → (r ≡ Refused absent 0) ↔ (timesIn (nameOf carriers) (namesOf (itemsIn s)) ≤ which)
+  pub carriers-few : (m : List ℕ) → Octetwise m → (which : ℕ) (table : List ℕ) (n : ℕ) (now : List ℕ)
+      → CarriersPromise m which table (Accepted n) now → n ≤ most-carrier-rows
+  -- And the digits of a code are told by its row, in room that suffices; of any other row 16 is answered.
+  pub code-told : (s : List Part) → Allowed s → (front : List Item) (one : Item) (back : List Item) → itemsIn s ≡ front ++ (one ∷ back)
+      → one .header ≡ carriers → (which : ℕ) → timesIn (nameOf carriers) (namesOf front) ≡ which
+      → (c : OpenedCarriers) → carriersRight c ≡ true → layCarriers c ≡ one .values → (start row : ℕ) →
+      let code = getD (toldCodes c) row [] in
+      isCodeRow (getD (toldCarrierRows start c) row noCarrierRow) ≡ true → (room : List ℕ) → length code ≤ length room
+      → (r : Answer) (now : List ℕ) → CarrierDigitsPromise (layout s) which row room r now
+      → (r ≡ Accepted (length code)) × (now ≡ code ++ drop (length code) room)
+  pub code-none : (s : List Part) → Allowed s → (front : List Item) (one : Item) (back : List Item) → itemsIn s ≡ front ++ (one ∷ back)
+      → one .header ≡ carriers → (which : ℕ) → timesIn (nameOf carriers) (namesOf front) ≡ which
+      → (c : OpenedCarriers) → carriersRight c ≡ true → layCarriers c ≡ one .values → (start row : ℕ)
+      → isCodeRow (getD (toldCarrierRows start c) row noCarrierRow) ≡ false
+      → (room : List ℕ) (r : Answer) (now : List ℕ) → CarrierDigitsPromise (layout s) which row room r now → r ≡ Refused absent 0
   -- And by the mobile call profile (document 02, request f) a message is accepted exactly if some record that is allowed and in the
   -- profile lays out to these octets. The answer is that record, the only one (`one-record` above says so), and what it tells. What
   -- reading refuses is refused the same; the message of a record that is not in the profile is refused with 20, at its end mark; and

@@ -44,7 +44,7 @@ use Rattle.annex.specs.Packed.{
   packedClass,
 }
 use Rattle.annex.specs.Opened.{formRow, orderListing, orderFound, orderRowsOf, orderAnswer, orderTable}
-use Rattle.annex.specs.Transit.{digitsAnswer, digitsGiven}
+use Rattle.annex.specs.Transit.{layCarriers, digitsAnswer, digitsGiven}
 use Rattle.annex.specs.Charging.{chargingFound, chargingBy, chargingOf, octetCharging, octetCharged}
 use Rattle.annex.specs.Profile.{profileWriting, profileWritten, classesAnswer, classesGiven}
 use Rattle.annex.specs.Promises.{
@@ -94,6 +94,7 @@ use Rattle.theorems.specs.Ordered.{
   Following,
   rows-add-up,
 }
+use Rattle.theorems.specs.Carried.{carriers-asked, item-carried, says-carriers}
 use Rattle.theorems.specs.Shown.{
   shown,
   one-shown,
@@ -176,6 +177,7 @@ use Rattle.demands.specs.Demands.{
   Demand2,
   Demand3,
 }
+use Rattle.demands.specs.ProvedCarriers.{carriers-listed-so, carriers-there-so, carriers-few-so, code-told-so, code-none-so}
 use Rattle.demands.specs.ProvedProfile.{
   profile-verdict-so,
   profile-accepted-so,
@@ -660,6 +662,17 @@ demand-2 =
       order-listed = order-listed-so;
       order-there = order-there-so;
       order-rows = order-rows-so;
+      carriers-contents = λ t. rw (carriers-asked t) (says-carriers t .sound);
+      carriers-only = λ c d r t e.
+          sym (says-carriers (layCarriers d) .only c r e) ∙ says-carriers (layCarriers d) .only d t refl;
+      carried = λ s a front one back w h.
+          let i = item-allowed s a front one back w in
+          says-carriers (one .values) .sound .0 (item-carried one i h .1);
+      carriers-listed = carriers-listed-so;
+      carriers-there = carriers-there-so;
+      carriers-few = carriers-few-so;
+      code-told = code-told-so;
+      code-none = code-none-so;
       profile-accepted = profile-accepted-so;
       profile-record = profile-record-so;
       profile-passed = profile-passed-so;

@@ -1,15 +1,14 @@
 -- The entries of CC that are left at a cursor, as the code goes over them: those of the carrier entry that it stands in, and the carrier
 -- entries behind that. Each turn takes the first of them.
-use Prim.Native.Nat.{ℕ, zero, suc, _+_, _-_, _≤_, _<_}
-use native.Mathlib.Nat.{add-zero}
+use Prim.Native.Nat.{ℕ, _+_, _-_, _≤_, _<_}
 use native.Mathlib.Omega.{arith}
 use mathlib.Core.Path.{_≡_, refl, sym, ap, subst, _∙_}
 use mathlib.Core.Bool.{Bool, true, false, cond, not, _&&_}
 use mathlib.Core.List.{List, [], _∷_, _++_, map}
-use borrow.Author.Tests.{eqb-true, eqb-false, eq-eqb, ne-eqb, leb-true, leb-false, le-leb, lt-leb, ltb-true, ltb-false, lt-ltb, le-ltb, not-true}
+use borrow.Author.Tests.{eqb-true, eqb-false, eq-eqb, ne-eqb, leb-true, leb-false, ltb-true, ltb-false, lt-ltb, le-ltb, not-true}
 use lib.Dec.{eqb, leb, ltb}
 use lib.ListN.{length, getD, take, drop, length-take, length-drop, drop-of-length-le}
-use lib.Seq.{drop-drop, getD-drop, getD-take, length-take-le, take-all, take-take}
+use lib.Seq.{drop-drop, getD-take, length-take-le, take-take}
 use Rattle.annex.specs.Answers.{faultThen, startOf, stopOf}
 use Rattle.annex.specs.Carriers.{
   most-direction,
@@ -17,10 +16,8 @@ use Rattle.annex.specs.Carriers.{
   lowest-dependent,
   isTag,
   holdsCode,
-  entrySize,
   entriesIn,
   insideOf,
-  insideAt,
   octetsIn,
   entriesRight,
   entriesFormed,
@@ -29,7 +26,6 @@ use Rattle.annex.specs.Carriers.{
   codeFault,
   dependentFormed,
   dependentFault,
-  dependentsIn,
   carrierFormed,
   carrierFault,
   carriersIn,
@@ -48,8 +44,8 @@ use Rattle.annex.specs.declared.Fault.the-variants.{Sound, Bad}
 use Rattle.annex.specs.declared.Found.{Found}
 use Rattle.annex.specs.declared.Found.the-variants.{At, Nowhere}
 use Rattle.laws.specs.Bools.{and-left, and-right}
-use Rattle.laws.specs.Parts.{from-to, octet-next}
-use Rattle.laws.specs.Plain.{pars-next, pars-short, pars-end}
+use Rattle.laws.specs.Parts.{from-to}
+use Rattle.laws.specs.Plain.{pars-next, pars-short}
 
 -- ---- what the code asks of the next entry
 

@@ -1,14 +1,13 @@
 -- Laws of the entries of carriers (CC), at either level, and of a carrier code.
 use Prim.Native.Nat.{ℕ, zero, suc, _+_, _-_, _*_, _/_, _%_, _≤_}
-use native.Mathlib.Nat.{add-zero}
 use native.Mathlib.Omega.{arith}
 use mathlib.Core.Path.{_≡_, refl, sym, ap, _∙_}
 use mathlib.Core.Bool.{Bool, true, false, cond, not, _&&_, _||_}
 use mathlib.Core.List.{List, [], _∷_, _++_, append-assoc, append-nil}
-use borrow.Author.Tests.{eqb-true, eqb-false, eq-eqb, ne-eqb, leb-true, not-true}
+use borrow.Author.Tests.{eqb-true, ne-eqb, leb-true}
 use lib.Dec.{eqb, leb}
 use lib.ListN.{length, getD, take, drop, length-drop, length-append, length-map, take-append-drop, drop-of-length-le}
-use lib.Seq.{drop-drop, length-take-le, take-append-seam, drop-append-seam}
+use lib.Seq.{drop-drop, length-take-le}
 use Rattle.annex.specs.Allowed.{every, Each}
 use Rattle.annex.specs.Carriers.{
   entrySize,

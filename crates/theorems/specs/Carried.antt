@@ -1,18 +1,18 @@
 -- Carriers (CC): what is sound opens to carriers that may be said and that lay out to it; carriers that may be said, laid out, are sound and
 -- says to themselves. Both are shown once for a level of entries, and hold of the two. And the rows of a message's carriers, with the
 -- digits of their codes: those of what its contents say.
-use Prim.Native.Nat.{ℕ, zero, suc, _+_, _*_, _≤_}
+use Prim.Native.Nat.{ℕ, zero, suc, _+_, _≤_}
 use native.Mathlib.Omega.{arith}
 use mathlib.Core.Path.{_≡_, refl, sym, ap, _∙_}
 use mathlib.Core.Bool.{Bool, true, false, cond, not, _&&_}
-use mathlib.Core.List.{List, [], _∷_, _++_, map, map-append, append-assoc}
+use mathlib.Core.List.{List, [], _∷_, _++_, map, map-append}
 use mathlib.Core.Logic.{_↔_}
-use borrow.Author.Tests.{eqb-true, eqb-false, eq-eqb, ne-eqb, leb-true, le-leb, le-ltb, ltb-false, not-true}
+use borrow.Author.Tests.{eqb-true, eq-eqb, ne-eqb, le-ltb, ltb-false}
 use lib.Dec.{eqb, leb, ltb}
-use lib.ListN.{length, getD, take, drop, length-append, length-map}
+use lib.ListN.{length, getD, length-append, length-map}
 use lib.Seq.{take-append-seam, drop-append-seam}
 use Rattle.annex.specs.Allowed.{every, Each, isOctet, itemsIn}
-use Rattle.annex.specs.Answers.{no-room, refuse, andThen, givenOf, faultThen}
+use Rattle.annex.specs.Answers.{no-room, refuse, andThen, givenOf}
 use Rattle.annex.specs.Heads.{carriers, zeroesOf, formOf}
 use Rattle.annex.specs.Contents.{faultOf}
 use Rattle.annex.specs.Items.{Item, contentsOf}
@@ -36,15 +36,12 @@ use Rattle.annex.specs.Carriers.{
   entriesFault,
   codeFormed,
   codeFault,
-  codeDigits,
   dependentFormed,
   dependentFault,
   carrierFormed,
   carrierFault,
   carriersFormed,
   carriersFault,
-  dependentsIn,
-  carriersIn,
 }
 use Rattle.annex.specs.Digits.{isDigitIn}
 use Rattle.annex.specs.Transit.{
@@ -56,7 +53,6 @@ use Rattle.annex.specs.Transit.{
   carriersRight,
   layEntry,
   layAll,
-  codeOctets,
   dependentOctets,
   layDependent,
   layCarrier,
@@ -66,6 +62,7 @@ use Rattle.annex.specs.Transit.{
   openedCarriers,
   Entry,
   entry,
+  noEntry,
   flatEntries,
   entriesOf,
   isCodeEntry,
@@ -73,10 +70,8 @@ use Rattle.annex.specs.Transit.{
   entryRow,
   most-carrier-rows,
   carriersFound,
-  entriesFound,
   carrierRowsOf,
   carriersAnswer,
-  digitsAnswer,
 }
 use Rattle.annex.specs.Walk.{Par, pars}
 use Rattle.annex.specs.declared.Alphabet.the-variants.{Decimal}
@@ -334,8 +329,8 @@ toldCarriers p [] = []
 toldCarriers p (e ∷ es) = toldCarrier p e ∷ (toldDependents (p + 2) (e .dependents) ++ toldCarriers (p + 2 + length (laidIn e)) es)
 
 -- of all, the direction's first
-abbrev pub toldRows : ℕ → OpenedCarriers → List CarrierRow
-toldRows p c = record { level = 0; tag = c .direction; offset = p; len = 0; digits = 0 } ∷ toldCarriers (p + 1) (c .entries)
+abbrev pub toldCarrierRows : ℕ → OpenedCarriers → List CarrierRow
+toldCarrierRows p c = record { level = 0; tag = c .direction; offset = p; len = 0; digits = 0 } ∷ toldCarriers (p + 1) (c .entries)
 
 -- and the digits of the codes in these rows, of a row without a code none
 abbrev pub codeOf : Dependent → List ℕ
@@ -392,12 +387,40 @@ entries-told (c ∷ es) s k p g e =
 
 -- the entries of carriers that may be said, laid out: their rows and their codes
 pub carriers-told : (c : OpenedCarriers) → carriersRight c ≡ true → (p : ℕ)
-    → (map (entryRow p) (entriesOf (layCarriers c)) ≡ toldRows p c) × (map codeIn (entriesOf (layCarriers c)) ≡ toldCodes c)
+    → (map (entryRow p) (entriesOf (layCarriers c)) ≡ toldCarrierRows p c) × (map codeIn (entriesOf (layCarriers c)) ≡ toldCodes c)
 unfolding carriersRight layCarriers entriesOf
 carriers-told c r p =
     let w = entries-told (c .entries) p 1 (p + 1) (and-right (leb (c .direction) most-direction) _ r) refl in
     let z : p + 0 ≡ p = omega arith in
     (rw (z, w .0), rw (w .1))
+
+-- whether a row is that of a code, which a place without a row is not
+abbrev pub noCarrierRow : CarrierRow
+noCarrierRow = record { level = 0; tag = 0; offset = 0; len = 0; digits = 0 }
+
+abbrev pub isCodeRow : CarrierRow → Bool
+isCodeRow r = eqb (r .level) 2 && holdsCode (r .tag)
+
+-- by its number
+row-by : (p : ℕ) (es : List Entry) (k : ℕ) → isCodeRow (getD (map (entryRow p) es) k noCarrierRow) ≡ isCodeEntry (getD es k noEntry)
+row-by p [] k = refl
+row-by p (e ∷ es) zero = refl
+row-by p (e ∷ es) (suc k) = row-by p es k
+
+code-by : (es : List Entry) (k : ℕ) → getD (map codeIn es) k [] ≡ codeIn (getD es k noEntry)
+code-by [] k = refl
+code-by (e ∷ es) zero = refl
+code-by (e ∷ es) (suc k) = code-by es k
+
+-- in such a row are the digits of its code
+pub row-told : (c : OpenedCarriers) → carriersRight c ≡ true → (p row : ℕ) →
+    let e = getD (entriesOf (layCarriers c)) row noEntry in
+    (isCodeEntry e ≡ isCodeRow (getD (toldCarrierRows p c) row noCarrierRow)) × (codeIn e ≡ getD (toldCodes c) row [])
+row-told c r p row =
+    let w = carriers-told c r p in (
+      sym (row-by p (entriesOf (layCarriers c)) row) ∙ ap (λ (rs : List CarrierRow). isCodeRow (getD rs row noCarrierRow)) (w .0),
+      sym (code-by (entriesOf (layCarriers c)) row) ∙ ap (λ (ds : List (List ℕ)). getD ds row []) (w .1),
+    )
 
 -- ---- in a message
 

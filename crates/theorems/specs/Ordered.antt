@@ -7,12 +7,11 @@ use mathlib.Core.Path.{_≡_, refl, sym, ap, _∙_}
 use mathlib.Core.Bool.{Bool, true, false, not, _&&_, _||_}
 use mathlib.Core.List.{List, [], _∷_, _++_, map, append-assoc}
 use mathlib.Core.Logic.{_↔_}
-use borrow.Author.Tests.{eqb-true, eq-eqb, leb-true, le-leb, le-ltb, ltb-true, ltb-false}
+use borrow.Author.Tests.{eqb-true, eq-eqb, leb-true, le-leb, le-ltb, ltb-false}
 use lib.Dec.{eqb, leb, ltb}
 use lib.ListN.{length, getD, take, drop, length-append, length-map, take-append-drop}
 use lib.Seq.{length-take-le, drop-nil, drop-drop, take-append-seam, drop-append-seam, getD-take}
 use Rattle.annex.specs.Answers.{no-room, refuse, andThen, givenOf, isSound, startOf, stopOf}
-use Rattle.annex.specs.Units.{nameOf}
 use Rattle.annex.specs.Heads.{among, connection-order, zeroesOf, formOf}
 use Rattle.annex.specs.Orders.{
   orderForms,
@@ -40,10 +39,10 @@ use Rattle.annex.specs.Orders.{
 }
 use Rattle.annex.specs.Contents.{faultOf}
 use Rattle.annex.specs.Items.{Item, contentsOf}
-use Rattle.annex.specs.Allowed.{every, isOctet, timesIn, itemsIn, namesOf}
+use Rattle.annex.specs.Allowed.{every, isOctet}
 use Rattle.annex.specs.Walk.{pars}
 use Rattle.annex.specs.Walking.{noRow}
-use Rattle.annex.specs.Reading.{verdictOf, recordOf}
+use Rattle.annex.specs.Reading.{verdictOf}
 use Rattle.annex.specs.Finding.{findAnswer, findPart}
 use Rattle.annex.specs.Opened.{
   openedOrder,
@@ -72,11 +71,6 @@ use Rattle.laws.specs.Plain.{pars-head}
 use Rattle.laws.specs.Rows.{parAt}
 use Rattle.laws.specs.Steps.{passed, then-passed}
 use Rattle.theorems.specs.Transfers.{AllowedItem}
-use Rattle.theorems.specs.Records.{item-allowed}
-use Rattle.theorems.specs.Messages.{read-then-laid}
-use Rattle.theorems.specs.Named.{choose}
-use Rattle.theorems.specs.Places.{found-at, name-there}
-use Rattle.theorems.specs.Finds.{transfer-contents}
 use Rattle.theorems.specs.Headed.{found-held}
 
 -- ---- what is asked of the parameters together

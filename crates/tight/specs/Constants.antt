@@ -319,6 +319,7 @@ rows =
     answers (soundThen (headerAt 0) Sound (Accepted 1)) (soundThen (headerAt 0) (Bad 13 2) (Accepted 1)) ∷  -- at_header
     counts (getD (0x21 ∷ 0x43 ∷ []) 0 0) (getD (0x21 ∷ 0x43 ∷ []) 1 0) ∷  -- octet_at
     lists (drop 0 (0x21 ∷ [])) (drop 1 (0x21 ∷ [])) ∷  -- octets_from
+    lists (take 1 (drop 0 (0x21 ∷ []))) (take 1 (drop 1 (0x21 ∷ []))) ∷  -- stretch_from
     faults (faultOf 0x90 (0x01 ∷ 0x0A ∷ [])) (faultOf 0x90 (0x01 ∷ 0x00 ∷ [])) ∷  -- contents_fault
     answers (transferOf 0 0x41 (0x01 ∷ [])) (transferOf 0 0x41 []) ∷  -- transfer
     gives Holding heldNumber (holdingBy Generic 0x06) (holdingBy Generic 0x07) ∷  -- holding_by

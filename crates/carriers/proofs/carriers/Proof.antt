@@ -1,30 +1,20 @@
 -- `carriers` meets its contract: the octets from the start on, as many as were found, are the contents, and of the right form.
-use Prim.Native.Nat.{ℕ, _+_, _*_, _/_, _≤_, _<_}
+use Prim.Native.Nat.{ℕ, _+_, _/_, _≤_, _<_}
 use native.Mathlib.Omega.{arith}
 use mathlib.Core.Path.{_≡_, sym, ap, _∙_}
 use mathlib.Core.Bool.{true}
 use mathlib.Core.List.{List}
 use denote.Ref.{now}
 use borrow.Author.Needs.{needs}
-use lib.ListN.{length, take, drop, length-take, length-drop}
+use lib.ListN.{length, length-take, length-drop}
 use lib.Seq.{sets}
 use Rattle.annex.specs.Carriers.{carriersFormed}
 use Rattle.annex.specs.Finding.{findAnswer, findPart}
-use Rattle.annex.specs.Packed.{octetCarriersTable}
 use Rattle.annex.specs.Transit.{entriesOf, carriersFound, entriesFound}
 use Rattle.annex.specs.declared.Answer.the-variants.{Accepted, Refused}
 use Rattle.laws.specs.Written.{octets-every}
 use Rattle.theorems.specs.Carried.{formed-carriers}
-use Rattle.carriers.specs.Rows.{
-  rowsOctetsOf,
-  formed-some,
-  contents-are,
-  rows-short,
-  rows-told,
-  table-kept,
-  table-put,
-  not-found,
-}
+use Rattle.carriers.specs.Rows.{rowsOctetsOf, formed-some, contents-are, rows-short, rows-told, table-kept, table-put, not-found}
 use Rattle.carriers.proofs.carriers.Statement.{statement}
 use Rattle.carriers.proofs.carriers.Tie as tie
 

@@ -1,5 +1,4 @@
 -- `direction_row` meets its contract.
-use mathlib.Core.Path.{ap}
 use native.Mathlib.Nat.{add-zero}
 use borrow.Author.Needs.{needs}
 use Rattle.carriers.proofs.direction_row.Statement.{statement}

@@ -1,7 +1,7 @@
 -- `put_rows` meets its contract. The invariant: the rows from the cursor on are left to store behind the direction's.
 use Prim.Native.Nat.{ℕ, _+_, _-_, _≤_, _<_}
 use native.Mathlib.Omega.{arith}
-use mathlib.Core.Path.{_≡_, sym, ap, _∙_}
+use mathlib.Core.Path.{_≡_, ap, _∙_}
 use mathlib.Core.List.{List, _∷_, map}
 use denote.Ref.{now}
 use borrow.Author.Needs.{needs}

@@ -1,9 +1,8 @@
 -- `stretch_from` meets its contract.
 use native.Mathlib.Omega.{arith}
-use mathlib.Core.Path.{_≡_, sym, ap, _∙_}
-use denote.Ref.{now}
+use mathlib.Core.Path.{sym, ap, _∙_}
 use borrow.Author.Needs.{needs}
-use lib.ListN.{length, take, drop}
+use lib.ListN.{length, take}
 use lib.Seq.{take-all, length-take-le}
 use Rattle.carriers.proofs.part.stretch_from.Statement.{statement}
 use Rattle.carriers.proofs.part.stretch_from.Tie as tie

@@ -1,14 +1,14 @@
 -- `entry_at` meets its contract. The invariant: of the entries from the cursor on, so many are still to be passed over.
-use Prim.Native.Nat.{ℕ, zero, suc, _-_, _<_}
+use Prim.Native.Nat.{ℕ, zero, suc, _-_}
 use native.Mathlib.Omega.{arith}
 use mathlib.Core.Path.{_≡_, refl, sym, ap, _∙_}
-use mathlib.Core.List.{List, [], _∷_}
+use mathlib.Core.List.{List, _∷_}
 use denote.Ref.{now}
 use borrow.Author.Needs.{needs}
 use lib.ListN.{length, drop}
 use lib.Seq.{drop-nil}
 use Rattle.annex.specs.Carriers.{carriersIn}
-use Rattle.annex.specs.Transit.{Entry, flatEntries}
+use Rattle.annex.specs.Transit.{flatEntries}
 use Rattle.annex.specs.declared.Cursor.{Cursor}
 use Rattle.entries.specs.Left.{entriesLeft, entries-first-left}
 use Rattle.carriers.specs.Rows.{Going, going-first, going-on, onward, entries-next, none-left}

@@ -1,5 +1,5 @@
 -- `carriers_fault` meets its contract: the form first, then the digits.
-use mathlib.Core.Path.{_≡_, sym, _∙_}
+use mathlib.Core.Path.{sym, _∙_}
 use borrow.Author.Needs.{needs}
 use borrow.Author.Tests.{not-true, not-false}
 use Rattle.annex.specs.Carriers.{carriersFault}

@@ -11,16 +11,7 @@ use lib.ListN.{length}
 use Rattle.annex.specs.Carriers.{carriersFormed}
 use Rattle.annex.specs.Entering.{entryNext}
 use Rattle.annex.specs.declared.Cursor.{Cursor}
-use Rattle.entries.specs.Left.{
-  formedLeft,
-  Lies,
-  formed-turn,
-  lies-next,
-  goes-on,
-  lies-first,
-  formed-first-left,
-  formed-past,
-}
+use Rattle.entries.specs.Left.{formedLeft, Lies, formed-turn, lies-next, goes-on, lies-first, formed-first-left, formed-past}
 use Rattle.entries.proofs.judging.carriers_formed.Statement.{statement}
 use Rattle.entries.proofs.judging.carriers_formed.Tie as tie
 

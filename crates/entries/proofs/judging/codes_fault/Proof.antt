@@ -8,7 +8,7 @@ use denote.Ref.{now}
 use borrow.Author.Needs.{needs}
 use lib.ListN.{length}
 use Rattle.annex.specs.Answers.{faultThen}
-use Rattle.annex.specs.Carriers.{entriesFault, carrierFault, carriersIn, carriersFormed}
+use Rattle.annex.specs.Carriers.{entriesFault, carrierFault, carriersIn}
 use Rattle.annex.specs.Entering.{entryNext}
 use Rattle.annex.specs.declared.Cursor.{Cursor}
 use Rattle.annex.specs.declared.Fault.{Fault}
