@@ -106,6 +106,16 @@ impl Coding {
     }
 }
 
+/// 13 unless `octets` hold the digits 0 to 9 alone, zero being code 0, and the last
+/// high half is 0 where the count of digits is `odd`.
+pub(crate) fn check_decimal(octets: &[u8], odd: bool) -> Result<(), Fault> {
+    let is_bad = |(at, &octet): (usize, &u8)| {
+        let is_filled = odd && at + 1 == octets.len();
+        octet & 0x0F > 9 || octet >> 4 > if is_filled { 0 } else { 9 }
+    };
+    none_bad(octets.iter().enumerate().position(is_bad))
+}
+
 /// Whether all values are digits.
 pub(crate) fn all_digits(values: &[u8]) -> bool {
     values
@@ -164,6 +174,21 @@ mod tests {
         assert_eq!(DIALLED.check(&[0x21, 0x03], false), bad);
     }
 
+    #[test]
+    fn decimal_digits() {
+        for octet in 0..=255 {
+            let is_pair = octet & 0x0F <= 9 && octet >> 4 <= 9;
+            let at = |at| Err(Fault::Digit { at });
+            let told = |is_sound: bool, place| if is_sound { Ok(()) } else { at(place) };
+            assert_eq!(check_decimal(&[octet], false), told(is_pair, 0));
+            assert_eq!(check_decimal(&[octet], true), told(octet <= 9, 0));
+            assert_eq!(check_decimal(&[0x99, octet], false), told(is_pair, 1));
+            assert_eq!(check_decimal(&[0x99, octet], true), told(octet <= 9, 1));
+            assert_eq!(check_decimal(&[octet, 0x00], true), told(is_pair, 0));
+        }
+        assert_eq!(check_decimal(&[], false), Ok(()));
+    }
+
     /// Any two of the six halves are 15, which is neither a digit nor a filler.
     #[test]
     fn the_first_bad_half_counts() {
@@ -176,6 +201,7 @@ mod tests {
                 let bad = Err(Fault::Digit { at: first / 2 });
                 assert_eq!(DIALLED.check(&octets, odd), bad, "{octets:02X?}");
                 assert_eq!(NUMBER.check(&octets, odd), bad, "{octets:02X?}");
+                assert_eq!(check_decimal(&octets, odd), bad, "{octets:02X?}");
             }
         }
     }

@@ -3,12 +3,16 @@
 use crate::common::TRANSFER_DATA;
 use crate::reading::{walk, Parameter, Visitor};
 use crate::refusal::Refusal;
-use crate::transfer::{self, name_of, Layout, DATA_LIMIT};
+use crate::transfer::{self, limit_of, name_of, Layout, DATA_LIMIT};
 use std::ops::Range;
 
-/// Where the transfer data and one of its parameters stand.
+/// Where the transfer data stands, and one of its parameters of a name.
 struct Site {
     name: Option<u8>,
+    /// Which of them, counted from 0.
+    which: usize,
+    /// How many of them there are.
+    count: usize,
     data: Option<Range<usize>>,
     parameter: Option<Range<usize>>,
 }
@@ -22,30 +26,37 @@ impl Visitor for Site {
 
     fn transfer(&mut self, parameter: Parameter<'_>) {
         if Some(name_of(parameter.header)) == self.name {
-            self.parameter = Some(parameter.range());
+            if self.count == self.which {
+                self.parameter = Some(parameter.range());
+            }
+            self.count += 1;
         }
     }
 }
 
 /// Reads the message in the first `n` octets; gives where its transfer data
-/// stands, and the parameter `name` in it if there is one. Refused are 15, 1 to
+/// stands, and what was found of the parameters `name` in it. Refused are 15, 1 to
 /// 13, 18 and 19, then 16.
 fn survey(
     buffer: &[u8],
     n: usize,
     name: Option<u8>,
-) -> Result<(Range<usize>, Option<Range<usize>>), Refusal> {
+    which: usize,
+) -> Result<(Range<usize>, Site), Refusal> {
     let message = buffer
         .get(..n)
         .ok_or(Refusal::placeless(Refusal::ROOM_SHORT))?;
     let mut site = Site {
         name,
+        which,
+        count: 0,
         data: None,
         parameter: None,
     };
     walk(message, &mut site)?;
-    let data = site.data.ok_or(Refusal::placeless(Refusal::ABSENT))?;
-    Ok((data, site.parameter))
+    let data = site.data.take();
+    let data = data.ok_or(Refusal::placeless(Refusal::ABSENT))?;
+    Ok((data, site))
 }
 
 /// 11 if the new parameter is empty, then 8 and 9.
@@ -96,20 +107,23 @@ fn splice(
     Ok(new_n)
 }
 
-/// Replaces the transfer parameter of `new`'s own name by `new`, in the message
-/// in the first `n` octets of `buffer`; gives the message's new length.
+/// Replaces a transfer parameter of `new`'s own name, `which` of them, counted from
+/// 0 in their order, by `new`, in the message in the first `n` octets of `buffer`;
+/// gives the message's new length.
 ///
 /// If the message shrinks, the octets from its new end to the old become 0.
 /// The rest of the buffer stays, and all of it where it is refused.
 ///
 /// Refused are 15 if `n` is beyond the buffer; reading's 1 to 13, 18 and 19
 /// with their places; then all at 0: 16 without transfer data; 11 if `new` is
-/// empty; 8; 9; 16 if the name is absent; 11 if octets of `new` are too few or
-/// left over; what is wrong with the new contents (12, 13, 18 or 19); 14; 15.
-pub fn replace(buffer: &mut [u8], n: usize, new: &[u8]) -> Result<usize, Refusal> {
+/// empty; 8; 9; 16 if there are not so many of the name; 11 if octets of `new` are
+/// too few or left over; what is wrong with the new contents (12, 13, 18 or 19); 14;
+/// 15.
+pub fn replace(buffer: &mut [u8], n: usize, new: &[u8], which: usize) -> Result<usize, Refusal> {
     let name = new.first().map(|&header| name_of(header));
-    let (data, old) = survey(buffer, n, name)?;
+    let (data, found) = survey(buffer, n, name, which)?;
     let layout = check_new_header(new)?;
+    let old = found.parameter;
     let old = old.ok_or(Refusal::placeless(Refusal::ABSENT))?;
     check_new_contents(layout, new)?;
     splice(buffer, n, data, old, new)
@@ -121,13 +135,13 @@ pub fn replace(buffer: &mut [u8], n: usize, new: &[u8]) -> Result<usize, Refusal
 ///
 /// Octets past the message's new end stay, and all where it is refused.
 ///
-/// Refused is what [`replace`] refuses, but 10 if the name is present where
-/// that has 16 if it is absent.
+/// Refused is what [`replace`] refuses, but 10 if the name is present, or CC three
+/// times, where that has 16 if it is absent.
 pub fn append(buffer: &mut [u8], n: usize, new: &[u8]) -> Result<usize, Refusal> {
     let name = new.first().map(|&header| name_of(header));
-    let (data, present) = survey(buffer, n, name)?;
+    let (data, present) = survey(buffer, n, name, 0)?;
     let layout = check_new_header(new)?;
-    if present.is_some() {
+    if present.count >= limit_of(name_of(new[0])) {
         return Err(Refusal::placeless(Refusal::NAME_REPEATED));
     }
     check_new_contents(layout, new)?;
@@ -135,17 +149,19 @@ pub fn append(buffer: &mut [u8], n: usize, new: &[u8]) -> Result<usize, Refusal>
     splice(buffer, n, data, end..end, new)
 }
 
-/// Removes the transfer parameter `name`, in the message in the first `n`
-/// octets of `buffer`; gives the message's new length.
+/// Removes the transfer parameter `name`, `which` of them, counted from 0 in their
+/// order, in the message in the first `n` octets of `buffer`; gives the message's
+/// new length.
 ///
 /// The octets from the message's new end to the old become 0. The rest of the
 /// buffer stays, and all of it where it is refused.
 ///
 /// Refused are 15 if `n` is beyond the buffer; reading's 1 to 13, 18 and 19
-/// with their places; then 16 at 0 without transfer data, or if the name is
-/// absent, unused or over 63.
-pub fn remove(buffer: &mut [u8], n: usize, name: u8) -> Result<usize, Refusal> {
-    let (data, old) = survey(buffer, n, Some(name))?;
+/// with their places; then 16 at 0 without transfer data, if there are not so many
+/// of the name, or if it is unused or over 63.
+pub fn remove(buffer: &mut [u8], n: usize, name: u8, which: usize) -> Result<usize, Refusal> {
+    let (data, found) = survey(buffer, n, Some(name), which)?;
+    let old = found.parameter;
     let old = old.ok_or(Refusal::placeless(Refusal::ABSENT))?;
     splice(buffer, n, data, old, &[])
 }

@@ -24,6 +24,8 @@ impl Visitor for CommonSought {
 /// Remembers where the contents of one transfer parameter stand.
 struct TransferSought {
     name: u8,
+    /// So many of the name are still passed over.
+    before: usize,
     found: Option<Range<usize>>,
 }
 
@@ -31,8 +33,12 @@ impl Visitor for TransferSought {
     fn common(&mut self, _: Parameter<'_>) {}
 
     fn transfer(&mut self, parameter: Parameter<'_>) {
-        if name_of(parameter.header) == self.name {
-            self.found = Some(parameter.contents_range());
+        if name_of(parameter.header) != self.name || self.found.is_some() {
+            return;
+        }
+        match self.before {
+            0 => self.found = Some(parameter.contents_range()),
+            _ => self.before -= 1,
         }
     }
 }
@@ -51,12 +57,17 @@ pub fn find_common(message: &[u8], header: u8) -> Result<Range<usize>, Refusal> 
     sought.found.ok_or(Refusal::placeless(Refusal::ABSENT))
 }
 
-/// Where in `message` the contents of the transfer parameter `name` stand.
+/// Where in `message` the contents of the transfer parameter `name` stand: of
+/// `which` of them, counted from 0 in their order.
 ///
-/// Refused are reading's 1 to 13, 18 and 19, then 16 at 0 if the name is absent,
-/// unused or over 63, or if there is no transfer data.
-pub fn find_transfer(message: &[u8], name: u8) -> Result<Range<usize>, Refusal> {
-    let mut sought = TransferSought { name, found: None };
+/// Refused are reading's 1 to 13, 18 and 19, then 16 at 0 if there are not so many,
+/// if the name is unused or over 63, or if there is no transfer data.
+pub fn find_transfer(message: &[u8], name: u8, which: usize) -> Result<Range<usize>, Refusal> {
+    let mut sought = TransferSought {
+        name,
+        before: which,
+        found: None,
+    };
     walk(message, &mut sought)?;
     sought.found.ok_or(Refusal::placeless(Refusal::ABSENT))
 }

@@ -8,7 +8,7 @@
 use crate::common::{COMMON_LIMIT, TRANSFER_DATA};
 use crate::record::{Common, Record, Transfer};
 use crate::refusal::Refusal;
-use crate::transfer::{Held, NAME_COUNT};
+use crate::transfer::{Held, TRANSFER_LIMIT};
 
 /// Octets of a common parameter in an image, without its transfer parameters.
 const COMMON_LEN: usize = 7;
@@ -127,7 +127,7 @@ fn parse_common(rest: &mut Rest<'_>, record: &mut Record) -> Option<()> {
         TRANSFER_DATA => usize::from(count),
         _ => 0,
     };
-    if count > NAME_COUNT {
+    if count > TRANSFER_LIMIT {
         return None;
     }
     let mut parameter = Common {

@@ -4,8 +4,8 @@
 //! them, the transfer data, holds transfer parameters of its own. This crate
 //! reads a message to a [`Record`], writes a record, finds a parameter's
 //! contents, lists the spans of all parameters, classes code values, opens the
-//! charging information and the connection order, edits a message in place, and
-//! reads and writes by the mobile call profile, which asks for more.
+//! charging information, the connection order and the carriers, edits a message in
+//! place, and reads and writes by the mobile call profile, which asks for more.
 //!
 //! Every question is answered with what was asked for, or with a [`Refusal`]:
 //! a number that says why, and a place that says where. No call changes lent
@@ -25,6 +25,7 @@
 #![forbid(unsafe_code)]
 #![warn(missing_docs)]
 
+pub mod carriers;
 pub mod charging;
 pub mod classes;
 pub mod common;
@@ -43,6 +44,7 @@ pub mod refusal;
 pub mod transfer;
 pub mod writing;
 
+pub use carriers::{carrier_digits, carrier_spans, carriers, CarrierRow};
 pub use charging::{charging, Charging};
 pub use classes::{class_of, Class};
 pub use editing::{append, remove, replace};

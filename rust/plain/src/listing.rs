@@ -4,9 +4,9 @@ use crate::common::END_MARK;
 use crate::reading::{walk, Parameter, Visitor};
 use crate::refusal::Refusal;
 
-/// The most rows of a message: 7 common ones, the end mark among them, and 52
+/// The most rows of a message: 7 common ones, the end mark among them, and 54
 /// transfer parameters.
-pub const ROW_LIMIT: usize = 59;
+pub const ROW_LIMIT: usize = 61;
 
 /// One parameter's span.
 #[derive(Clone, Copy, Debug, Default, PartialEq, Eq)]

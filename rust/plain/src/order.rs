@@ -1,7 +1,7 @@
 //! The connection order, E0: the connection form, and parameters with headers of
 //! their own, each at most once.
 
-use crate::digits::{octets_for, DIALLED};
+use crate::digits::{check_decimal, octets_for, DIALLED};
 use crate::fault::{formed, none_bad, Fault};
 use crate::finding::find_transfer;
 use crate::listing::Row;
@@ -135,13 +135,7 @@ fn check_number(octets: &[u8]) -> Result<(), Fault> {
     };
     let odd = first & 0x80 != 0;
     formed(second & 0x0F == 0 && !(odd && digits.is_empty()))?;
-    let (pairs, last) = digits.split_at(digits.len() - usize::from(odd));
-    let is_pair = |octet: u8| octet & 0x0F < 10 && octet >> 4 < 10;
-    let checked = all(pairs, is_pair).and_then(|()| {
-        // One digit, and the filler above it.
-        all(last, |octet| octet < 10).map_err(|fault| fault.behind(pairs.len()))
-    });
-    checked.map_err(|fault| fault.behind(2))
+    check_decimal(digits, odd).map_err(|fault| fault.behind(2))
 }
 
 /// Whether it may stand among the characters: a digit, `;` or ETX.
@@ -202,7 +196,7 @@ pub(crate) fn check(contents: &[u8]) -> Result<(), Fault> {
 ///
 /// Refused are reading's 1 to 13, 18 and 19, then 16 at 0 if there is none.
 pub fn order(message: &[u8]) -> Result<Vec<Row>, Refusal> {
-    let contents = find_transfer(message, name_of(ORDER))?;
+    let contents = find_transfer(message, name_of(ORDER), 0)?;
     let start = contents.start;
     let mut rows = Vec::with_capacity(ORDER_ROW_LIMIT);
     // Reading has gone over them and found nothing wrong.

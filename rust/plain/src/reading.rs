@@ -6,7 +6,7 @@ use crate::fault::Fault;
 use crate::number;
 use crate::record::{Common, Record, Transfer};
 use crate::refusal::Refusal;
-use crate::transfer::{self, digit_count, Held, Names, NAME_COUNT};
+use crate::transfer::{self, digit_count, Held, Names, TRANSFER_LIMIT};
 use std::ops::Range;
 
 /// A parameter that the walk has checked, inside the walked message.
@@ -177,7 +177,7 @@ pub fn read(message: &[u8]) -> Result<Record, Refusal> {
 fn hold_common(parameter: Parameter<'_>) -> Common {
     let (value, more_data) = common::held_in(parameter.header, parameter.contents);
     let expected = match parameter.header {
-        TRANSFER_DATA => NAME_COUNT.min(parameter.contents.len() / 2),
+        TRANSFER_DATA => TRANSFER_LIMIT.min(parameter.contents.len() / 2),
         _ => 0,
     };
     Common {

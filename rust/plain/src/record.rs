@@ -2,7 +2,7 @@
 
 use crate::common::{COMMON_LIMIT, SEQUENCE, TRANSFER_DATA};
 use crate::digits::octets_for;
-use crate::transfer::{Held, DATA_LIMIT, NAME_COUNT};
+use crate::transfer::{Held, DATA_LIMIT, TRANSFER_LIMIT};
 use std::ops::Range;
 
 /// A message's common parameters in their order, without the end mark.
@@ -105,7 +105,7 @@ impl Record {
     }
 
     /// Whether the record is within its limits: at most 6 common parameters,
-    /// and in all its C5 together at most 52 transfer parameters, whose
+    /// and in all its C5 together at most 54 transfer parameters, whose
     /// contents, laid out, come to at most 255 octets.
     pub fn within_limits(&self) -> bool {
         if self.common.len() > COMMON_LIMIT {
@@ -115,7 +115,7 @@ impl Record {
         let mut octets = 0;
         for data in self.common.iter().filter(|c| c.header == TRANSFER_DATA) {
             count += data.transfers.len();
-            if count > NAME_COUNT {
+            if count > TRANSFER_LIMIT {
                 return false;
             }
             let lens = data.transfers.iter().map(|t| self.contents_len(t));

@@ -1,5 +1,6 @@
 //! Transfer parameters: their names, their layouts, the check of one of them.
 
+use crate::carriers;
 use crate::charging;
 use crate::digits::{octets_for, DIALLED};
 use crate::fault::{formed, Fault};
@@ -12,8 +13,15 @@ use std::ops::Range;
 pub const DATA_LIMIT: usize = 255;
 /// The names in use.
 pub const NAME_COUNT: usize = 52;
+/// The most transfer parameters: each name once, and the carriers as often as
+/// they may stand.
+pub const TRANSFER_LIMIT: usize = NAME_COUNT - 1 + CARRIERS_LIMIT;
+/// How often the carriers may stand, all other names once.
+pub const CARRIERS_LIMIT: usize = 3;
 /// The most digits under PLI 10.
 pub const DIGIT_LIMIT: usize = 63;
+/// Header of the information on carriers.
+pub const CARRIERS: u8 = 0xCC;
 /// Header of the charging information.
 pub const CHARGING: u8 = 0xF7;
 /// Header of the connection order.
@@ -61,6 +69,8 @@ pub enum Layout {
     Charging,
     /// PLI 11: the connection order, E0.
     Order,
+    /// PLI 11: the carriers, CC.
+    Carriers,
     /// PLI 11: contents carried unread.
     Carried,
 }
@@ -92,7 +102,7 @@ const IN_USE: [(u8, Layout); NAME_COUNT] = [
     (0x95, Layout::Digits { zero: 0x40 }),
     (0x98, Layout::Digits { zero: 0x00 }),
     (0xA3, Layout::Digits { zero: 0xC0 }),
-    (0xCC, Layout::Carried),
+    (CARRIERS, Layout::Carriers),
     (0xCD, Layout::Carried),
     (0xCE, Layout::Carried),
     (0xCF, Layout::Two { zero: 0x08 }),
@@ -238,21 +248,42 @@ pub(crate) fn check_contents(layout: Layout, contents: &[u8]) -> Result<(), Faul
         Layout::Two { zero } => formed(matches!(contents, [_, second] if second & zero == 0)),
         Layout::Charging => charging::open(contents).map(|_| ()),
         Layout::Order => order::check(contents),
+        Layout::Carriers => carriers::check(contents),
+    }
+}
+
+/// How often a name may stand.
+pub(crate) const fn limit_of(name: u8) -> usize {
+    if name == name_of(CARRIERS) {
+        CARRIERS_LIMIT
+    } else {
+        1
     }
 }
 
 /// The names met so far.
 #[derive(Clone, Copy, Default)]
-pub(crate) struct Names(u64);
+pub(crate) struct Names {
+    /// A bit for each name that may not stand once more.
+    full: u64,
+    /// How often the carriers stood there.
+    carriers: usize,
+}
 
 impl Names {
-    /// Enters the name of `header`; 10 if it stood there already.
+    /// Enters the name of `header`; 10 if it stood there as often as it may.
     pub(crate) fn enter(&mut self, header: u8) -> Result<(), u8> {
         let bit = 1 << name_of(header);
-        if self.0 & bit != 0 {
+        if self.full & bit != 0 {
             return Err(Refusal::NAME_REPEATED);
         }
-        self.0 |= bit;
+        if name_of(header) == name_of(CARRIERS) {
+            self.carriers += 1;
+            if self.carriers < CARRIERS_LIMIT {
+                return Ok(());
+            }
+        }
+        self.full |= bit;
         Ok(())
     }
 }
@@ -277,6 +308,23 @@ mod tests {
             assert_eq!(layout_of(header), layout);
             assert_eq!(layout.pli().unwrap_or(0b00), pli_of(header));
         }
+    }
+
+    #[test]
+    fn how_often_names_stand() {
+        let mut names = Names::default();
+        let mut often = [0; 64];
+        for name in (0..4).flat_map(|_| 0..64) {
+            match names.enter(name) {
+                Ok(()) => often[usize::from(name)] += 1,
+                Err(number) => assert_eq!(number, 10),
+            }
+        }
+        let expected = std::array::from_fn(|name| if name == 0x0C { 3 } else { 1 });
+        assert_eq!(often, expected);
+        assert_eq!((0..64).map(limit_of).collect::<Vec<_>>(), expected);
+        let used = (0..64).filter(|&name| layout_of(name) != Layout::Unused);
+        assert_eq!(used.map(limit_of).sum::<usize>(), TRANSFER_LIMIT);
     }
 
     #[test]

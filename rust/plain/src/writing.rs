@@ -6,12 +6,12 @@ use crate::fault::formed;
 use crate::number;
 use crate::record::{Common, Record, Transfer};
 use crate::refusal::Refusal;
-use crate::transfer::{self, pli_of, Held, Names, DATA_LIMIT, DIGIT_LIMIT};
+use crate::transfer::{self, pli_of, Held, Names, DATA_LIMIT, DIGIT_LIMIT, TRANSFER_LIMIT};
 
 /// Octets enough for what a record within its limits can come to before it is
 /// refused: 14 of the other common parameters, 2 of C5, 255 of contents, a
-/// header and a length octet for each of 52 transfer parameters, the end mark.
-const DRAFT_LEN: usize = 14 + 2 + 255 + 2 * 52 + 1;
+/// header and a length octet for each transfer parameter, the end mark.
+const DRAFT_LEN: usize = 14 + 2 + DATA_LIMIT + 2 * TRANSFER_LIMIT + 1;
 
 /// The message as far as it is laid out.
 struct Draft {

@@ -88,7 +88,10 @@ fn case_14() {
 #[test]
 fn case_15() {
     let mut buffer = M;
-    assert_eq!(plain::replace(&mut buffer, 23, &octets("98 02 21")), Ok(22));
+    assert_eq!(
+        plain::replace(&mut buffer, 23, &octets("98 02 21"), 0),
+        Ok(22)
+    );
     let edited = "01 01 83 39 30 00 04 01 06 11 C5 09 90 04 21 3A 52 81 98 02 21 00 00";
     assert_eq!(buffer[..], octets(edited));
     assert_eq!((buffer[11], buffer[21], buffer[22]), (9, 0, 0));

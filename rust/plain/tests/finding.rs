@@ -20,10 +20,13 @@ fn common_contents() {
 
 #[test]
 fn transfer_contents() {
-    assert_eq!(find_transfer(&M, 0x10), Ok(13..16));
-    assert_eq!(find_transfer(&M, 0x12), Ok(17..18));
+    assert_eq!(find_transfer(&M, 0x10, 0), Ok(13..16));
+    assert_eq!(find_transfer(&M, 0x12, 0), Ok(17..18));
     for name in [0x00, 0x07, 0x0C, 0x50, 0x90] {
-        assert_eq!(find_transfer(&M, name), Err(ABSENT));
+        assert_eq!(find_transfer(&M, name, 0), Err(ABSENT));
     }
-    assert_eq!(find_transfer(&[1, 1, 6, 0x11, 0], 0x10), Err(ABSENT));
+    assert_eq!(find_transfer(&[1, 1, 6, 0x11, 0], 0x10, 0), Err(ABSENT));
+    for which in [1, 2, 256, usize::MAX] {
+        assert_eq!(find_transfer(&M, 0x10, which), Err(ABSENT));
+    }
 }

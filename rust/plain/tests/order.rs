@@ -42,7 +42,7 @@ fn form_and_parameters_as_rows() {
     let sound = message(SOUND);
     assert_eq!(order(&sound).as_deref(), Ok(&rows[..]));
     let total: usize = rows.iter().map(|row| 1 + usize::from(row.len)).sum();
-    assert_eq!(find_transfer(&sound, 0x20), Ok(8..8 + total));
+    assert_eq!(find_transfer(&sound, 0x20, 0), Ok(8..8 + total));
     assert_eq!(order(&message("E0 01 28")), Ok(vec![row(8, 0x28, 0)]));
 }
 

@@ -5,12 +5,13 @@ mod opened;
 mod support;
 
 use opened::{edits_refuse_at_0, message, written};
-use plain::{append, charging, find_common, find_transfer, order, order_spans};
-use plain::{read, remove, replace, rows, spans, verdict, Refusal};
+use plain::{append, carrier_digits, carrier_spans, carriers, charging, find_common};
+use plain::{find_transfer, order, order_spans, read, remove, replace, rows, spans};
+use plain::{verdict, Refusal};
 use support::octets;
 
 /// Parameters, and how far behind the header the first bad half or character is.
-const BAD: [(&str, usize); 34] = [
+const BAD: [(&str, usize); 40] = [
     // Under PLI 10: the low half, the high half, both; a digit, the filler, both.
     ("90 01 00", 2),
     ("90 04 21 D1", 3),
@@ -58,10 +59,18 @@ const BAD: [(&str, usize); 34] = [
     ("E0 06 31 CD 03 11 02 04", 7),
     ("E0 05 3D D2 31 38 03", 6),
     ("E0 09 31 D2 31 2F 30 C9 03 11 00", 5),
+    // CC: the low half, the high half, a digit and the filler; behind other entries,
+    // and in two codes.
+    ("CC 07 01 FA 04 FE 02 00 0A", 8),
+    ("CC 08 01 FA 05 FE 03 00 21 A3", 9),
+    ("CC 08 01 FA 05 FE 03 80 21 13", 9),
+    ("CC 08 00 FA 05 FE 03 80 F1 1A", 8),
+    ("CC 0B 02 F8 00 FA 06 FC 00 FE 02 80 0F", 12),
+    ("CC 0F 02 FE 04 FE 02 80 01 FB 04 FE 02 80 1F F8 00", 14),
 ];
 
 /// The refusals of all calls that read the message.
-fn refusals(message: &[u8]) -> [Option<Refusal>; 12] {
+fn refusals(message: &[u8]) -> [Option<Refusal>; 15] {
     let n = message.len();
     let edited = |edit: fn(&mut [u8], usize) -> Result<usize, Refusal>| {
         let mut buffer = message.to_vec();
@@ -75,13 +84,16 @@ fn refusals(message: &[u8]) -> [Option<Refusal>; 12] {
         rows(message).err(),
         spans(message, &mut []).err(),
         find_common(message, 0x01).err(),
-        find_transfer(message, 0x02).err(),
+        find_transfer(message, 0x02, 0).err(),
         charging(message).err(),
         order(message).err(),
         order_spans(message, &mut []).err(),
-        edited(|buffer, n| replace(buffer, n, &[0x42, 0x01])),
+        carriers(message, 0).err(),
+        carrier_spans(message, 0, &mut []).err(),
+        carrier_digits(message, 0, 0).err(),
+        edited(|buffer, n| replace(buffer, n, &[0x42, 0x01], 0)),
         edited(|buffer, n| append(buffer, n, &[])),
-        edited(|buffer, n| remove(buffer, n, 0x02)),
+        edited(|buffer, n| remove(buffer, n, 0x02, 0)),
     ]
 }
 
@@ -94,19 +106,19 @@ fn read_with_the_place_of_the_octet() {
             }
             let message = message(&format!("{before} {parameter} 46 00"));
             let refused = Refusal::new(13, header + behind);
-            assert_eq!(refusals(&message), [Some(refused); 12], "{parameter}");
+            assert_eq!(refusals(&message), [Some(refused); 15], "{parameter}");
         }
     }
 }
 
-/// F7 and E0 are held as their contents; of the others a digit that is too large
+/// F7, E0 and CC are held as their contents; of the others a digit that is too large
 /// stands for a spare one.
 #[test]
 fn written_with_the_place_of_the_header() {
     for (parameter, _) in BAD {
         let parameter = octets(parameter);
         let values = match parameter[0] {
-            0xF7 | 0xE0 => parameter[2..].to_vec(),
+            0xF7 | 0xE0 | 0xCC => parameter[2..].to_vec(),
             0xDA => vec![0x06, 1, 2, 12],
             _ => vec![1, 2, 12],
         };
@@ -122,6 +134,7 @@ fn sound(header: &str) -> [String; 2] {
         "DA" => ["01 00", "02 00 00"],
         "F7" => ["02 00 02", "04 00 05 12 31"],
         "E0" => ["01 28", "04 28 42 01 02"],
+        "CC" => ["01 00", "03 00 F8 00"],
         _ => ["00", "01 01"],
     };
     contents.map(|contents| format!("{header} {contents}"))

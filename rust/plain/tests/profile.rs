@@ -178,7 +178,7 @@ fn at_the_end_mark() {
     let bare = octets("01 01 06 11 00");
     assert_eq!(profile_read(&bare), Err(Refusal::new(20, 4)));
     let full = [
-        &octets("01 01 82 01 02 03 83 04 05 06 04 01 06 11 C5 FF 7E 02 CC FB")[..],
+        &octets("01 01 82 01 02 03 83 04 05 06 04 01 06 11 C5 FF 7E 02 CE FB")[..],
         &[0x00; 252],
     ];
     assert_eq!(profile_read(&full.concat()), Err(Refusal::new(20, 271)));
@@ -224,9 +224,9 @@ fn stray(common: &[(u8, u32)], transfers: &[(Transfer, &[u8])]) -> Record {
 fn not_written() -> Vec<(Record, u8)> {
     let one = |header, values| stray(&[(0xC5, 0)], &[(transfer(header), values)]);
     let twice = [(transfer(0x41), &[0][..]), (transfer(0x41), &[0])];
-    let wide = [(transfer(0xCC), &[0; 127][..]), (transfer(0xCD), &[0; 127])];
+    let wide = [(transfer(0xCE), &[0; 127][..]), (transfer(0xCD), &[0; 127])];
     vec![
-        (one(0xCC, &[0; 256]), 1),
+        (one(0xCE, &[0; 256]), 1),
         (stray(&[(0x07, 0)], &[]), 2),
         (stray(&[(0x01, 1)], &[]), 3),
         (stray(&[(0x04, 2)], &[]), 5),

@@ -2,7 +2,8 @@
 
 mod support;
 
-use plain::{Record, Refusal, Transfer};
+use plain::{Record, Refusal, Row, Transfer};
+use std::ops::Range;
 use support::{octets, record, transfer, vectors, M};
 
 /// The messages of the vectors and the bench table that reading accepts.
@@ -61,14 +62,14 @@ fn a_parameter_removed_and_appended_stands_last() {
         let Ok(data) = plain::find_common(&message, 0xC5) else {
             continue;
         };
-        let rows = plain::rows(&message).unwrap();
-        for row in rows.iter().filter(|r| data.contains(&r.offset.into())) {
-            let contents = plain::find_transfer(&message, row.header & 0x3F).unwrap();
+        for (row, which) in transfers(&message, &data) {
+            let name = row.header & 0x3F;
+            let contents = plain::find_transfer(&message, name, which).unwrap();
             assert_eq!(contents.len(), usize::from(row.len));
             let parameter = &message[row.offset.into()..contents.end];
 
             let mut buffer = message.clone();
-            let n = plain::remove(&mut buffer, message.len(), row.header & 0x3F).unwrap();
+            let n = plain::remove(&mut buffer, message.len(), name, which).unwrap();
             assert_eq!(n + parameter.len(), message.len());
             assert!(buffer[n..].iter().all(|&octet| octet == 0));
             assert_eq!(plain::append(&mut buffer, n, parameter), Ok(message.len()));
@@ -80,13 +81,28 @@ fn a_parameter_removed_and_appended_stands_last() {
                 &message[data.end..],
             ];
             assert_eq!(buffer, expected.concat());
+            let all = transfers(&buffer, &data);
+            let (_, last) = all.last().expect("the parameter that was appended");
             assert_eq!(
-                plain::replace(&mut buffer, message.len(), parameter),
+                plain::replace(&mut buffer, message.len(), parameter, *last),
                 Ok(message.len())
             );
             assert_eq!(buffer, expected.concat());
         }
     }
+}
+
+/// The rows of the transfer parameters, each with which of its name it is.
+fn transfers(message: &[u8], data: &Range<usize>) -> Vec<(Row, usize)> {
+    let rows = plain::rows(message).unwrap();
+    let inside = rows.into_iter().filter(|r| data.contains(&r.offset.into()));
+    let mut counts = [0; 64];
+    let which = |row: Row| {
+        let count: &mut usize = &mut counts[usize::from(row.header & 0x3F)];
+        *count += 1;
+        (row, *count - 1)
+    };
+    inside.map(which).collect()
 }
 
 /// A record with 01, 06 and a C5 of this transfer parameter.

@@ -2,7 +2,7 @@
 
 mod support;
 
-use plain::{AddedClass, Network, Record, Refusal};
+use plain::{AddedClass, CarrierRow, Network, Record, Refusal};
 use support::{expected, octets, vectors, Expected};
 
 #[test]
@@ -49,18 +49,24 @@ fn records() {
     }
 }
 
+fn number(word: &str) -> usize {
+    word.parse().expect("a number")
+}
+
 #[test]
 fn edits() {
     for line in vectors("edits.txt") {
-        let (edit, argument) = line[0].split_once(' ').expect("an edit and its argument");
+        let edit: Vec<&str> = line[0].split_whitespace().collect();
         let before = octets(&line[1]);
         let mut buffer = before.clone();
         let n = line[2].parse().expect("a length");
-        let edited = match edit {
-            "replace" => plain::replace(&mut buffer, n, &octets(argument)),
-            "append" => plain::append(&mut buffer, n, &octets(argument)),
-            "remove" => plain::remove(&mut buffer, n, argument.parse().expect("a name")),
-            other => panic!("no edit: {other}"),
+        let edited = match edit[..] {
+            ["replace", new, which] => plain::replace(&mut buffer, n, &octets(new), number(which)),
+            ["append", new] => plain::append(&mut buffer, n, &octets(new)),
+            ["remove", name, which] => {
+                plain::remove(&mut buffer, n, number(name) as u8, number(which))
+            }
+            _ => panic!("no edit: {line:?}"),
         };
         match expected(&line[3]) {
             Expected::Accepted(words) => {
@@ -120,4 +126,47 @@ fn has_added_classes(message: &[u8], line: &[String]) {
     };
     let opened = plain::added_classes(message);
     assert_eq!(opened.map(pairs), expected, "{line:?}");
+}
+
+#[test]
+fn carriers() {
+    for line in vectors("carriers.txt") {
+        let call: Vec<&str> = line[0].split_whitespace().collect();
+        let message = octets(call[1]);
+        let opened = match call[..] {
+            ["rows", _, which] => plain::carriers(&message, number(which)).map(rows_in_words),
+            ["digits", _, which, row] => {
+                let digits = plain::carrier_digits(&message, number(which), number(row));
+                digits.map(digits_in_words)
+            }
+            _ => panic!("no call: {line:?}"),
+        };
+        let expected = match expected(&line[1]) {
+            Expected::Accepted(words) => Ok(words.join(" ")),
+            Expected::Refused(refusal) => Err(refusal),
+        };
+        assert_eq!(opened, expected, "{line:?}");
+    }
+}
+
+fn rows_in_words(rows: Vec<CarrierRow>) -> String {
+    let words = |row: &CarrierRow| {
+        let CarrierRow {
+            level,
+            tag,
+            offset,
+            len,
+            digits,
+        } = row;
+        format!("{level} {tag:02X} {offset} {len} {digits}")
+    };
+    let rows: Vec<String> = rows.iter().map(words).collect();
+    rows.join(", ")
+}
+
+fn digits_in_words(digits: Vec<u8>) -> String {
+    if digits.is_empty() {
+        return "-".to_owned();
+    }
+    digits.iter().map(u8::to_string).collect()
 }

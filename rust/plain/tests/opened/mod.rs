@@ -19,12 +19,12 @@ pub fn written(header: u8, contents: &[u8]) -> Result<Vec<u8>, Refusal> {
     Ok(room[..len].to_vec())
 }
 
-/// K with this parameter before a CC that fills the transfer data up.
+/// K with this parameter before a CE that fills the transfer data up.
 fn full(parameter: &str) -> Vec<u8> {
     let parameter = octets(parameter);
     let left = 255 - parameter.len() - 2;
     let head = octets("01 01 06 11 C5 FF");
-    let carried = [&[0xCC, left as u8], &vec![0x00; left][..]].concat();
+    let carried = [&[0xCE, left as u8], &vec![0x00; left][..]].concat();
     [&head, &parameter, &carried, &[0x00][..]].concat()
 }
 
@@ -37,6 +37,6 @@ pub fn edits_refuse_at_0(faulty: &[(&str, u8)], sound: &str, old: &str) {
         let (mut without, mut with) = (full(""), full(old));
         let n = without.len();
         assert_eq!(append(&mut without, n, &octets(new)), refused);
-        assert_eq!(replace(&mut with, n, &octets(new)), refused);
+        assert_eq!(replace(&mut with, n, &octets(new), 0), refused);
     }
 }
