@@ -22,16 +22,23 @@ extern "C" {
 /* The most octets of a message. */
 #define TK_MESSAGE_MAX 272
 /* The most rows of a message, and the octets of one row. */
-#define TK_ROWS_MAX 59
+#define TK_ROWS_MAX 61
 #define TK_ROW_LEN 5
-/* Room for the image of any record that is read: the count, 6 common and 52 transfer parameters, two values to an octet of C5. */
-#define TK_IMAGE_MAX (1 + 6 * 7 + 52 * 11 + 2 * 255)
+/* Room for the image of any record that is read: the count, 6 common and 54 transfer parameters, two values to an octet of C5. */
+#define TK_IMAGE_MAX (1 + 6 * 7 + 54 * 11 + 2 * 255)
 /* The octets of the opened charging information. */
 #define TK_CHARGING_LEN 23
 /* The most rows of an opened connection order: its form, and as many parameters as can stand under one form. */
 #define TK_ORDER_ROWS_MAX 5
 /* The most octets of the added classes of D6 in the mobile call profile: a name and a value for each of six names. */
 #define TK_ADDED_MAX 12
+/* How often the carriers, CC, may stand in a message. */
+#define TK_CARRIERS_MAX 3
+/* The most rows of one opened CC, its direction and the entries of two octets that a message has room for; and the octets of one row. */
+#define TK_CARRIER_ROWS_MAX 127
+#define TK_CARRIER_ROW_LEN 8
+/* The most digits of a carrier's code: two to an octet, where it is all that a message has room for. */
+#define TK_CARRIER_DIGITS_MAX (2 * 247)
 
 /* Why a call was refused. */
 enum tk_number {
@@ -45,13 +52,13 @@ enum tk_number {
     TK_LEFT_OVER = 7,         /* something follows the end mark */
     TK_UNUSED_NAME = 8,       /* a transfer name that is not in use */
     TK_OTHER_PLI = 9,         /* a transfer name under a PLI that it does not have */
-    TK_REPEATED_NAME = 10,    /* a transfer name for the second time */
+    TK_REPEATED_NAME = 10,    /* a transfer name for the second time, CC for the fourth */
     TK_CUT_CONTENTS = 11,     /* contents that run past their end, or are not as long as their PLI says */
     TK_BAD_FORM = 12,         /* a bit that must be 0 is not, contents of the wrong form, or a value too large for its bits */
     TK_BAD_DIGIT = 13,        /* a digit code without a meaning, a character that may not be there, or a half left over that is not 0 */
     TK_TRANSFER_OVER = 14,    /* transfer data longer than 255 octets */
     TK_NO_ROOM = 15,          /* what is lent is too short */
-    TK_ABSENT = 16,           /* the parameter, or the transfer data, is not there */
+    TK_ABSENT = 16,           /* the parameter, that one of several, or the transfer data is not there */
     TK_NO_CLASS_LIST = 17,    /* the header's code values have no classes */
     TK_CHECK_DIGIT = 18,      /* the check digit of the charging information is wrong */
     TK_CONNECTION_ORDER = 19, /* a form or header of the connection order is not listed, not under that form, or repeated */
@@ -95,6 +102,32 @@ enum tk_added_name {
     TK_ADDED_FIXED_1 = 0xFE          /* fixed added class 1 */
 };
 
+/* Which way the route of carriers is told: the direction octet of CC. */
+enum tk_direction {
+    TK_DIRECTION_NONE = 0x00,     /* it is not told */
+    TK_DIRECTION_FORWARD = 0x01,  /* forward */
+    TK_DIRECTION_BACKWARD = 0x02, /* backward */
+    TK_DIRECTION_BOTH = 0x03      /* both ways */
+};
+
+/* The tags of carrier entries in CC: what the carrier is to the call. */
+enum tk_carrier {
+    TK_CARRIER_OLD_SCP = 0xF8,     /* that of the SCP from which the number was moved */
+    TK_CARRIER_NEW_SCP = 0xF9,     /* that of the SCP to which it was moved */
+    TK_CARRIER_SCP = 0xFA,         /* that of the SCP */
+    TK_CARRIER_ORIGINATING = 0xFB, /* the originating one */
+    TK_CARRIER_TERMINATING = 0xFC, /* the terminating one */
+    TK_CARRIER_TRANSIT = 0xFD,     /* the selected transit carrier */
+    TK_CARRIER_ROUTE = 0xFE        /* one on the route */
+};
+
+/* The tags of dependent entries in a carrier entry. */
+enum tk_dependent {
+    TK_DEPENDENT_POI_LEVEL = 0xFC,       /* POI, its level: carried octets */
+    TK_DEPENDENT_POI_CHARGE_AREA = 0xFD, /* POI, its charging area: carried octets */
+    TK_DEPENDENT_CODE = 0xFE             /* the carrier's code: digits */
+};
+
 /*
  * Every function answers with one number: tk_number * 2^32 + place * 2^16 + value. Where the call is refused, the place says where
  * in the message (0 where the refusal has no place) and the value is 0. Where it is accepted, the functions below say what
@@ -136,7 +169,7 @@ static inline size_t tk_value_of(uint64_t answer) { return (size_t)(answer & 0xF
  * each transfer parameter of C5 8 to 12, 18 and 19 at its own, and 13 at the octet that holds the first bad digit or character, the low
  * half of an octet coming before the high one and a half left over last; 4 at the message's length if there is no end mark; 6 at the
  * end mark; 7 at the octet behind it. The first that applies is the answer, here and below. In a connection order, E0, that is the
- * first fault from left to right: of the form, then of each parameter 19, 12 or 13.
+ * first fault from left to right: of the form, then of each parameter 19, 12 or 13. In the carriers, CC, 12 comes before 13.
  */
 
 /* The record of a message. Value: the length of its image, at the front of `image`; the octets behind it stay.
@@ -158,9 +191,10 @@ uint64_t tk_rows(const uint8_t *message, size_t message_len, uint8_t *table, siz
  * Refused: reading's; 16 at 0 if there is no such parameter, and for 00. */
 uint64_t tk_find_common(const uint8_t *message, size_t message_len, uint8_t header);
 
-/* The contents of a transfer parameter by its name, the lower six bits of its header. Place and value as above.
- * Refused: reading's; 16 at 0 if there is no such parameter, and for a name over 63. */
-uint64_t tk_find_transfer(const uint8_t *message, size_t message_len, uint8_t name);
+/* The contents of a transfer parameter by its name, the lower six bits of its header, and by which of that name it is: `which` counts
+ * from 0 in the order of the message, here and below. All names but CC's stand once, so that it is 0 for them. Place and value as above.
+ * Refused: reading's; 16 at 0 if there is no such parameter, if there are not so many of its name, and for a name over 63. */
+uint64_t tk_find_transfer(const uint8_t *message, size_t message_len, uint8_t name, size_t which);
 
 /* The class of an octet under a transfer header; under D7 and DC bit 7 is not looked at. Value: a tk_class_value.
  * Refused: 17 at 0; 12 at 0 if a bit is set that must be 0. */
@@ -213,23 +247,48 @@ uint64_t tk_profile_write(const uint8_t *image, size_t image_len, uint8_t *room,
 uint64_t tk_added_classes(const uint8_t *message, size_t message_len, uint8_t *out, size_t out_len);
 
 /*
+ * The carriers, CC, are a direction octet, at most 3, and then carrier entries to the end: each a tag (a tk_carrier), a length octet, and
+ * as many octets, which are dependent entries, one behind the other: each a tag (a tk_dependent), a length octet, and as many octets.
+ * Entries of both kinds may repeat, and may be empty, but for a code, TK_DEPENDENT_CODE: its first octet is 80 if its count of digits is
+ * odd, else 00, and its digits follow as in D7, but 0 to 9 alone; an odd count has a digit octet. What breaks this is 12 wherever it
+ * stands; only then come bad digits and fillers, 13. A record holds CC as its contents.
+ */
+
+/* One of the carriers, CC, opened; `which` counts from 0. Value: the count of rows, at the front of `table`; the octets behind them stay.
+ * The first row is of the direction. Then each carrier entry has one, and right behind it each of its dependent entries.
+ *
+ *   1  level: 0 the direction, 1 a carrier entry, 2 a dependent entry
+ *   1  tag; of the direction its octet, a tk_direction
+ *   2  offset of the tag, or of the direction, in the message, least first
+ *   2  length of what the entry holds, all behind its length octet, least first; of the direction 0
+ *   2  count of digits of a code, least first; of all else 0
+ *
+ * Refused: reading's; 16 at 0 if there are not so many CC; 15 at 0 if `table` is too short. */
+uint64_t tk_carriers(const uint8_t *message, size_t message_len, size_t which, uint8_t *table, size_t table_len);
+
+/* The digits of a code in one of the carriers, CC; `row` counts from 0 as the rows of tk_carriers stand. Value: the count of digits, 0 to
+ * 9 in an octet each, the first digit first, at the front of `out`; those behind them stay.
+ * Refused: reading's; 16 at 0 if there are not so many CC or rows, or if the row is no code; 15 at 0 if `out` is too short. */
+uint64_t tk_carrier_digits(const uint8_t *message, size_t message_len, size_t which, size_t row, uint8_t *out, size_t out_len);
+
+/*
  * Edits of the message in the first `n` octets of `buffer`. Value: the message's new length. Octets between the new end and a later
  * old one become 0; those behind both stay. `new_octets` is a whole transfer parameter, header first. An `n` beyond the buffer is
  * TK_NO_ROOM, 15 at 0, before all else; then come reading's refusals with their places; all that come after reading are at 0.
  */
 
-/* Puts the new parameter in the place of the one with its name.
- * Refused: 15 (n); reading's; then at 0: 16 (no transfer data), 11 (no new octets), 8, 9, 16 (name absent), 11 (new octets too few
- * or left over), what is wrong with the new contents (12, 13, 18 or 19), 14, 15 (`buffer` too short). */
-uint64_t tk_replace(uint8_t *buffer, size_t buffer_len, size_t n, const uint8_t *new_octets, size_t new_len);
+/* Puts the new parameter in the place of the one with its name; `which` of them, counted from 0.
+ * Refused: 15 (n); reading's; then at 0: 16 (no transfer data), 11 (no new octets), 8, 9, 16 (not so many of the name), 11 (new octets
+ * too few or left over), what is wrong with the new contents (12, 13, 18 or 19), 14, 15 (`buffer` too short). */
+uint64_t tk_replace(uint8_t *buffer, size_t buffer_len, size_t n, const uint8_t *new_octets, size_t new_len, size_t which);
 
 /* Puts the new parameter behind the last one of the transfer data.
- * Refused: as tk_replace, but 10 (name present) where that has 16 (name absent). */
+ * Refused: as tk_replace, but 10 (name present, or CC three times) where that has 16 (not so many of the name). */
 uint64_t tk_append(uint8_t *buffer, size_t buffer_len, size_t n, const uint8_t *new_octets, size_t new_len);
 
-/* Takes the parameter of this name out.
- * Refused: 15 (n); reading's; then at 0: 16 (no transfer data; name absent, or over 63). */
-uint64_t tk_remove(uint8_t *buffer, size_t buffer_len, size_t n, uint8_t name);
+/* Takes the parameter of this name out; `which` of them, counted from 0.
+ * Refused: 15 (n); reading's; then at 0: 16 (no transfer data; not so many of the name; name over 63). */
+uint64_t tk_remove(uint8_t *buffer, size_t buffer_len, size_t n, uint8_t name, size_t which);
 
 #ifdef __cplusplus
 }

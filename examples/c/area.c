@@ -41,16 +41,16 @@ int main(void) {
     printf("\n");
 
     const uint8_t shorter[] = {0x98, 0x02, 0x21};
-    answer = tk_replace(message, sizeof message, sizeof message, shorter, sizeof shorter);
+    answer = tk_replace(message, sizeof message, sizeof message, shorter, sizeof shorter, 0);
     if (tk_number_of(answer) != TK_ACCEPTED) return 1;
     size_t len = tk_value_of(answer);
     print_octets("message", message, len);
 
-    answer = tk_find_transfer(message, len, DIALLED);
+    answer = tk_find_transfer(message, len, DIALLED, 0);
     if (tk_number_of(answer) != TK_ACCEPTED) return 1;
     print_octets("dialled", message + tk_place_of(answer), tk_value_of(answer));
 
-    answer = tk_remove(message, sizeof message, len, 0x17);
+    answer = tk_remove(message, sizeof message, len, 0x17, 0);
     printf("refused %d at %zu\n", tk_number_of(answer), tk_place_of(answer));
     return 0;
 }

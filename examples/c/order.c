@@ -31,7 +31,7 @@ int main(void) {
     for (size_t i = 1; i < tk_value_of(answer); i++) tell(table + i * TK_ROW_LEN);
 
     const uint8_t stranger[] = {0xE0, 0x03, 0x28, TK_ORDER_TRUNK, 0x01};
-    answer = tk_replace(message, sizeof message, sizeof message, stranger, sizeof stranger);
+    answer = tk_replace(message, sizeof message, sizeof message, stranger, sizeof stranger, 0);
     printf("refused %d at %zu\n", tk_number_of(answer), tk_place_of(answer));
     return tk_number_of(answer) != TK_CONNECTION_ORDER;
 }

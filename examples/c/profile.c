@@ -30,13 +30,13 @@ int main(void) {
     answer = tk_profile_write(image, tk_value_of(answer), written, sizeof written);
     if (answer != sizeof message || memcmp(written, message, sizeof message) != 0) return 1;
 
-    answer = tk_find_transfer(message, sizeof message, NETWORK);
+    answer = tk_find_transfer(message, sizeof message, NETWORK, 0);
     printf("network %s\n", message[tk_place_of(answer)] == TK_NETWORK_PHS ? "PHS" : "mobile");
     answer = tk_added_classes(message, sizeof message, added, sizeof added);
     if (tk_number_of(answer) != TK_ACCEPTED) return 1;
     for (size_t i = 0; i < tk_value_of(answer); i += 2) printf("%s %02X\n", text(added[i]), added[i + 1]);
 
-    answer = tk_remove(message, sizeof message, sizeof message, ORIGINATING_REGION);
+    answer = tk_remove(message, sizeof message, sizeof message, ORIGINATING_REGION, 0);
     answer = tk_profile_read(message, tk_value_of(answer), image, sizeof image);
     printf("refused %d at %zu\n", tk_number_of(answer), tk_place_of(answer));
     return tk_number_of(answer) != TK_PROFILE;

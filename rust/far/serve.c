@@ -1,20 +1,21 @@
 /*
  * serve: the codec's static library as a program of its own, for machines that cannot link it.
  *
- * It reads requests on standard input and answers each on standard output, until the input ends. A request is a head of five
+ * It reads requests on standard input and answers each on standard output, until the input ends. A request is a head of six
  * words, the octets that the call reads, and the octets that are lent to it; an answer is two words and the lent octets after
  * the call. A word is 8 octets, least first. No C library is linked: the system is called directly.
  */
 #include "tsurakemobu.h"
 
 enum { READ, WRITE, ROWS, FIND_COMMON, FIND_TRANSFER, CLASS, REPLACE, APPEND, REMOVE, CHARGING, ORDER, PROFILE_READ, PROFILE_WRITE,
-       ADDED_CLASSES };
+       ADDED_CLASSES, CARRIERS, CARRIER_DIGITS };
 
 /* What comes first in a request. */
 struct head {
     uint64_t function;  /* one of the above */
-    uint64_t first;     /* the header, the name, or the n of an edit */
-    uint64_t second;    /* the octet to be classed, or the name to be removed */
+    uint64_t first;     /* the header, the name, the n of an edit, or which carriers are to be opened */
+    uint64_t second;    /* which one is to be found or replaced, the octet to be classed, the name to be removed, or the row of a code */
+    uint64_t third;     /* which one is to be removed */
     uint64_t fixed_len; /* how many octets the call reads */
     uint64_t lent_len;  /* how many octets are lent to it */
 };
@@ -118,16 +119,18 @@ static uint64_t call(const struct head *h, const uint8_t *fixed, uint8_t *lent) 
     case WRITE: return tk_write(fixed, h->fixed_len, lent, h->lent_len);
     case ROWS: return tk_rows(fixed, h->fixed_len, lent, h->lent_len);
     case FIND_COMMON: return tk_find_common(fixed, h->fixed_len, (uint8_t)h->first);
-    case FIND_TRANSFER: return tk_find_transfer(fixed, h->fixed_len, (uint8_t)h->first);
+    case FIND_TRANSFER: return tk_find_transfer(fixed, h->fixed_len, (uint8_t)h->first, h->second);
     case CLASS: return tk_class((uint8_t)h->first, (uint8_t)h->second);
-    case REPLACE: return tk_replace(lent, h->lent_len, h->first, fixed, h->fixed_len);
+    case REPLACE: return tk_replace(lent, h->lent_len, h->first, fixed, h->fixed_len, h->second);
     case APPEND: return tk_append(lent, h->lent_len, h->first, fixed, h->fixed_len);
-    case REMOVE: return tk_remove(lent, h->lent_len, h->first, (uint8_t)h->second);
+    case REMOVE: return tk_remove(lent, h->lent_len, h->first, (uint8_t)h->second, h->third);
     case CHARGING: return tk_charging(fixed, h->fixed_len, lent, h->lent_len);
     case ORDER: return tk_order(fixed, h->fixed_len, lent, h->lent_len);
     case PROFILE_READ: return tk_profile_read(fixed, h->fixed_len, lent, h->lent_len);
     case PROFILE_WRITE: return tk_profile_write(fixed, h->fixed_len, lent, h->lent_len);
     case ADDED_CLASSES: return tk_added_classes(fixed, h->fixed_len, lent, h->lent_len);
+    case CARRIERS: return tk_carriers(fixed, h->fixed_len, h->first, lent, h->lent_len);
+    case CARRIER_DIGITS: return tk_carrier_digits(fixed, h->fixed_len, h->first, h->second, lent, h->lent_len);
     default: leave(1);
     }
 }

@@ -29,12 +29,12 @@ fn main() -> Result<(), Refusal> {
     }
 
     let mut buffer = MESSAGE;
-    let len = codec::replace(&mut buffer, MESSAGE.len(), &[0x98, 0x02, 0x21])?;
+    let len = codec::replace(&mut buffer, MESSAGE.len(), &[0x98, 0x02, 0x21], 0)?;
     println!("message {:02X?}", &buffer[..len]);
-    let dialled = codec::find_transfer(&buffer[..len], DIALLED)?;
+    let dialled = codec::find_transfer(&buffer[..len], DIALLED, 0)?;
     println!("dialled {dialled:02X?}");
 
-    match codec::remove(&mut buffer, len, 0x17) {
+    match codec::remove(&mut buffer, len, 0x17, 0) {
         Ok(len) => println!("removed, {len} octets are left"),
         Err(refusal) => println!("{refusal}"),
     }

@@ -35,11 +35,12 @@ fn main() -> Result<(), Refusal> {
         &mut buffer,
         MESSAGE.len(),
         &[0xF7, 0x04, 0x00, 0x05, 0x12, b'1'],
+        0,
     )?;
     let charging = codec::charging(&buffer[..len])?;
     println!("kind {}, MBI {}", charging.kind, charging.mbi);
 
-    match codec::replace(&mut buffer, len, &[0xF7, 0x04, 0x00, 0x05, 0x12, b'2']) {
+    match codec::replace(&mut buffer, len, &[0xF7, 0x04, 0x00, 0x05, 0x12, b'2'], 0) {
         Ok(len) => println!("replaced, {len} octets"),
         Err(refusal) => println!("{refusal}"),
     }

@@ -38,10 +38,10 @@ fn main() -> Result<(), Refusal> {
 
     let mut buffer = MESSAGE;
     let release = [0xE0, 0x04, 0x28, 0x42, 0x01, 0x02];
-    let len = codec::replace(&mut buffer, MESSAGE.len(), &release)?;
+    let len = codec::replace(&mut buffer, MESSAGE.len(), &release, 0)?;
     tell(&codec::order(&buffer[..len])?);
 
-    match codec::replace(&mut buffer, len, &[0xE0, 0x03, 0x28, 0x41, 0x01]) {
+    match codec::replace(&mut buffer, len, &[0xE0, 0x03, 0x28, 0x41, 0x01], 0) {
         Ok(len) => println!("replaced, {len} octets"),
         Err(refusal) => println!("{refusal}"),
     }

@@ -39,7 +39,7 @@ fn main() -> Result<(), Refusal> {
     tell(&codec::added_classes(&message)?);
 
     let n = message.len();
-    let n = codec::remove(&mut message, n, ORIGINATING_REGION)?;
+    let n = codec::remove(&mut message, n, ORIGINATING_REGION, 0)?;
     match codec::profile_read(&message[..n]) {
         Ok(profile) => println!("network {:?}", profile.network),
         Err(refusal) => println!("{refusal}"),

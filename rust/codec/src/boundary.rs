@@ -19,16 +19,38 @@ extern "C" {
     fn tk_write(image: *const u8, len: usize, room: *mut u8, room_len: usize) -> u64;
     fn tk_rows(message: *const u8, len: usize, table: *mut u8, table_len: usize) -> u64;
     fn tk_find_common(message: *const u8, len: usize, header: u8) -> u64;
-    fn tk_find_transfer(message: *const u8, len: usize, name: u8) -> u64;
+    fn tk_find_transfer(message: *const u8, len: usize, name: u8, which: usize) -> u64;
     fn tk_class(header: u8, octet: u8) -> u64;
-    fn tk_replace(buffer: *mut u8, len: usize, n: usize, new: *const u8, new_len: usize) -> u64;
+    fn tk_replace(
+        buffer: *mut u8,
+        len: usize,
+        n: usize,
+        new: *const u8,
+        new_len: usize,
+        which: usize,
+    ) -> u64;
     fn tk_append(buffer: *mut u8, len: usize, n: usize, new: *const u8, new_len: usize) -> u64;
-    fn tk_remove(buffer: *mut u8, len: usize, n: usize, name: u8) -> u64;
+    fn tk_remove(buffer: *mut u8, len: usize, n: usize, name: u8, which: usize) -> u64;
     fn tk_charging(message: *const u8, len: usize, out: *mut u8, out_len: usize) -> u64;
     fn tk_order(message: *const u8, len: usize, table: *mut u8, table_len: usize) -> u64;
     fn tk_profile_read(message: *const u8, len: usize, image: *mut u8, image_len: usize) -> u64;
     fn tk_profile_write(image: *const u8, len: usize, room: *mut u8, room_len: usize) -> u64;
     fn tk_added_classes(message: *const u8, len: usize, out: *mut u8, out_len: usize) -> u64;
+    fn tk_carriers(
+        message: *const u8,
+        len: usize,
+        which: usize,
+        table: *mut u8,
+        table_len: usize,
+    ) -> u64;
+    fn tk_carrier_digits(
+        message: *const u8,
+        len: usize,
+        which: usize,
+        row: usize,
+        out: *mut u8,
+        out_len: usize,
+    ) -> u64;
 }
 
 /// A function of the static library that reads one stretch of octets and writes
@@ -63,10 +85,11 @@ pub fn find_common(message: &[u8], header: u8) -> u64 {
     unsafe { tk_find_common(message.as_ptr(), message.len(), header) }
 }
 
-/// Where the contents of a transfer parameter stand; place and value: offset and length.
-pub fn find_transfer(message: &[u8], name: u8) -> u64 {
+/// Where the contents of a transfer parameter stand, `which` of its name; place and
+/// value: offset and length.
+pub fn find_transfer(message: &[u8], name: u8, which: usize) -> u64 {
     // SAFETY: pointer and length are a slice's.
-    unsafe { tk_find_transfer(message.as_ptr(), message.len(), name) }
+    unsafe { tk_find_transfer(message.as_ptr(), message.len(), name, which) }
 }
 
 /// The class of an octet under a header; value: 0 named, 1 held back, 2 spare.
@@ -75,12 +98,12 @@ pub fn class(header: u8, octet: u8) -> u64 {
     unsafe { tk_class(header, octet) }
 }
 
-/// Replaces a transfer parameter of the message in the first `n` octets of
-/// `buffer`; value: the message's new length.
-pub fn replace(buffer: &mut [u8], n: usize, new: &[u8]) -> u64 {
+/// Replaces a transfer parameter, `which` of its name, of the message in the first
+/// `n` octets of `buffer`; value: the message's new length.
+pub fn replace(buffer: &mut [u8], n: usize, new: &[u8], which: usize) -> u64 {
     let (octets, len) = (buffer.as_mut_ptr(), buffer.len());
     // SAFETY: each pointer and length is a slice's, and `buffer` overlaps nothing.
-    unsafe { tk_replace(octets, len, n, new.as_ptr(), new.len()) }
+    unsafe { tk_replace(octets, len, n, new.as_ptr(), new.len(), which) }
 }
 
 /// Appends a transfer parameter to the message in the first `n` octets of
@@ -91,11 +114,11 @@ pub fn append(buffer: &mut [u8], n: usize, new: &[u8]) -> u64 {
     unsafe { tk_append(octets, len, n, new.as_ptr(), new.len()) }
 }
 
-/// Removes a transfer parameter from the message in the first `n` octets of
-/// `buffer`; value: the message's new length.
-pub fn remove(buffer: &mut [u8], n: usize, name: u8) -> u64 {
+/// Removes a transfer parameter, `which` of its name, from the message in the first
+/// `n` octets of `buffer`; value: the message's new length.
+pub fn remove(buffer: &mut [u8], n: usize, name: u8, which: usize) -> u64 {
     // SAFETY: pointer and length are a slice's, and `buffer` overlaps nothing.
-    unsafe { tk_remove(buffer.as_mut_ptr(), buffer.len(), n, name) }
+    unsafe { tk_remove(buffer.as_mut_ptr(), buffer.len(), n, name, which) }
 }
 
 /// The charging information of `message`, opened, into the front of `out`; value:
@@ -126,6 +149,22 @@ pub fn profile_write(image: &[u8], room: &mut [u8]) -> u64 {
 /// each, into the front of `out`; value: how many octets they take.
 pub fn added_classes(message: &[u8], out: &mut [u8]) -> u64 {
     fill(tk_added_classes, message, out)
+}
+
+/// The rows of the carriers of `message`, `which` of them, 8 octets each, into the
+/// front of `table`; value: their count.
+pub fn carriers(message: &[u8], which: usize, table: &mut [u8]) -> u64 {
+    let (front, len) = (table.as_mut_ptr(), table.len());
+    // SAFETY: each pointer and length is a slice's, and `table` overlaps nothing.
+    unsafe { tk_carriers(message.as_ptr(), message.len(), which, front, len) }
+}
+
+/// The digits of the code in a row of the carriers of `message`, `which` of them, one
+/// to an octet, into the front of `out`; value: their count.
+pub fn carrier_digits(message: &[u8], which: usize, row: usize, out: &mut [u8]) -> u64 {
+    let (front, len) = (out.as_mut_ptr(), out.len());
+    // SAFETY: each pointer and length is a slice's, and `out` overlaps nothing.
+    unsafe { tk_carrier_digits(message.as_ptr(), message.len(), which, row, front, len) }
 }
 
 /// Memory for octets. It is not cleared first: an octet of it is set or not.

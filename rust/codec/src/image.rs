@@ -160,10 +160,10 @@ mod tests {
 
     #[test]
     fn what_is_longer_than_any_image() {
-        assert!(has_image(160, 0, 0));
-        assert!(!has_image(161, 0, 0));
-        assert!(has_image(0, 101, 0));
-        assert!(!has_image(0, 102, 0));
+        assert!(has_image(163, 0, 0));
+        assert!(!has_image(164, 0, 0));
+        assert!(has_image(0, 103, 0));
+        assert!(!has_image(0, 104, 0));
         assert!(has_image(0, 1, IMAGE_MAX - 19));
         assert!(!has_image(0, 1, IMAGE_MAX - 18));
         assert!(!has_image(1, 1, IMAGE_MAX - 19));

@@ -28,6 +28,7 @@
 mod answer;
 #[allow(unsafe_code)]
 pub mod boundary;
+mod carriers;
 mod charging;
 mod image;
 mod order;
@@ -35,6 +36,9 @@ mod profile;
 pub mod record;
 mod refusal;
 
+pub use carriers::{
+    Carrier, CarrierTag, Carriers, Dependent, DependentContents, DependentTag, Direction,
+};
 pub use charging::Charging;
 pub use order::{Order, OrderHeader, OrderParameter};
 pub use profile::{AddedClass, AddedClassName, Network, Profile};
@@ -52,11 +56,11 @@ struct Readme;
 /// The most octets of a message.
 pub const MESSAGE_MAX: usize = 272;
 /// The most rows of a message, the end mark's among them.
-pub const ROWS_MAX: usize = 59;
+pub const ROWS_MAX: usize = 61;
 /// The most octets of the image of a record within its limits, and so of one
-/// that is read: the count, 6 common and 52 transfer parameters, and two values
+/// that is read: the count, 6 common and 54 transfer parameters, and two values
 /// for each of the 255 octets that their contents can have together.
-pub const IMAGE_MAX: usize = 1 + 6 * 7 + 52 * 11 + 2 * 255;
+pub const IMAGE_MAX: usize = 1 + 6 * 7 + 54 * 11 + 2 * 255;
 /// Octets of the charging information as the static library gives it: the kind,
 /// and eleven numbers of two octets.
 pub const CHARGING_LEN: usize = 1 + 11 * 2;
@@ -66,6 +70,16 @@ pub const ORDER_ROWS_MAX: usize = 5;
 /// The most octets of the added classes of D6 in the mobile call profile: a name
 /// and a value for each of six names.
 pub const ADDED_MAX: usize = 6 * 2;
+/// How often the carriers, CC, may stand in a message.
+pub const CARRIERS_MAX: usize = 3;
+/// The most rows of one opened CC: its direction's, and one for each entry of two
+/// octets that a message has room for.
+pub const CARRIER_ROWS_MAX: usize = 127;
+/// Octets of such a row.
+pub const CARRIER_ROW_LEN: usize = 8;
+/// The most digits of a carrier's code: two to an octet, where it is all that a
+/// message has room for.
+pub const CARRIER_DIGITS_MAX: usize = 2 * 247;
 /// Octets of a row in the table that the static library fills.
 const ROW_LEN: usize = 5;
 /// The most octets of that table.
@@ -178,13 +192,15 @@ pub fn find_common(message: &[u8], header: u8) -> Result<&[u8], Refusal> {
 }
 
 /// The contents of the transfer parameter `name`, in `message` itself. The name
-/// is the lower six bits of the header.
+/// is the lower six bits of the header. `which` of that name it is counts from 0, in
+/// the order of the message, here and elsewhere; it is 0 for all but the carriers,
+/// CC, since the others stand once at most.
 ///
 /// # Errors
 ///
-/// Those of [`read`], then 16 at 0 if there is no such parameter.
-pub fn find_transfer(message: &[u8], name: u8) -> Result<&[u8], Refusal> {
-    found_in(message, boundary::find_transfer(message, name))
+/// Those of [`read`], then 16 at 0 if there are not so many such parameters.
+pub fn find_transfer(message: &[u8], name: u8, which: usize) -> Result<&[u8], Refusal> {
+    found_in(message, boundary::find_transfer(message, name, which))
 }
 
 fn found_in(message: &[u8], answer: u64) -> Result<&[u8], Refusal> {
@@ -342,20 +358,57 @@ pub fn added_classes(message: &[u8]) -> Result<Vec<AddedClass>, Refusal> {
     AddedClass::all_of(octets.get(..len).unwrap_or_default()).ok_or(not_in_profile(message))
 }
 
+/// The carriers of `message`, CC, opened: `which` of them, counted from 0.
+///
+/// ```
+/// use codec::{CarrierTag, DependentContents, Direction};
+///
+/// let message = [
+///     0x01, 0x01, 0x06, 0x11, 0xC5, 0x0A, 0xCC, 0x08, 0x01, 0xFA, 0x05, 0xFE, 0x03, 0x80, 0x21,
+///     0x03, 0x00,
+/// ];
+/// let carriers = codec::carriers(&message, 0)?;
+/// assert_eq!(carriers.direction, Direction::Forward);
+/// let carrier = &carriers.entries[0];
+/// assert_eq!((carrier.tag, carrier.offset), (CarrierTag::Scp, 9));
+/// assert_eq!(carrier.dependents[0].contents, DependentContents::Code(vec![1, 2, 3]));
+/// assert_eq!(carrier.code(), Some(&[1, 2, 3][..]));
+/// # Ok::<(), codec::Refusal>(())
+/// ```
+///
+/// # Errors
+///
+/// Those of [`read`], then 16 at 0 if there are not so many.
+pub fn carriers(message: &[u8], which: usize) -> Result<Carriers<'_>, Refusal> {
+    let mut table = [0; CARRIER_ROWS_MAX * CARRIER_ROW_LEN];
+    let count = unpack(boundary::carriers(message, which, &mut table))?.value;
+    let rows = table.get(..count * CARRIER_ROW_LEN).unwrap_or_default();
+    let opened = Carriers::of(message, rows, |row, digits| {
+        Some(
+            unpack(boundary::carrier_digits(message, which, row, digits))
+                .ok()?
+                .value,
+        )
+    });
+    // Of rows that the static library never gives nothing is made up: there is no
+    // such CC.
+    opened.ok_or(Refusal::new(Refusal::ABSENT, 0))
+}
+
 /// Puts the transfer parameter `new` (its octets, header first) in the place of
-/// the one with its name, in the message in the first `n` octets of `buffer`;
-/// gives the message's new length.
+/// the one with its name, `which` of them counted from 0, in the message in the first
+/// `n` octets of `buffer`; gives the message's new length.
 ///
 /// Where the message shrinks, the octets from its new end to the old become 0.
 ///
 /// # Errors
 ///
 /// 15 at 0 if `n` is beyond the buffer, those of [`read`], then all at 0: 16
-/// without transfer data, 11 without octets, 8, 9, 16 if the name is absent, 11
-/// if octets are too few or too many, what is wrong with the new contents (12,
-/// 13, 18 or 19), 14, and 15 if the buffer is too short.
-pub fn replace(buffer: &mut [u8], n: usize, new: &[u8]) -> Result<usize, Refusal> {
-    Ok(unpack(boundary::replace(buffer, n, new))?.value)
+/// without transfer data, 11 without octets, 8, 9, 16 if there are not so many of the
+/// name, 11 if octets are too few or too many, what is wrong with the new contents
+/// (12, 13, 18 or 19), 14, and 15 if the buffer is too short.
+pub fn replace(buffer: &mut [u8], n: usize, new: &[u8], which: usize) -> Result<usize, Refusal> {
+    Ok(unpack(boundary::replace(buffer, n, new, which))?.value)
 }
 
 /// Puts the transfer parameter `new` behind the last of the transfer data, in
@@ -364,20 +417,20 @@ pub fn replace(buffer: &mut [u8], n: usize, new: &[u8]) -> Result<usize, Refusal
 ///
 /// # Errors
 ///
-/// As [`replace`], but 10 if the name is present where that has 16 if it is
-/// absent.
+/// As [`replace`], but 10 if the name is present, CC three times, where that has 16
+/// if it is absent.
 pub fn append(buffer: &mut [u8], n: usize, new: &[u8]) -> Result<usize, Refusal> {
     Ok(unpack(boundary::append(buffer, n, new))?.value)
 }
 
-/// Takes the transfer parameter `name` out of the message in the first `n`
-/// octets of `buffer`; gives the message's new length. The octets from its new
-/// end to the old become 0.
+/// Takes the transfer parameter `name`, `which` of them counted from 0, out of the
+/// message in the first `n` octets of `buffer`; gives the message's new length. The
+/// octets from its new end to the old become 0.
 ///
 /// # Errors
 ///
 /// 15 at 0 if `n` is beyond the buffer, those of [`read`], then 16 at 0 if there
-/// is no such parameter.
-pub fn remove(buffer: &mut [u8], n: usize, name: u8) -> Result<usize, Refusal> {
-    Ok(unpack(boundary::remove(buffer, n, name))?.value)
+/// are not so many such parameters.
+pub fn remove(buffer: &mut [u8], n: usize, name: u8, which: usize) -> Result<usize, Refusal> {
+    Ok(unpack(boundary::remove(buffer, n, name, which))?.value)
 }

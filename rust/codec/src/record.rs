@@ -115,9 +115,16 @@ impl Record {
     /// The first transfer parameter with this name (the lower six bits of its
     /// header), if there is one.
     pub fn transfer(&self, name: u8) -> Option<&Transfer> {
+        self.transfers(name).next()
+    }
+
+    /// All transfer parameters with this name, in their order. In a record that was
+    /// read there are three at most with that of the carriers, CC, and one with any
+    /// other.
+    pub fn transfers(&self, name: u8) -> impl Iterator<Item = &Transfer> {
         let data = self.common.iter().filter(|c| c.header == TRANSFER_DATA);
         data.flat_map(|c| &c.transfers)
-            .find(|t| t.header & 0x3F == name)
+            .filter(move |t| t.header & 0x3F == name)
     }
 
     /// The values of a transfer parameter of this record.
@@ -310,6 +317,22 @@ mod tests {
         }
         assert_eq!(record.transfer(0x18).map(|t| t.header), Some(0x98));
         assert!(record.transfer(0x17).is_none());
+    }
+
+    #[test]
+    fn all_transfer_parameters_of_a_name() {
+        let mut record = Record::default();
+        for (header, value) in [(0xCC, 1), (0x41, 0), (0xCC, 2), (0xCC, 3)] {
+            record.push_transfer(Transfer::new(header), &[value]);
+        }
+        let values = |name| {
+            let all = record.transfers(name);
+            all.map(|t| record.values_of(t).to_vec())
+                .collect::<Vec<_>>()
+        };
+        assert_eq!(values(0x0C), [[1], [2], [3]]);
+        assert_eq!(values(0x01), [[0]]);
+        assert!(values(0x02).is_empty());
     }
 
     #[test]

@@ -35,7 +35,7 @@ impl Refusal {
     pub const UNUSED_NAME: u8 = 8;
     /// 9: a transfer name under a PLI that it does not have.
     pub const OTHER_PLI: u8 = 9;
-    /// 10: a transfer name for the second time.
+    /// 10: a transfer name for the second time, CC for the fourth.
     pub const REPEATED_NAME: u8 = 10;
     /// 11: contents that run past their end, or of another length than their
     /// PLI says.
@@ -55,7 +55,7 @@ impl Refusal {
     pub const TRANSFER_OVER: u8 = 14;
     /// 15: lent memory that is too short.
     pub const NO_ROOM: u8 = 15;
-    /// 16: a parameter, or transfer data, that is not there.
+    /// 16: a parameter, one of several, or transfer data that is not there.
     pub const ABSENT: u8 = 16;
     /// 17: a header whose code values have no classes.
     pub const NO_CLASS_LIST: u8 = 17;

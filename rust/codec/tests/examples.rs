@@ -42,6 +42,11 @@ fn area() {
 }
 
 #[test]
+fn carriers() {
+    prints("carriers", include_str!("../examples/carriers.stdout"));
+}
+
+#[test]
 fn charging() {
     prints("charging", include_str!("../examples/charging.stdout"));
 }

@@ -1,10 +1,10 @@
 //! The refusal numbers have the same names here and in the header for C, and so
 //! have the headers of a connection order, the networks and the added classes of
-//! the mobile call profile, and the lengths the same values; both lend as much room
-//! for an image, for the rows of an order and for the added classes as is proved to
-//! suffice.
+//! the mobile call profile, the directions and tags of the carriers, and the lengths
+//! the same values; both lend as much room for an image, for the rows of an order and
+//! of carriers and for the added classes as is proved to suffice.
 
-use codec::{AddedClassName, Network, OrderHeader};
+use codec::{AddedClassName, CarrierTag, DependentTag, Direction, Network, OrderHeader};
 use std::collections::BTreeMap;
 
 const HEADER: &str = include_str!("../../../include/tsurakemobu.h");
@@ -35,11 +35,13 @@ fn line<'t>(text: &'t str, before: &str, after: char) -> &'t str {
     rest.and_then(|r| r.split(after).next()).expect(before)
 }
 
-/// A sum of products.
+/// A sum of products, or of quotients.
 fn value(sum: &str) -> usize {
     let number = |n: &str| n.trim().parse::<usize>().expect(n);
+    let quotient = |(whole, part)| number(whole) / number(part);
+    let product = |p: &str| p.split('*').map(number).product();
     sum.split('+')
-        .map(|p| p.split('*').map(number).product::<usize>())
+        .map(|p| p.split_once('/').map_or_else(|| product(p), quotient))
         .sum()
 }
 
@@ -61,6 +63,22 @@ fn of_the_most_rows_of_an_order() {
 }
 
 #[test]
+fn of_the_most_carriers_and_their_rows() {
+    let proved = include_str!("../../../crates/annex/specs/Heads.antt");
+    let carriers = value(line(proved, "most-carriers = ", '\n'));
+    assert_eq!(
+        value(line(HEADER, "#define TK_CARRIERS_MAX ", '\n')),
+        carriers
+    );
+    assert_eq!(codec::CARRIERS_MAX, carriers);
+    let proved = include_str!("../../../crates/annex/specs/Transit.antt");
+    let rows = value(line(proved, "most-carrier-rows = ", '\n'));
+    let header = line(HEADER, "#define TK_CARRIER_ROWS_MAX ", '\n');
+    assert_eq!(value(header), rows);
+    assert_eq!(codec::CARRIER_ROWS_MAX, rows);
+}
+
+#[test]
 fn of_the_most_octets_of_the_added_classes() {
     let proved = include_str!("../../../crates/boundary/specs/SmallProfile.antt");
     let proved = value(line(proved, "pub added-max : most-added ≡ ", '\n'));
@@ -74,11 +92,14 @@ fn of_the_other_lengths() {
         ("TK_MESSAGE_MAX", codec::MESSAGE_MAX),
         ("TK_ROWS_MAX", codec::ROWS_MAX),
         ("TK_CHARGING_LEN", codec::CHARGING_LEN),
+        ("TK_CARRIER_ROW_LEN", codec::CARRIER_ROW_LEN),
     ];
     for (name, here) in lengths {
         let told = line(HEADER, &format!("#define {name} "), '\n');
         assert_eq!(value(told), here, "{name}");
     }
+    let digits = line(HEADER, "#define TK_CARRIER_DIGITS_MAX (", ')');
+    assert_eq!(value(digits), codec::CARRIER_DIGITS_MAX);
 }
 
 /// The constants of C that begin so, in Rust's form: `TK_ORDER_CALLED_ARE = 0xCA`
@@ -103,6 +124,16 @@ fn of_the_headers_of_a_connection_order() {
 fn of_the_networks() {
     let here = Network::ALL.map(|network| (format!("{network:?}"), network.octet()));
     assert_eq!(octets_named("TK_NETWORK_"), here);
+}
+
+#[test]
+fn of_the_directions_and_tags_of_carriers() {
+    let here = Direction::ALL.map(|direction| (format!("{direction:?}"), direction.octet()));
+    assert_eq!(octets_named("TK_DIRECTION_"), here);
+    let here = CarrierTag::ALL.map(|tag| (format!("{tag:?}"), tag.octet()));
+    assert_eq!(octets_named("TK_CARRIER_"), here);
+    let here = DependentTag::ALL.map(|tag| (format!("{tag:?}"), tag.octet()));
+    assert_eq!(octets_named("TK_DEPENDENT_"), here);
 }
 
 #[test]

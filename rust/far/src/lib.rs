@@ -1,4 +1,4 @@
-//! The codec's fourteen functions on machines that cannot link its static library.
+//! The codec's sixteen functions on machines that cannot link its static library.
 //!
 //! The static library is for x86-64. Elsewhere this crate defines the functions
 //! of `include/tsurakemobu.h` and hands each call to the program `serve`, which
@@ -17,7 +17,7 @@ mod server;
 use server::{call, Function};
 use std::slice;
 
-// SAFETY of all fourteen functions: as the header asks, each pointer and its
+// SAFETY of all sixteen functions: as the header asks, each pointer and its
 // length are memory that may be read, and written where it is `*mut`, during
 // the call.
 
@@ -38,7 +38,7 @@ macro_rules! lent_octets {
         ) -> u64 {
             let fixed = slice::from_raw_parts(fixed, fixed_len);
             let lent = slice::from_raw_parts_mut(lent, lent_len);
-            call(Function::$function, [0, 0], fixed, lent)
+            call(Function::$function, [0; 3], fixed, lent)
         }
     )*};
 }
@@ -62,64 +62,116 @@ lent_octets! {
     tk_added_classes: AddedClasses;
 }
 
-/// Functions that find a parameter of a message by its header or its name.
-macro_rules! finds {
-    ($($(#[$doc:meta])* $name:ident: $function:ident;)*) => {$(
-        $(#[$doc])*
-        ///
-        /// # Safety
-        ///
-        /// The pointer and its length are a slice's.
-        #[no_mangle]
-        pub unsafe extern "C" fn $name(message: *const u8, message_len: usize, key: u8) -> u64 {
-            let message = slice::from_raw_parts(message, message_len);
-            call(Function::$function, [key.into(), 0], message, &mut [])
-        }
-    )*};
+/// The contents of a common parameter.
+///
+/// # Safety
+///
+/// The pointer and its length are a slice's.
+#[no_mangle]
+pub unsafe extern "C" fn tk_find_common(message: *const u8, message_len: usize, header: u8) -> u64 {
+    let message = slice::from_raw_parts(message, message_len);
+    let numbers = [header.into(), 0, 0];
+    call(Function::FindCommon, numbers, message, &mut [])
 }
 
-finds! {
-    /// The contents of a common parameter.
-    tk_find_common: FindCommon;
-    /// The contents of a transfer parameter.
-    tk_find_transfer: FindTransfer;
+/// The contents of a transfer parameter.
+///
+/// # Safety
+///
+/// The pointer and its length are a slice's.
+#[no_mangle]
+pub unsafe extern "C" fn tk_find_transfer(
+    message: *const u8,
+    message_len: usize,
+    name: u8,
+    which: usize,
+) -> u64 {
+    let message = slice::from_raw_parts(message, message_len);
+    let numbers = [name.into(), which as u64, 0];
+    call(Function::FindTransfer, numbers, message, &mut [])
+}
+
+/// The rows of one of the carriers of a message.
+///
+/// # Safety
+///
+/// Each pointer and its length are a slice's, and the two do not overlap.
+#[no_mangle]
+pub unsafe extern "C" fn tk_carriers(
+    message: *const u8,
+    message_len: usize,
+    which: usize,
+    table: *mut u8,
+    table_len: usize,
+) -> u64 {
+    let message = slice::from_raw_parts(message, message_len);
+    let table = slice::from_raw_parts_mut(table, table_len);
+    call(Function::Carriers, [which as u64, 0, 0], message, table)
+}
+
+/// The digits of a code in one of the carriers of a message.
+///
+/// # Safety
+///
+/// Each pointer and its length are a slice's, and the two do not overlap.
+#[no_mangle]
+pub unsafe extern "C" fn tk_carrier_digits(
+    message: *const u8,
+    message_len: usize,
+    which: usize,
+    row: usize,
+    out: *mut u8,
+    out_len: usize,
+) -> u64 {
+    let message = slice::from_raw_parts(message, message_len);
+    let out = slice::from_raw_parts_mut(out, out_len);
+    let numbers = [which as u64, row as u64, 0];
+    call(Function::CarrierDigits, numbers, message, out)
 }
 
 /// The class of a code value.
 #[no_mangle]
 pub extern "C" fn tk_class(header: u8, octet: u8) -> u64 {
-    let numbers = [header.into(), octet.into()];
+    let numbers = [header.into(), octet.into(), 0];
     call(Function::Class, numbers, &[], &mut [])
 }
 
-/// Edits that bring a transfer parameter.
-macro_rules! edits {
-    ($($(#[$doc:meta])* $name:ident: $function:ident;)*) => {$(
-        $(#[$doc])*
-        ///
-        /// # Safety
-        ///
-        /// Each pointer and its length are a slice's, and the two do not overlap.
-        #[no_mangle]
-        pub unsafe extern "C" fn $name(
-            buffer: *mut u8,
-            buffer_len: usize,
-            n: usize,
-            new: *const u8,
-            new_len: usize,
-        ) -> u64 {
-            let buffer = slice::from_raw_parts_mut(buffer, buffer_len);
-            let new = slice::from_raw_parts(new, new_len);
-            call(Function::$function, [n as u64, 0], new, buffer)
-        }
-    )*};
+/// Replaces a transfer parameter.
+///
+/// # Safety
+///
+/// Each pointer and its length are a slice's, and the two do not overlap.
+#[no_mangle]
+pub unsafe extern "C" fn tk_replace(
+    buffer: *mut u8,
+    buffer_len: usize,
+    n: usize,
+    new: *const u8,
+    new_len: usize,
+    which: usize,
+) -> u64 {
+    let buffer = slice::from_raw_parts_mut(buffer, buffer_len);
+    let new = slice::from_raw_parts(new, new_len);
+    let numbers = [n as u64, which as u64, 0];
+    call(Function::Replace, numbers, new, buffer)
 }
 
-edits! {
-    /// Replaces a transfer parameter.
-    tk_replace: Replace;
-    /// Appends a transfer parameter.
-    tk_append: Append;
+/// Appends a transfer parameter.
+///
+/// # Safety
+///
+/// Each pointer and its length are a slice's, and the two do not overlap.
+#[no_mangle]
+pub unsafe extern "C" fn tk_append(
+    buffer: *mut u8,
+    buffer_len: usize,
+    n: usize,
+    new: *const u8,
+    new_len: usize,
+) -> u64 {
+    let buffer = slice::from_raw_parts_mut(buffer, buffer_len);
+    let new = slice::from_raw_parts(new, new_len);
+    call(Function::Append, [n as u64, 0, 0], new, buffer)
 }
 
 /// Removes a transfer parameter.
@@ -128,7 +180,14 @@ edits! {
 ///
 /// The pointer and its length are a slice's.
 #[no_mangle]
-pub unsafe extern "C" fn tk_remove(buffer: *mut u8, buffer_len: usize, n: usize, name: u8) -> u64 {
+pub unsafe extern "C" fn tk_remove(
+    buffer: *mut u8,
+    buffer_len: usize,
+    n: usize,
+    name: u8,
+    which: usize,
+) -> u64 {
     let buffer = slice::from_raw_parts_mut(buffer, buffer_len);
-    call(Function::Remove, [n as u64, name.into()], &[], buffer)
+    let numbers = [n as u64, name.into(), which as u64];
+    call(Function::Remove, numbers, &[], buffer)
 }

@@ -21,6 +21,8 @@ pub(crate) enum Function {
     ProfileRead = 11,
     ProfileWrite = 12,
     AddedClasses = 13,
+    Carriers = 14,
+    CarrierDigits = 15,
 }
 
 /// Octets of an answer before the lent ones: what the function returned, and
@@ -39,7 +41,7 @@ struct Server {
 /// the octets that it reads and those that are lent to it.
 ///
 /// The program is started at the first call, and ends when this process does.
-pub(crate) fn call(function: Function, numbers: [u64; 2], fixed: &[u8], lent: &mut [u8]) -> u64 {
+pub(crate) fn call(function: Function, numbers: [u64; 3], fixed: &[u8], lent: &mut [u8]) -> u64 {
     static SERVER: Mutex<Option<Server>> = Mutex::new(None);
     let mut server = SERVER.lock().unwrap_or_else(PoisonError::into_inner);
     let answer = match &mut *server {
@@ -75,14 +77,14 @@ impl Server {
     fn call(
         &mut self,
         function: Function,
-        numbers: [u64; 2],
+        numbers: [u64; 3],
         fixed: &[u8],
         lent: &mut [u8],
     ) -> io::Result<u64> {
-        let [first, second] = numbers;
+        let [first, second, third] = numbers;
         let lens = [fixed.len() as u64, lent.len() as u64];
         self.octets.clear();
-        for word in [function as u64, first, second, lens[0], lens[1]] {
+        for word in [function as u64, first, second, third, lens[0], lens[1]] {
             self.octets.extend(word.to_le_bytes());
         }
         self.octets.extend_from_slice(fixed);
