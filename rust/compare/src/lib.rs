@@ -28,16 +28,27 @@ pub fn proved(input: &Input) -> Outcome {
         Input::Write { image, .. } => boundary::write(image, lent),
         Input::Rows { message, .. } => boundary::rows(message, lent),
         Input::FindCommon { message, header } => boundary::find_common(message, *header),
-        Input::FindTransfer { message, name } => boundary::find_transfer(message, *name),
+        Input::FindTransfer {
+            message,
+            name,
+            which,
+        } => boundary::find_transfer(message, *name, *which),
         Input::Class { header, octet } => boundary::class(*header, *octet),
-        Input::Replace { n, new, .. } => boundary::replace(lent, (*n).into(), new),
+        Input::Replace { n, new, which, .. } => boundary::replace(lent, (*n).into(), new, *which),
         Input::Append { n, new, .. } => boundary::append(lent, (*n).into(), new),
-        Input::Remove { n, name, .. } => boundary::remove(lent, (*n).into(), *name),
+        Input::Remove { n, name, which, .. } => boundary::remove(lent, (*n).into(), *name, *which),
         Input::Charging { message, .. } => boundary::charging(message, lent),
         Input::Order { message, .. } => boundary::order(message, lent),
         Input::ProfileRead { message, .. } => boundary::profile_read(message, lent),
         Input::ProfileWrite { image, .. } => boundary::profile_write(image, lent),
         Input::AddedClasses { message, .. } => boundary::added_classes(message, lent),
+        Input::Carriers { message, which, .. } => boundary::carriers(message, *which, lent),
+        Input::CarrierDigits {
+            message,
+            which,
+            row,
+            ..
+        } => boundary::carrier_digits(message, *which, *row, lent),
     };
     let around = memory.starts_with(&GUARD) && memory.ends_with(&GUARD);
     assert!(around, "written beside the lent memory: {input:02X?}");

@@ -38,18 +38,22 @@ fn lengths_beyond_any_message() {
     assert_eq!(boundary::write(&long, &mut lent), refused(1, 0));
     assert_eq!(boundary::rows(&long, &mut lent), refused(1, 0));
     assert_eq!(boundary::find_common(&long, 0x01), refused(1, 0));
-    assert_eq!(boundary::find_transfer(&long, 0x10), refused(1, 0));
+    assert_eq!(boundary::find_transfer(&long, 0x10, 0), refused(1, 0));
     assert_eq!(boundary::charging(&long, &mut lent), refused(1, 0));
     assert_eq!(boundary::order(&long, &mut lent), refused(1, 0));
     assert_eq!(boundary::profile_read(&long, &mut lent), refused(1, 0));
     assert_eq!(boundary::profile_write(&long, &mut lent), refused(1, 0));
     assert_eq!(boundary::added_classes(&long, &mut lent), refused(1, 0));
+    assert_eq!(boundary::carriers(&long, 0, &mut lent), refused(1, 0));
+    let digits = boundary::carrier_digits(&long, 0, 0, &mut lent);
+    assert_eq!(digits, refused(1, 0));
     for n in [70_001, 1 << 32, usize::MAX] {
-        assert_eq!(boundary::replace(&mut lent, n, &long), refused(15, 0));
+        assert_eq!(boundary::replace(&mut lent, n, &long, 0), refused(15, 0));
         assert_eq!(boundary::append(&mut lent, n, &long), refused(15, 0));
-        assert_eq!(boundary::remove(&mut lent, n, 0x10), refused(15, 0));
+        assert_eq!(boundary::remove(&mut lent, n, 0x10, 0), refused(15, 0));
     }
-    assert_eq!(boundary::remove(&mut lent, 70_000, 0x10), refused(1, 0));
+    let removed = boundary::remove(&mut lent, 70_000, 0x10, 0);
+    assert_eq!(removed, refused(1, 0));
     assert!(lent.iter().all(|&octet| octet == 0x5A));
 }
 
@@ -63,7 +67,7 @@ fn new_parameters_beyond_any() {
     for more in [257, 258, 511, 512, 65_534, 65_535, 65_536, 65_537, 70_000] {
         let long = |head: &[u8]| [head, &vec![0x01; more]].concat();
         let n = message.len();
-        let replaced = boundary::replace(&mut buffer, n, &long(&[0x41]));
+        let replaced = boundary::replace(&mut buffer, n, &long(&[0x41]), 0);
         assert_eq!(replaced, refused(11, 0));
         let appended = boundary::append(&mut buffer, n, &long(&[0xCC, 0xFF]));
         assert_eq!(appended, refused(11, 0));
@@ -90,6 +94,27 @@ fn room_beyond_any_message() {
     assert_eq!(boundary::order(&order, &mut buffer), 1);
     assert_eq!(buffer[..7], [0x08, 0x00, 0x28, 0x00, 0x00, 0x00, 0x00]);
     for memory in [image, buffer] {
+        assert!(memory[len..].iter().all(|&octet| octet == 0x5A));
+    }
+}
+
+#[test]
+fn room_beyond_any_carriers() {
+    let message = [
+        0x01, 0x01, 0x06, 0x11, 0xC5, 0x09, 0xCC, 0x07, 0x01, 0xFA, 0x04, 0xFE, 0x02, 0x80, 0x07,
+        0x00,
+    ];
+    let [mut table, mut out] = [(); 2].map(|()| vec![0x5A; 70_000]);
+    assert_eq!(boundary::carriers(&message, 0, &mut table), 3);
+    let rows = [
+        [0, 0x01, 8, 0, 0, 0, 0, 0],
+        [1, 0xFA, 9, 0, 4, 0, 0, 0],
+        [2, 0xFE, 11, 0, 2, 0, 1, 0],
+    ];
+    assert_eq!(table[..24], rows.concat());
+    assert_eq!(boundary::carrier_digits(&message, 0, 2, &mut out), 1);
+    assert_eq!(out[0], 7);
+    for (memory, len) in [(table, 24), (out, 1)] {
         assert!(memory[len..].iter().all(|&octet| octet == 0x5A));
     }
 }

@@ -15,8 +15,8 @@ use trial::Input;
 
 /// Sound parameters that hold digits or characters, all but those under PLI 10:
 /// numbers of an even and of an odd count, every rate kind, every header of a
-/// connection order, alone and with others.
-const COUNTED: [&[u8]; 24] = [
+/// connection order, alone and with others; carriers with one code and with three.
+const COUNTED: [&[u8]; 27] = [
     b"\xD7\x05\x03\x11\x21\x43\x65",
     b"\xD7\x05\x83\x11\x21\x43\x05",
     b"\xDC\x05\x03\x11\x21\x43\x65",
@@ -41,6 +41,9 @@ const COUNTED: [&[u8]; 24] = [
     b"\xE0\x11\x22\xC9\x04\x11\x0012\x91\x03\x21\x0A\xCA\x04\x12\x003;",
     b"\xE0\x11\x31\xD2180\x41\x05\xCD\x03\x11\x00\x03\xC9\x03\x11\x001",
     b"\xE0\x08\x2E\x43\x81\x92\x03\x81\x10\x05",
+    b"\xCC\x09\x01\xFA\x06\xFE\x04\x00\x21\x43\x65",
+    b"\xCC\x09\x01\xFA\x06\xFE\x04\x80\x21\x43\x05",
+    b"\xCC\x17\x02\xFE\x0B\xFE\x03\x80\x21\x03\xFC\x01\xAA\xFE\x01\x00\xF8\x00\xFB\x05\xFE\x03\x00\x90\x09",
 ];
 
 /// Where the header stands in a message with nothing before it in C5.
@@ -174,7 +177,9 @@ fn anywhere_in_the_longest() {
     let dialled = [&[0x98, 0xFF], &[0x21; 31][..], &[0x05]].concat();
     let number = [&[0xD7, 0xF9, 0x83, 0x11], &[0x21; 246][..], &[0x05]].concat();
     let order = [&[0xE0, 0x83, 0x21, 0x91, 0xFF], &[0x21; 127][..], &[0x05]].concat();
-    for parameter in [dialled, number, order] {
+    let code = [&[0xFA, 0xF6, 0xFE, 0xF4, 0x80], &[0x21; 242][..], &[0x05]].concat();
+    let carriers = [&[0xCC, 0xF9, 0x01], &code[..]].concat();
+    for parameter in [dialled, number, order, carriers] {
         let offsets = offsets(&parameter);
         for slot in slots(&parameter) {
             let every_eighth = slot.at % 8 == 0 || offsets.ends_with(&[slot.at]);
@@ -206,7 +211,7 @@ fn two_parameters() {
 /// Other numbers have the place of the header, also beside bad digits.
 #[test]
 fn other_numbers_at_the_header() {
-    let faults: [(&[u8], u8); 18] = [
+    let faults: [(&[u8], u8); 23] = [
         (b"\x88\x01\x00", 8),
         (b"\x81\x01\x00", 9),
         (b"\x90\x3F\x00", 11),
@@ -225,6 +230,11 @@ fn other_numbers_at_the_header() {
         (b"\xE0\x06\x24\xC9\x03\x11\x04?", 12),
         (b"\xE0\x06\x2E\x92\x03\x01\x11\xAA", 12),
         (b"\xE0\x0A\x31\xC9\x03\x11\x04\x03\xD2???", 12),
+        (b"\xCC\x07\x04\xFA\x04\xFE\x02\x00\xAA", 12),
+        (b"\xCC\x08\x01\xFA\x04\xFE\x02\x00\xAA\xF8", 12),
+        (b"\xCC\x09\x01\xFA\x04\xFE\x02\x00\xAA\xF7\x00", 12),
+        (b"\xCC\x0B\x01\xFA\x04\xFE\x02\x80\x1A\xFA\x02\xFE\x00", 12),
+        (b"\xCC\x0A\x01\xFA\x07\xFE\x02\x00\xAA\xFE\x01\x80", 12),
     ];
     for (parameter, number) in faults {
         let (message, header) = message(parameter);
@@ -266,7 +276,10 @@ fn digits_written_at_the_header() {
 
 #[test]
 fn contents_written_at_the_header() {
-    for parameter in COUNTED.iter().filter(|p| matches!(p[0], 0xF7 | 0xE0)) {
+    for parameter in COUNTED
+        .iter()
+        .filter(|p| matches!(p[0], 0xF7 | 0xE0 | 0xCC))
+    {
         for slot in slots(parameter) {
             let new = spoilt(parameter, slot);
             let [write, ..] = writings(parameter[0], &new[2..], &parameter[2..]);
@@ -287,7 +300,13 @@ fn new_ones_at_0() {
                 new: new.clone(),
             };
             let (buffer, n) = buffer(&with_alone(&parameter));
-            let replace = Input::Replace { buffer, n, new };
+            let which = 0;
+            let replace = Input::Replace {
+                buffer,
+                n,
+                new,
+                which,
+            };
             refused(&[append, replace], 13, 0);
         }
     }

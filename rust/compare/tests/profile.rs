@@ -302,7 +302,7 @@ fn all_names_in_every_order() {
 fn in_every_place() {
     for (added, is_in) in [(&[0xFE, 0x01][..], true), (&[0x05, 0x01], false)] {
         let mut parameters = contents(&enquiry(MOBILE, Some(added)));
-        parameters.extend([(0x41, vec![0x00]), (0xCC, vec![0xD6, 0x00, 0x7E])]);
+        parameters.extend([(0x41, vec![0x00]), (0xCE, vec![0xD6, 0x00, 0x7E])]);
         for order in orders(parameters.len()) {
             let ordered: Vec<_> = order.iter().map(|&at| parameters[at].clone()).collect();
             let mut common = [
@@ -467,7 +467,7 @@ fn refused_by_transfer() -> [Refused; 10] {
         (image, number, place)
     };
     [
-        record(&[(0xCC, &[0; 256])], 1, 0),
+        record(&[(0xCE, &[0; 256])], 1, 0),
         record(&[(0x7E, &[4]), (0x08, &[])], 8, 8),
         record(&[(0x7E, &[4]), (0x16, &[])], 9, 8),
         record(&[(0xD6, &[5]), (0xD6, &[])], 10, 9),

@@ -37,6 +37,8 @@ extern "C" {
     fn tk_profile_read();
     fn tk_profile_write();
     fn tk_added_classes();
+    fn tk_carriers();
+    fn tk_carrier_digits();
 }
 
 /// A function's name, its address and its arguments.
@@ -57,26 +59,53 @@ fn stretch(octets: &[u8]) -> [usize; 2] {
 fn call_of(input: &Input, memory: &mut [u8]) -> Call {
     let lent = [memory.as_mut_ptr() as usize, memory.len()];
     let filling = |octets: &[u8]| [stretch(octets), lent].concat();
-    let asking = |octets: &[u8], what: u8| [&stretch(octets)[..], &[what.into()]].concat();
-    let bringing = |n: u16, new: &[u8]| [&lent[..], &[n.into()], &stretch(new)].concat();
-    let naming = |n: u16, name: u8| [lent, [n.into(), name.into()]].concat();
+    let asking = |octets: &[u8], what: &[usize]| [&stretch(octets), what].concat();
+    let opening = |octets: &[u8], numbers: &[usize]| [&stretch(octets), numbers, &lent].concat();
     match input {
         Input::Read { message, .. } => call!(tk_read, filling(message)),
         Input::Write { image, .. } => call!(tk_write, filling(image)),
         Input::Rows { message, .. } => call!(tk_rows, filling(message)),
-        Input::FindCommon { message, header } => call!(tk_find_common, asking(message, *header)),
-        Input::FindTransfer { message, name } => call!(tk_find_transfer, asking(message, *name)),
+        Input::FindCommon { message, header } => {
+            call!(tk_find_common, asking(message, &[(*header).into()]))
+        }
+        Input::FindTransfer {
+            message,
+            name,
+            which,
+        } => call!(tk_find_transfer, asking(message, &[(*name).into(), *which])),
         Input::Class { header, octet } => {
             call!(tk_class, vec![usize::from(*header), usize::from(*octet)])
         }
-        Input::Replace { n, new, .. } => call!(tk_replace, bringing(*n, new)),
-        Input::Append { n, new, .. } => call!(tk_append, bringing(*n, new)),
-        Input::Remove { n, name, .. } => call!(tk_remove, naming(*n, *name)),
+        Input::Replace { .. } | Input::Append { .. } | Input::Remove { .. } => edit_of(input, lent),
         Input::Charging { message, .. } => call!(tk_charging, filling(message)),
         Input::Order { message, .. } => call!(tk_order, filling(message)),
         Input::ProfileRead { message, .. } => call!(tk_profile_read, filling(message)),
         Input::ProfileWrite { image, .. } => call!(tk_profile_write, filling(image)),
         Input::AddedClasses { message, .. } => call!(tk_added_classes, filling(message)),
+        Input::Carriers { message, which, .. } => call!(tk_carriers, opening(message, &[*which])),
+        Input::CarrierDigits {
+            message,
+            which,
+            row,
+            ..
+        } => call!(tk_carrier_digits, opening(message, &[*which, *row])),
+    }
+}
+
+/// The call of an edit, which is lent this stretch.
+fn edit_of(input: &Input, lent: [usize; 2]) -> Call {
+    let bringing = |n: u16, new: &[u8], which: &[usize]| {
+        let (n, new) = ([n.into()], stretch(new));
+        [&lent[..], &n, &new, which].concat()
+    };
+    match input {
+        Input::Replace { n, new, which, .. } => call!(tk_replace, bringing(*n, new, &[*which])),
+        Input::Append { n, new, .. } => call!(tk_append, bringing(*n, new, &[])),
+        Input::Remove { n, name, which, .. } => {
+            let numbers = [usize::from(*n), usize::from(*name), *which];
+            call!(tk_remove, [&lent[..], &numbers].concat())
+        }
+        _ => panic!("no edit: {input:02X?}"),
     }
 }
 

@@ -2,6 +2,7 @@
 
 use codec::{boundary, Charging, Class, Common, Record, Refusal, Row, Transfer};
 use codec::{AddedClass, AddedClassName, Network, Order, OrderHeader, OrderParameter, Profile};
+use codec::{Carrier, CarrierTag, Carriers, Dependent, DependentContents, Direction};
 use codec::{IMAGE_MAX, MESSAGE_MAX};
 use trial::{input_at, Input};
 
@@ -62,6 +63,38 @@ fn order<'m>(message: &'m [u8], rows: &[plain::Row]) -> Order<'m> {
     }
 }
 
+/// The carriers of these rows of a message, with their digits.
+fn carriers<'m>(message: &'m [u8], which: usize, rows: &[plain::CarrierRow]) -> Carriers<'m> {
+    let mut carriers = Carriers {
+        direction: Direction::of(rows[0].tag).expect("a direction"),
+        offset: rows[0].offset.into(),
+        entries: Vec::new(),
+    };
+    for (index, row) in rows.iter().enumerate().skip(1) {
+        let offset = usize::from(row.offset);
+        if row.level == 1 {
+            let tag = CarrierTag::of(row.tag).expect("a carrier's tag");
+            let dependents = Vec::new();
+            carriers.entries.push(Carrier {
+                tag,
+                offset,
+                dependents,
+            });
+            continue;
+        }
+        let carried = &message[offset + 2..offset + 2 + usize::from(row.len)];
+        let digits = || plain::carrier_digits(message, which, index).expect("a code");
+        let contents = match row.tag {
+            0xFC => DependentContents::PoiLevel(carried),
+            0xFD => DependentContents::PoiChargeArea(carried),
+            _ => DependentContents::Code(digits()),
+        };
+        let carrier = carriers.entries.last_mut().expect("a carrier entry");
+        carrier.dependents.push(Dependent { offset, contents });
+    }
+    carriers
+}
+
 fn network(network: plain::Network) -> Network {
     match network {
         plain::Network::Phs => Network::Phs,
@@ -111,20 +144,37 @@ fn agree(input: &Input) -> bool {
             let found = plain::find_common(message, *header).map(|range| &message[range]);
             same_part(codec::find_common(message, *header), found)
         }
-        Input::FindTransfer { message, name } => {
-            let found = plain::find_transfer(message, *name).map(|range| &message[range]);
-            same_part(codec::find_transfer(message, *name), found)
+        Input::FindTransfer {
+            message,
+            name,
+            which,
+        } => {
+            let found = plain::find_transfer(message, *name, *which).map(|range| &message[range]);
+            same_part(codec::find_transfer(message, *name, *which), found)
         }
         Input::Class { header, octet } => class_agrees(*header, *octet),
-        Input::Replace { buffer, n, new } => {
-            edit_agrees(buffer, *n, &new[..], codec::replace, plain::replace)
-        }
-        Input::Append { buffer, n, new } => {
-            edit_agrees(buffer, *n, &new[..], codec::append, plain::append)
-        }
-        Input::Remove { buffer, n, name } => {
-            edit_agrees(buffer, *n, *name, codec::remove, plain::remove)
-        }
+        Input::Replace { n, new, which, .. } => same_lent(
+            input.lent(),
+            |buffer| codec::replace(buffer, (*n).into(), new, *which),
+            |buffer| plain::replace(buffer, (*n).into(), new, *which),
+        ),
+        Input::Append { n, new, .. } => same_lent(
+            input.lent(),
+            |buffer| codec::append(buffer, (*n).into(), new),
+            |buffer| plain::append(buffer, (*n).into(), new),
+        ),
+        Input::Remove { n, name, which, .. } => same_lent(
+            input.lent(),
+            |buffer| codec::remove(buffer, (*n).into(), *name, *which),
+            |buffer| plain::remove(buffer, (*n).into(), *name, *which),
+        ),
+        _ => opened_agrees(input),
+    }
+}
+
+/// The same of a call that opens a parameter, or reads or writes by the profile.
+fn opened_agrees(input: &Input) -> bool {
+    match input {
         Input::Charging { message, .. } => charging_agrees(message),
         Input::Order { message, .. } => order_agrees(message),
         Input::ProfileRead { message, .. } => profile_agrees(message),
@@ -135,6 +185,10 @@ fn agree(input: &Input) -> bool {
             let opened = plain::added_classes(message).map(added_classes);
             codec::added_classes(message) == opened.map_err(refusal)
         }
+        Input::Carriers { message, which, .. } | Input::CarrierDigits { message, which, .. } => {
+            carriers_agree(message, *which)
+        }
+        _ => panic!("no such call: {input:02X?}"),
     }
 }
 
@@ -156,6 +210,11 @@ fn charging_agrees(message: &[u8]) -> bool {
 fn order_agrees(message: &[u8]) -> bool {
     let opened = plain::order(message).map(|rows| order(message, &rows));
     codec::order(message) == opened.map_err(refusal)
+}
+
+fn carriers_agree(message: &[u8], which: usize) -> bool {
+    let opened = plain::carriers(message, which).map(|rows| carriers(message, which, &rows));
+    codec::carriers(message, which) == opened.map_err(refusal)
 }
 
 /// The same record, network and added classes, or the same refusal; and the record,
@@ -245,22 +304,6 @@ fn same_part(ours: Result<&[u8], Refusal>, theirs: Result<&[u8], plain::Refusal>
     ours.map(place) == theirs.map(place).map_err(refusal)
 }
 
-/// The same answer to an edit with this argument, and the same buffer afterwards.
-fn edit_agrees<A: Copy>(
-    buffer: &[u8],
-    n: u16,
-    argument: A,
-    ours: fn(&mut [u8], usize, A) -> Result<usize, Refusal>,
-    theirs: fn(&mut [u8], usize, A) -> Result<usize, plain::Refusal>,
-) -> bool {
-    let n = usize::from(n);
-    same_lent(
-        buffer,
-        |buffer| ours(buffer, n, argument),
-        |buffer| theirs(buffer, n, argument),
-    )
-}
-
 /// The same answer, and the same octets in lent memory afterwards.
 fn same_lent(
     memory: &[u8],
@@ -285,14 +328,14 @@ fn sound() -> Record {
 fn records_over_their_limits() {
     let carried = |count| {
         let mut record = sound();
-        record.push_transfer(Transfer::new(0xCC), &vec![0; count]);
+        record.push_transfer(Transfer::new(0xCE), &vec![0; count]);
         codec::write_to_vec(&record)
     };
     assert!(carried(253).is_ok());
     for count in [256, 65_535, 65_536, 65_537] {
         assert_eq!(carried(count), Err(OVER));
     }
-    for count in [53, 255, 256, 257, 1000] {
+    for count in [55, 255, 256, 257, 1000] {
         let mut record = sound();
         for _ in 0..count {
             record.push_transfer(Transfer::new(0x30), &[]);
@@ -326,11 +369,11 @@ fn image(commons: u8, transfers: u8, header: u8, values: u16) -> Vec<u8> {
 /// static library says of the image.
 #[test]
 fn images_of_any_length() {
-    let headers = [0x30, 0xB0, 0x41, 0x90, 0xCC, 0xD7, 0xDA, 0x08];
+    let headers = [0x30, 0xB0, 0x41, 0x90, 0xCC, 0xCE, 0xD7, 0xDA, 0x08];
     let values = [
-        0, 1, 2, 63, 255, 256, 506, 510, 511, 512, 1106, 1107, 65_535,
+        0, 1, 2, 63, 255, 256, 506, 510, 511, 512, 1128, 1129, 65_535,
     ];
-    for (commons, transfers) in [(1, 1), (1, 52), (1, 53), (6, 1), (6, 52), (6, 53), (7, 1)] {
+    for (commons, transfers) in [(1, 1), (1, 54), (1, 55), (6, 1), (6, 54), (6, 55), (7, 1)] {
         for (header, values) in headers.into_iter().flat_map(|h| values.map(|v| (h, v))) {
             let image = image(commons, transfers, header, values);
             let packed = boundary::write(&image, &mut [0; MESSAGE_MAX]);

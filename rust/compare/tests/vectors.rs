@@ -37,7 +37,51 @@ fn messages() {
             message: message.clone(),
             image: lent.clone(),
         });
+        for which in 0..=3 {
+            opened(&message, which);
+        }
         same(Input::AddedClasses { message, out: lent });
+    }
+}
+
+/// The carriers of a message are opened, and each of their rows as a code; so is one
+/// that there is not.
+fn opened(message: &[u8], which: usize) {
+    let rows = plain::carriers(message, which).unwrap_or_default();
+    same(Input::Carriers {
+        message: message.to_vec(),
+        which,
+        table: vec![0xEE; 1200],
+    });
+    for row in 0..=rows.len() {
+        same(Input::CarrierDigits {
+            message: message.to_vec(),
+            which,
+            row,
+            out: vec![0xEE; 600],
+        });
+    }
+}
+
+#[test]
+fn carriers() {
+    for line in vectors("carriers.txt") {
+        let call: Vec<&str> = line[0].split_whitespace().collect();
+        let number = |at: usize| call[at].parse().expect("a number");
+        let message = octets(call[1]);
+        same(match call[0] {
+            "rows" => Input::Carriers {
+                message,
+                which: number(2),
+                table: vec![0xEE; 1200],
+            },
+            _ => Input::CarrierDigits {
+                message,
+                which: number(2),
+                row: number(3),
+                out: vec![0xEE; 600],
+            },
+        });
     }
 }
 
@@ -57,25 +101,29 @@ fn records() {
 #[test]
 fn edits() {
     for line in vectors("edits.txt") {
-        let (edit, argument) = line[0].split_once(' ').expect("an edit and its argument");
+        let edit: Vec<&str> = line[0].split_whitespace().collect();
         let buffer = octets(&line[1]);
         let n = line[2].parse().expect("a length");
-        same(match edit {
-            "replace" => Input::Replace {
+        let which = |word: &str| word.parse().expect("which one");
+        same(match edit[..] {
+            ["replace", new, nth] => Input::Replace {
                 buffer,
                 n,
-                new: octets(argument),
+                new: octets(new),
+                which: which(nth),
             },
-            "append" => Input::Append {
+            ["append", new] => Input::Append {
                 buffer,
                 n,
-                new: octets(argument),
+                new: octets(new),
             },
-            _ => Input::Remove {
+            ["remove", name, nth] => Input::Remove {
                 buffer,
                 n,
-                name: argument.parse().expect("a name"),
+                name: name.parse().expect("a name"),
+                which: which(nth),
             },
+            _ => panic!("no edit: {line:?}"),
         });
     }
 }

@@ -134,12 +134,12 @@ fn tk_replace(replacements: Vec<(Vec<u8>, Vec<u8>)>) -> Sides {
             buffer.clone(),
             |(message, new), buffer| {
                 buffer[..message.len()].copy_from_slice(message);
-                boundary::replace(buffer, message.len(), new)
+                boundary::replace(buffer, message.len(), new, 0)
             },
         ),
         plain: side(replacements, buffer, |(message, new), buffer| {
             buffer[..message.len()].copy_from_slice(message);
-            packed(plain::replace(buffer, message.len(), new))
+            packed(plain::replace(buffer, message.len(), new, 0))
         }),
     }
 }
@@ -147,10 +147,10 @@ fn tk_replace(replacements: Vec<(Vec<u8>, Vec<u8>)>) -> Sides {
 fn tk_find_transfer(finds: Vec<(Vec<u8>, u8)>) -> Sides {
     Sides {
         proved: side(finds.clone(), (), |(message, name), ()| {
-            boundary::find_transfer(message, *name)
+            boundary::find_transfer(message, *name, 0)
         }),
         plain: side(finds, (), |(message, name), ()| {
-            packed_range(plain::find_transfer(message, *name))
+            packed_range(plain::find_transfer(message, *name, 0))
         }),
     }
 }

@@ -43,8 +43,8 @@ impl Case {
     /// All numbers that such a call can be answered with, 0 for accepted.
     ///
     /// Reading gives 1 to 13, 18 and 19. Finding adds 16; rows, and reading into
-    /// a lent image, add 15; opening the charging information or the connection
-    /// order adds both. Writing knows no cut message and no octets after the end
+    /// a lent image, add 15; opening the charging information, the connection order,
+    /// the carriers or the digits of a code adds both. Writing knows no cut message and no octets after the end
     /// mark: it has neither 4 nor 7, but 14 and 15. By the mobile call profile
     /// reading and writing add 20, and so does opening the added classes, beside 15
     /// and 16. An edit gives 15 for a length beyond the buffer and reading's
@@ -57,7 +57,9 @@ impl Case {
             (Kind::Write, _) => writing.collect(),
             (Kind::FindCommon | Kind::FindTransfer, _) => reading.chain([16]).collect(),
             (Kind::Class, _) => vec![0, 12, 17],
-            (Kind::Charging | Kind::Order, _) => reading.chain([15, 16]).collect(),
+            (Kind::Charging | Kind::Order | Kind::Carriers | Kind::CarrierDigits, _) => {
+                reading.chain([15, 16]).collect()
+            }
             (Kind::ProfileRead, _) => reading.chain([15, 20]).collect(),
             (Kind::ProfileWrite, _) => writing.chain([20]).collect(),
             (Kind::AddedClasses, _) => reading.chain([15, 16, 20]).collect(),

@@ -2,13 +2,16 @@
 
 use crate::input::{Input, Kind, KINDS};
 use crate::messages::{charged_message, enquiry, message, ordered_message};
-use crate::messages::{message_with_bad_digits, sound_draft, sound_message, Size};
-use crate::outcome::{CHARGING_LEN, ROW_LEN};
-use crate::parameters::{charging_somehow, order_somehow, CHARGING_NAME, ORDER_NAME};
+use crate::messages::{message_with_bad_digits, message_with_carriers, sound_draft};
+use crate::messages::{sound_message, sound_message_with_carriers, Size};
+use crate::outcome::{CARRIER_ROW_LEN, CHARGING_LEN, ROW_LEN};
+use crate::parameters::{carriers_somehow, charging_somehow, order_somehow, sound_carriers};
 use crate::parameters::{shuffled_names, sound, spoilt_somehow};
+use crate::parameters::{CARRIERS_NAME, CHARGING_NAME, ORDER_NAME};
 use crate::records;
 use crate::rng::Rng;
 use plain::transfer::{name_of, ADDED_CLASSES};
+use plain::CarrierRow;
 
 /// The input at `index` under `seed`.
 pub fn input_at(seed: u64, index: u64) -> Input {
@@ -18,8 +21,8 @@ pub fn input_at(seed: u64, index: u64) -> Input {
 /// An input of any kind.
 pub fn generate(rng: &mut Rng) -> Input {
     // Read, write, rows, the two finds, class, replace, append, remove, charging,
-    // order; by the profile read, write and added classes.
-    let kind = KINDS[rng.weighted(&[22, 26, 8, 6, 8, 4, 11, 9, 6, 10, 12, 9, 13, 9])];
+    // order; by the profile read, write and added classes; carriers, their digits.
+    let kind = KINDS[rng.weighted(&[22, 26, 8, 6, 10, 4, 15, 13, 8, 10, 12, 9, 13, 9, 12, 12])];
     match kind {
         Kind::Read => read(rng),
         Kind::Write => write(rng),
@@ -27,20 +30,15 @@ pub fn generate(rng: &mut Rng) -> Input {
         Kind::FindCommon => find_common(rng),
         Kind::FindTransfer => find_transfer(rng),
         Kind::Class => class(rng),
-        Kind::Replace => {
-            let Edit { buffer, n, new } = edit(rng, kind);
-            Input::Replace { buffer, n, new }
-        }
-        Kind::Append => {
-            let Edit { buffer, n, new } = edit(rng, kind);
-            Input::Append { buffer, n, new }
-        }
+        Kind::Replace | Kind::Append => edit(rng, kind),
         Kind::Remove => remove(rng),
         Kind::Charging => charging(rng),
         Kind::Order => order(rng),
         Kind::ProfileRead => profile_read(rng),
         Kind::ProfileWrite => profile_write(rng),
         Kind::AddedClasses => added_classes(rng),
+        Kind::Carriers => carriers(rng),
+        Kind::CarrierDigits => carrier_digits(rng),
     }
 }
 
@@ -109,19 +107,48 @@ fn names_in(message: &[u8]) -> Vec<u8> {
 /// A name, as a rule one that stands in the message.
 fn name_for(rng: &mut Rng, message: &[u8]) -> u8 {
     let names = names_in(message);
-    match rng.below(6) {
+    match rng.below(8) {
         0 => rng.octet(),
         1 => rng.octet() & 0x3F,
+        2 => CARRIERS_NAME,
+        3 if names.contains(&CARRIERS_NAME) => CARRIERS_NAME,
         _ if names.is_empty() => rng.octet() & 0x3F,
-        2 => rng.pick(&names) | rng.pick(&[0x40, 0x80, 0xC0]),
+        4 => rng.pick(&names) | rng.pick(&[0x40, 0x80, 0xC0]),
         _ => rng.pick(&names),
     }
 }
 
+/// Numbers that count more than there is, some of them 0 where octets are lost.
+const TOO_FAR: [usize; 6] = [3, 256, 65_536, 1 << 32, usize::MAX, usize::MAX];
+
+/// Which of so many, counted from 0: as a rule one that is there.
+fn which_of(rng: &mut Rng, count: usize) -> usize {
+    match rng.below(8) {
+        0 => rng.pick(&TOO_FAR),
+        1 => count,
+        _ => rng.below(count.max(1)),
+    }
+}
+
+/// Which of the parameters of this name: as a rule one that stands in the message.
+fn which_for(rng: &mut Rng, message: &[u8], name: u8) -> usize {
+    let names = names_in(message);
+    let count = names.iter().filter(|&&known| known == name).count();
+    which_of(rng, count)
+}
+
 fn find_transfer(rng: &mut Rng) -> Input {
-    let message = message(rng);
+    let message = match rng.below(4) {
+        0 => sound_message_with_carriers(rng),
+        _ => message(rng),
+    };
     let name = name_for(rng, &message);
-    Input::FindTransfer { message, name }
+    let which = which_for(rng, &message, name);
+    Input::FindTransfer {
+        message,
+        name,
+        which,
+    }
 }
 
 fn class(rng: &mut Rng) -> Input {
@@ -139,21 +166,15 @@ fn class(rng: &mut Rng) -> Input {
     Input::Class { header, octet }
 }
 
-/// The arguments of a replacement or an appending.
-struct Edit {
-    buffer: Vec<u8>,
-    n: u16,
-    new: Vec<u8>,
-}
-
 /// A message to edit: as a rule one that reading accepts.
 fn edited_message(rng: &mut Rng) -> Vec<u8> {
-    match rng.weighted(&[24, 4, 4, 3, 16]) {
+    match rng.weighted(&[24, 4, 4, 3, 16, 10]) {
         0 => sound_message(rng),
         1 => sound_draft(rng, Size::Near).octets(),
         2 => sound_draft(rng, Size::Full).octets(),
         3 => message_with_bad_digits(rng),
-        _ => message(rng),
+        4 => message(rng),
+        _ => sound_message_with_carriers(rng),
     }
 }
 
@@ -174,10 +195,13 @@ fn buffer_of(rng: &mut Rng, message: &[u8], past: usize) -> Vec<u8> {
     [message, &rng.octets(past)].concat()
 }
 
-fn edit(rng: &mut Rng, kind: Kind) -> Edit {
+/// A replacement, or an appending, which has no `which`.
+fn edit(rng: &mut Rng, kind: Kind) -> Input {
     let message = edited_message(rng);
     let new = new_parameter(rng, kind, &message);
-    let growth = growth(kind, &message, &new);
+    let name = new.first().map_or(0, |&header| name_of(header));
+    let which = which_for(rng, &message, name);
+    let growth = growth(kind, &message, &new, which);
     let past = match rng.below(6) {
         0 => 0,
         1 | 2 => growth,
@@ -186,15 +210,23 @@ fn edit(rng: &mut Rng, kind: Kind) -> Edit {
     };
     let buffer = buffer_of(rng, &message, past);
     let n = length_for(rng, &message, &buffer);
-    Edit { buffer, n, new }
+    match kind {
+        Kind::Replace => Input::Replace {
+            buffer,
+            n,
+            new,
+            which,
+        },
+        _ => Input::Append { buffer, n, new },
+    }
 }
 
 /// By how many octets the edit makes the message longer; 0 where it does not.
-fn growth(kind: Kind, message: &[u8], new: &[u8]) -> usize {
+fn growth(kind: Kind, message: &[u8], new: &[u8], which: usize) -> usize {
     let mut buffer = [message, new].concat();
     let n = message.len();
     let edited = match kind {
-        Kind::Replace => plain::replace(&mut buffer, n, new),
+        Kind::Replace => plain::replace(&mut buffer, n, new, which),
         _ => plain::append(&mut buffer, n, new),
     };
     edited.unwrap_or(n).saturating_sub(n)
@@ -205,10 +237,14 @@ fn growth(kind: Kind, message: &[u8], new: &[u8]) -> usize {
 fn new_parameter(rng: &mut Rng, kind: Kind, message: &[u8]) -> Vec<u8> {
     let names = names_in(message);
     let wanted = |name: &u8| names.contains(name) == (kind == Kind::Replace);
-    match rng.weighted(&[14, 5, 3, 1, 1, 3, 9]) {
+    match rng.weighted(&[14, 5, 3, 1, 1, 3, 12, 9]) {
         5 if wanted(&CHARGING_NAME) => charging_somehow(rng),
         6 if wanted(&ORDER_NAME) => order_somehow(rng),
-        0 | 5 | 6 => {
+        7 if kind == Kind::Append || wanted(&CARRIERS_NAME) => match rng.one_in(2) {
+            true => sound_carriers(rng),
+            false => carriers_somehow(rng),
+        },
+        0 | 5..=7 => {
             let all = shuffled_names(rng);
             let name = all.iter().copied().find(wanted).unwrap_or(all[0]);
             let room = rng.pick(&[6, 12, 12, 257]);
@@ -242,13 +278,19 @@ fn spoilt_of(rng: &mut Rng, fitting: impl Fn(&[u8]) -> bool) -> Vec<u8> {
 fn remove(rng: &mut Rng) -> Input {
     let message = edited_message(rng);
     let name = name_for(rng, &message);
+    let which = which_for(rng, &message, name);
     let past = match rng.below(3) {
         0 => 0,
         _ => rng.between(0, 60),
     };
     let buffer = buffer_of(rng, &message, past);
     let n = length_for(rng, &message, &buffer);
-    Input::Remove { buffer, n, name }
+    Input::Remove {
+        buffer,
+        n,
+        name,
+        which,
+    }
 }
 
 fn charging(rng: &mut Rng) -> Input {
@@ -296,7 +338,54 @@ fn profile_write(rng: &mut Rng) -> Input {
 
 fn added_classes(rng: &mut Rng) -> Input {
     let message = message_for_profile(rng);
-    let found = plain::find_transfer(&message, name_of(ADDED_CLASSES));
+    let found = plain::find_transfer(&message, name_of(ADDED_CLASSES), 0);
     let out = lent(rng, found.map_or(0, |contents| contents.len()));
     Input::AddedClasses { message, out }
+}
+
+/// A message whose carriers are to be opened, and which of them.
+fn carriers_to_open(rng: &mut Rng) -> (Vec<u8>, usize) {
+    let message = match rng.below(8) {
+        0 => message(rng),
+        1..=3 => message_with_carriers(rng),
+        _ => sound_message_with_carriers(rng),
+    };
+    let which = which_for(rng, &message, CARRIERS_NAME);
+    (message, which)
+}
+
+fn carriers(rng: &mut Rng) -> Input {
+    let (message, which) = carriers_to_open(rng);
+    let rows = plain::carriers(&message, which).unwrap_or_default();
+    let table = lent(rng, CARRIER_ROW_LEN * rows.len());
+    Input::Carriers {
+        message,
+        which,
+        table,
+    }
+}
+
+fn carrier_digits(rng: &mut Rng) -> Input {
+    let (message, which) = carriers_to_open(rng);
+    let rows = plain::carriers(&message, which).unwrap_or_default();
+    let row = row_for(rng, &rows);
+    let needed = rows.get(row).map_or(0, |row| row.digits.into());
+    let out = lent(rng, needed);
+    Input::CarrierDigits {
+        message,
+        which,
+        row,
+        out,
+    }
+}
+
+/// Which of the rows, counted from 0: as a rule one of a code.
+fn row_for(rng: &mut Rng, rows: &[CarrierRow]) -> usize {
+    let is_code = |row: &CarrierRow| (row.level, row.tag) == (2, 0xFE);
+    let codes: Vec<usize> = (0..rows.len()).filter(|&at| is_code(&rows[at])).collect();
+    match rng.below(4) {
+        0 => which_of(rng, rows.len()),
+        _ if codes.is_empty() => which_of(rng, rows.len()),
+        _ => rng.pick(&codes),
+    }
 }

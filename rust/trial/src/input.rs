@@ -31,10 +31,14 @@ pub enum Kind {
     ProfileWrite = 12,
     /// Opening the added classes of a message in the mobile call profile.
     AddedClasses = 13,
+    /// Opening the carriers.
+    Carriers = 14,
+    /// Opening the digits of a carrier's code.
+    CarrierDigits = 15,
 }
 
 /// All kinds, each at the index of its own number.
-pub const KINDS: [Kind; 14] = [
+pub const KINDS: [Kind; 16] = [
     Kind::Read,
     Kind::Write,
     Kind::Rows,
@@ -49,6 +53,8 @@ pub const KINDS: [Kind; 14] = [
     Kind::ProfileRead,
     Kind::ProfileWrite,
     Kind::AddedClasses,
+    Kind::Carriers,
+    Kind::CarrierDigits,
 ];
 
 /// One call with all its arguments; lent memory as it is before the call.
@@ -88,6 +94,8 @@ pub enum Input {
         message: Vec<u8>,
         /// The name.
         name: u8,
+        /// Which of that name, counted from 0.
+        which: usize,
     },
     /// Class `octet` under `header`.
     Class {
@@ -104,6 +112,8 @@ pub enum Input {
         n: u16,
         /// The new parameter.
         new: Vec<u8>,
+        /// Which of its name is replaced, counted from 0.
+        which: usize,
     },
     /// Append `new` in the message in the first `n` octets of `buffer`.
     Append {
@@ -122,6 +132,8 @@ pub enum Input {
         n: u16,
         /// The name.
         name: u8,
+        /// Which of that name, counted from 0.
+        which: usize,
     },
     /// Open the charging information of `message` into `out`.
     Charging {
@@ -158,6 +170,26 @@ pub enum Input {
         /// The lent octets.
         out: Vec<u8>,
     },
+    /// List the rows of the carriers of `message` into `table`.
+    Carriers {
+        /// The message.
+        message: Vec<u8>,
+        /// Which of the carriers, counted from 0.
+        which: usize,
+        /// The lent table.
+        table: Vec<u8>,
+    },
+    /// Open the digits of a code in the carriers of `message` into `out`.
+    CarrierDigits {
+        /// The message.
+        message: Vec<u8>,
+        /// Which of the carriers, counted from 0.
+        which: usize,
+        /// Which of their rows, counted from 0.
+        row: usize,
+        /// The lent octets.
+        out: Vec<u8>,
+    },
 }
 
 impl Input {
@@ -178,6 +210,8 @@ impl Input {
             Input::ProfileRead { .. } => Kind::ProfileRead,
             Input::ProfileWrite { .. } => Kind::ProfileWrite,
             Input::AddedClasses { .. } => Kind::AddedClasses,
+            Input::Carriers { .. } => Kind::Carriers,
+            Input::CarrierDigits { .. } => Kind::CarrierDigits,
         }
     }
 
@@ -191,7 +225,9 @@ impl Input {
             | Input::Charging { message, .. }
             | Input::Order { message, .. }
             | Input::ProfileRead { message, .. }
-            | Input::AddedClasses { message, .. } => Some(message),
+            | Input::AddedClasses { message, .. }
+            | Input::Carriers { message, .. }
+            | Input::CarrierDigits { message, .. } => Some(message),
             _ => None,
         }
     }
@@ -211,11 +247,15 @@ impl Input {
         match self {
             Input::Read { image, .. } | Input::ProfileRead { image, .. } => image,
             Input::Write { room, .. } | Input::ProfileWrite { room, .. } => room,
-            Input::Rows { table, .. } | Input::Order { table, .. } => table,
+            Input::Rows { table, .. }
+            | Input::Order { table, .. }
+            | Input::Carriers { table, .. } => table,
             Input::Replace { buffer, .. }
             | Input::Append { buffer, .. }
             | Input::Remove { buffer, .. } => buffer,
-            Input::Charging { out, .. } | Input::AddedClasses { out, .. } => out,
+            Input::Charging { out, .. }
+            | Input::AddedClasses { out, .. }
+            | Input::CarrierDigits { out, .. } => out,
             Input::FindCommon { .. } | Input::FindTransfer { .. } | Input::Class { .. } => &[],
         }
     }

@@ -17,6 +17,7 @@
 #![forbid(unsafe_code)]
 #![warn(missing_docs)]
 
+mod carriers;
 pub mod cases;
 mod charging;
 pub mod coverage;

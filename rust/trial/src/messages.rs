@@ -1,10 +1,10 @@
 //! Messages: sound ones, short to full, and damaged ones.
 
-use crate::parameters::{self, shortest, shuffled_names, sound};
+use crate::parameters::{self, shortest, shuffled_names, sound, CARRIERS_NAME};
 use crate::profile::{self, Call, ASKED_FOR};
 use crate::rng::Rng;
 use plain::common::{is_signal_kind, MESSAGE_LIMIT};
-use plain::transfer::{layout_of, name_of, Layout, DATA_LIMIT};
+use plain::transfer::{layout_of, name_of, Layout, CARRIERS_LIMIT, DATA_LIMIT};
 
 /// A message taken apart.
 #[derive(Clone, Debug, PartialEq, Eq)]
@@ -34,7 +34,7 @@ pub enum Part {
 pub enum Size {
     /// A few parameters.
     Short,
-    /// Many parameters, up to all 52 names.
+    /// Many parameters, up to all 52 names, CC three times.
     Crowd,
     /// A few octets short of 255.
     Near,
@@ -152,9 +152,20 @@ fn signal_kind(rng: &mut Rng) -> u8 {
     rng.pick(&kinds)
 }
 
-/// Sound transfer parameters of different names, in at most 255 octets.
-fn data(rng: &mut Rng, size: Size) -> Vec<Vec<u8>> {
+/// The names in use in any order, that of the carriers up to three times.
+fn names_to_stand(rng: &mut Rng) -> Vec<u8> {
     let mut names = shuffled_names(rng);
+    for _ in 0..rng.pick(&[0, 0, 1, CARRIERS_LIMIT - 1]) {
+        let at = rng.between(0, names.len());
+        names.insert(at, CARRIERS_NAME);
+    }
+    names
+}
+
+/// Sound transfer parameters, none of them more often than it may stand, in at most
+/// 255 octets.
+fn data(rng: &mut Rng, size: Size) -> Vec<Vec<u8>> {
+    let mut names = names_to_stand(rng);
     let mut filler = None;
     let mut left = DATA_LIMIT;
     match size {
@@ -232,6 +243,49 @@ pub fn ordered_message(rng: &mut Rng) -> Vec<u8> {
     message_with(rng, parameters::order_somehow)
 }
 
+/// A message with one to four CC, as a rule one of them spoilt; all else is sound.
+/// It has none if it has no transfer data.
+pub fn message_with_carriers(rng: &mut Rng) -> Vec<u8> {
+    let size = size(rng);
+    let mut draft = sound_draft(rng, size);
+    if let Some((parameters, _)) = draft.data() {
+        let count = rng.pick(&[1, 1, 2, 2, 3, 3, 3, CARRIERS_LIMIT + 1]);
+        let mut carriers = sound_carriers(rng, count);
+        if rng.one_in(2) {
+            carriers[rng.below(count)] = parameters::spoilt_carriers(rng);
+        }
+        put_carriers(rng, parameters, carriers);
+    }
+    draft.octets()
+}
+
+/// A message with up to three CC that reading accepts.
+pub fn sound_message_with_carriers(rng: &mut Rng) -> Vec<u8> {
+    let size = size(rng);
+    let mut draft = sound_draft(rng, size);
+    if let Some((parameters, _)) = draft.data() {
+        let count = rng.pick(&[0, 1, 2, 3, CARRIERS_LIMIT]);
+        let carriers = sound_carriers(rng, count);
+        put_carriers(rng, parameters, carriers);
+    }
+    draft.octets()
+}
+
+/// So many sound CC.
+fn sound_carriers(rng: &mut Rng, count: usize) -> Vec<Vec<u8>> {
+    (0..count)
+        .map(|_| parameters::sound_carriers(rng))
+        .collect()
+}
+
+/// Puts these CC among the others, in the place of those that are there.
+fn put_carriers(rng: &mut Rng, parameters: &mut Vec<Vec<u8>>, carriers: Vec<Vec<u8>>) {
+    parameters.retain(|parameter| name_of(parameter[0]) != CARRIERS_NAME);
+    for own in carriers {
+        put(rng, parameters, own);
+    }
+}
+
 /// A message that is sound but for bad digits or characters in a parameter of its
 /// transfer data, if it has some.
 pub fn message_with_bad_digits(rng: &mut Rng) -> Vec<u8> {
@@ -302,7 +356,7 @@ fn message_with(rng: &mut Rng, made: fn(&mut Rng) -> Vec<u8>) -> Vec<u8> {
 
 /// A message of any kind: sound, damaged, or none at all.
 pub fn message(rng: &mut Rng) -> Vec<u8> {
-    match rng.weighted(&[10, 9, 3, 1]) {
+    match rng.weighted(&[20, 18, 6, 2, 3]) {
         0 => sound_message(rng),
         1 => {
             let size = size(rng);
@@ -321,7 +375,8 @@ pub fn message(rng: &mut Rng) -> Vec<u8> {
             }
             octets
         }
-        _ => noise(rng),
+        3 => noise(rng),
+        _ => message_with_carriers(rng),
     }
 }
 

@@ -1,7 +1,7 @@
 //! What the plain codec answers to an input, in one form for all kinds.
 
 use crate::input::Input;
-use plain::{AddedClass, Charging, Class, Record, Refusal, Row};
+use plain::{AddedClass, CarrierRow, Charging, Class, Record, Refusal, Row};
 use std::ops::Range;
 
 /// Octets of a row in a lent table: offset (2, least first), header, contents
@@ -11,6 +11,10 @@ pub const ROW_LEN: usize = 5;
 /// Octets of the opened charging information: the kind, then eleven numbers (2
 /// each, least first).
 pub const CHARGING_LEN: usize = 23;
+
+/// Octets of a row of opened carriers: level, tag, then offset, length and count of
+/// digits (2 each, least first).
+pub const CARRIER_ROW_LEN: usize = 8;
 
 /// What came of a call.
 #[derive(Clone, Debug, PartialEq, Eq)]
@@ -65,21 +69,15 @@ pub fn answer(input: &Input) -> Outcome {
         Input::Read { message, .. } => read(plain::read(message), memory),
         Input::Write { image, .. } => write(image, memory, plain::write),
         Input::Rows { message, .. } => listed(memory, |table| plain::spans(message, table)),
-        Input::FindCommon { message, header } => {
-            Outcome::new(packed_range(plain::find_common(message, *header)), memory)
-        }
-        Input::FindTransfer { message, name } => {
-            Outcome::new(packed_range(plain::find_transfer(message, *name)), memory)
-        }
+        Input::FindCommon { message, header } => found(plain::find_common(message, *header)),
+        Input::FindTransfer {
+            message,
+            name,
+            which,
+        } => found(plain::find_transfer(message, *name, *which)),
         Input::Class { header, octet } => Outcome::new(class(*header, *octet), memory),
-        Input::Replace { n, new, .. } => {
-            edited(memory, |buffer| plain::replace(buffer, (*n).into(), new))
-        }
-        Input::Append { n, new, .. } => {
-            edited(memory, |buffer| plain::append(buffer, (*n).into(), new))
-        }
-        Input::Remove { n, name, .. } => {
-            edited(memory, |buffer| plain::remove(buffer, (*n).into(), *name))
+        Input::Replace { .. } | Input::Append { .. } | Input::Remove { .. } => {
+            changed(memory, |buffer| edited(input, buffer))
         }
         Input::Charging { message, .. } => charging(message, memory),
         Input::Order { message, .. } => listed(memory, |table| plain::order_spans(message, table)),
@@ -89,7 +87,21 @@ pub fn answer(input: &Input) -> Outcome {
         }
         Input::ProfileWrite { image, .. } => write(image, memory, plain::profile_write),
         Input::AddedClasses { message, .. } => added_classes(message, memory),
+        Input::Carriers { message, which, .. } => carriers(message, *which, memory),
+        Input::CarrierDigits {
+            message,
+            which,
+            row,
+            ..
+        } => {
+            let digits = plain::carrier_digits(message, *which, *row);
+            changed(memory, |out| put(&digits?, out))
+        }
     }
+}
+
+fn found(found: Result<Range<usize>, Refusal>) -> Outcome {
+    Outcome::new(packed_range(found), Vec::new())
 }
 
 fn read(read: Result<Record, Refusal>, mut memory: Vec<u8>) -> Outcome {
@@ -188,7 +200,49 @@ fn added_octets(classes: &[AddedClass]) -> Vec<u8> {
     classes.iter().flat_map(pair).collect()
 }
 
-fn edited(mut memory: Vec<u8>, edit: impl FnOnce(&mut [u8]) -> Result<usize, Refusal>) -> Outcome {
-    let answer = edit(&mut memory);
+fn carriers(message: &[u8], which: usize, mut memory: Vec<u8>) -> Outcome {
+    let rows = memory.chunks_exact(CARRIER_ROW_LEN).map(carrier_row_of);
+    let mut table: Vec<CarrierRow> = rows.collect();
+    let answer = plain::carrier_spans(message, which, &mut table);
+    for (octets, row) in memory.chunks_exact_mut(CARRIER_ROW_LEN).zip(&table) {
+        octets.copy_from_slice(&carrier_octets(row));
+    }
+    Outcome::new(packed(answer), memory)
+}
+
+fn carrier_row_of(octets: &[u8]) -> CarrierRow {
+    let number = |low: usize| u16::from_le_bytes([octets[low], octets[low + 1]]);
+    CarrierRow {
+        level: octets[0],
+        tag: octets[1],
+        offset: number(2),
+        len: number(4),
+        digits: number(6),
+    }
+}
+
+/// A row of opened carriers as it stands in a lent table.
+pub fn carrier_octets(row: &CarrierRow) -> [u8; CARRIER_ROW_LEN] {
+    let [a, b] = row.offset.to_le_bytes();
+    let [c, d] = row.len.to_le_bytes();
+    let [e, f] = row.digits.to_le_bytes();
+    [row.level, row.tag, a, b, c, d, e, f]
+}
+
+/// What an edit makes of the buffer; 0 for a call that is none.
+fn edited(input: &Input, buffer: &mut [u8]) -> Result<usize, Refusal> {
+    match input {
+        Input::Replace { n, new, which, .. } => plain::replace(buffer, (*n).into(), new, *which),
+        Input::Append { n, new, .. } => plain::append(buffer, (*n).into(), new),
+        Input::Remove { n, name, which, .. } => plain::remove(buffer, (*n).into(), *name, *which),
+        _ => Ok(0),
+    }
+}
+
+fn changed(
+    mut memory: Vec<u8>,
+    change: impl FnOnce(&mut [u8]) -> Result<usize, Refusal>,
+) -> Outcome {
+    let answer = change(&mut memory);
     Outcome::new(packed(answer), memory)
 }

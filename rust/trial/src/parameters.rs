@@ -1,10 +1,13 @@
 //! Transfer parameters in octets: sound ones of every name, and spoilt ones.
 
+use crate::carriers;
 use crate::charging;
 use crate::order;
 use crate::rng::Rng;
-use plain::transfer::{layout_of, name_of, Layout, CHARGING, ORDER};
+use plain::transfer::{layout_of, name_of, Layout, CARRIERS, CHARGING, ORDER};
 
+/// The name of the carriers.
+pub const CARRIERS_NAME: u8 = name_of(CARRIERS);
 /// The name of the charging information.
 pub const CHARGING_NAME: u8 = name_of(CHARGING);
 /// The name of the connection order.
@@ -62,6 +65,7 @@ pub fn shortest(name: u8) -> usize {
         Layout::Octet { .. } | Layout::Digits { .. } | Layout::Carried => 2,
         Layout::GenericNumber => 3,
         Layout::Order => 2 + order::SHORTEST,
+        Layout::Carriers => 2 + carriers::SHORTEST,
         Layout::UserNumber | Layout::CallingNumber | Layout::Two { .. } => 4,
         Layout::Charging => 2 + charging::SHORTEST,
         Layout::Four => 6,
@@ -91,6 +95,11 @@ fn ordered(contents: Vec<u8>) -> Vec<u8> {
     counted(ORDER_NAME, &contents)
 }
 
+/// The carriers with these contents.
+fn carried(contents: Vec<u8>) -> Vec<u8> {
+    counted(CARRIERS_NAME, &contents)
+}
+
 /// A sound parameter of `name` in at most `room` octets, if [`shortest`] goes
 /// into them; of an unused name, one that is sound but for its name.
 pub fn sound(rng: &mut Rng, name: u8, room: usize) -> Vec<u8> {
@@ -116,6 +125,7 @@ pub fn sound(rng: &mut Rng, name: u8, room: usize) -> Vec<u8> {
         Layout::Two { zero } => counted(name, &[rng.octet(), rng.octet() & !zero]),
         Layout::Charging => charged(charging::sound(rng, charging::SHORTEST + spare)),
         Layout::Order => ordered(order::sound(rng, order::SHORTEST + spare)),
+        Layout::Carriers => carried(carriers::sound(rng, carriers::SHORTEST + spare)),
         Layout::Carried => {
             let len = count(rng, spare);
             counted(name, &rng.octets(len))
@@ -230,9 +240,10 @@ pub fn spoilt(rng: &mut Rng, fault: Fault) -> Vec<u8> {
         Fault::WrongLength => wrong_length(rng),
         Fault::BadForm => bad_form(rng),
         Fault::SpareDigit => spoilt_digits(rng),
-        Fault::Twofold => match rng.below(6) {
+        Fault::Twofold => match rng.below(8) {
             0 => charged(charging::twofold(rng)),
             1 => ordered(order::twofold(rng)),
+            2 => carried(carriers::twofold(rng)),
             _ => twofold(rng),
         },
         Fault::CheckDigit => charged(charging::wrong_check_digit(rng)),
@@ -248,10 +259,11 @@ pub fn spoilt_somehow(rng: &mut Rng) -> Vec<u8> {
 
 /// A parameter with bad digits or characters, one of them or more.
 pub fn spoilt_digits(rng: &mut Rng) -> Vec<u8> {
-    match rng.weighted(&[4, 1, 2]) {
+    match rng.weighted(&[4, 1, 2, 1]) {
         0 => spare_digit(rng),
         1 => charged(charging::bad_digit(rng)),
-        _ => ordered(order::bad_digit(rng)),
+        2 => ordered(order::bad_digit(rng)),
+        _ => carried(carriers::bad_digit(rng)),
     }
 }
 
@@ -294,6 +306,29 @@ pub fn spoilt_order(rng: &mut Rng) -> Vec<u8> {
     })
 }
 
+/// The carriers, sound or spoilt.
+pub fn carriers_somehow(rng: &mut Rng) -> Vec<u8> {
+    match rng.below(2) {
+        0 => sound_carriers(rng),
+        _ => spoilt_carriers(rng),
+    }
+}
+
+/// The carriers, sound.
+pub fn sound_carriers(rng: &mut Rng) -> Vec<u8> {
+    let room = rng.pick(&[3, 12, 40, 40, 40, 80, 255]);
+    sound(rng, CARRIERS_NAME, room)
+}
+
+/// The carriers with any fault of their own.
+pub fn spoilt_carriers(rng: &mut Rng) -> Vec<u8> {
+    carried(match rng.weighted(&[6, 4, 2]) {
+        0 => carriers::bad_form(rng),
+        1 => carriers::bad_digit(rng),
+        _ => carriers::twofold(rng),
+    })
+}
+
 fn wrong_pli(rng: &mut Rng) -> Vec<u8> {
     let name = rng.pick(&names_with(|layout| layout.pli().is_some()));
     let right = layout_of(name).pli().unwrap_or(0);
@@ -323,7 +358,7 @@ fn wrong_length(rng: &mut Rng) -> Vec<u8> {
 
 fn bad_form(rng: &mut Rng) -> Vec<u8> {
     let name = if rng.one_in(3) {
-        rng.pick(&[0x1C, 0x1C, 0x1B, CHARGING_NAME, ORDER_NAME])
+        rng.pick(&[0x1C, 0x1C, 0x1B, CHARGING_NAME, ORDER_NAME, CARRIERS_NAME])
     } else {
         rng.pick(&names_with(has_form))
     };
@@ -354,6 +389,7 @@ fn bad_form(rng: &mut Rng) -> Vec<u8> {
         }
         Layout::Charging => charged(charging::bad_form(rng)),
         Layout::Order => ordered(order::bad_form(rng)),
+        Layout::Carriers => carried(carriers::bad_form(rng)),
         _ => counted(name, &bad_number(rng)),
     }
 }

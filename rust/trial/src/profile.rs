@@ -111,17 +111,21 @@ fn spoil_pairs(rng: &mut Rng, pairs: &mut Vec<[u8; 2]>) -> Option<u8> {
     if kind == 0 {
         return Some(value(rng));
     }
-    let name = match kind {
-        1 => rng.pick(&NO_NAMES),
+    let mut pair = match kind {
+        1 => [rng.pick(&NO_NAMES), 0],
         _ => {
             if pairs.is_empty() {
                 pairs.push([rng.pick(&NAMES), value(rng)]);
             }
-            rng.pick(pairs)[0]
+            rng.pick(pairs)
         }
     };
+    // A name that stands there has its value, too, now and then.
+    if kind == 1 || rng.below(4) > 0 {
+        pair[1] = value(rng);
+    }
     let at = rng.between(0, pairs.len());
-    pairs.insert(at, [name, value(rng)]);
+    pairs.insert(at, pair);
     None
 }
 

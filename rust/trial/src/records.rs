@@ -1,7 +1,9 @@
 //! Records and their images: sound, with fields out of range, over the limits.
 
+use crate::messages::sound_message_with_carriers;
 use crate::messages::{self, enquiry_draft, sound_draft, with_alone, Size};
-use crate::parameters::{shuffled_names, sound, spoilt_charging, spoilt_order, spoilt_somehow};
+use crate::parameters::{shuffled_names, sound, sound_carriers, spoilt_carriers};
+use crate::parameters::{spoilt_charging, spoilt_order, spoilt_somehow, CARRIERS_NAME};
 use crate::record::{fields_in, fields_of, Common, Record, Transfer, WITH_FIELDS};
 use crate::record::{INCOMPLETE, NUMBER_TYPE, PLAN, PRESENTATION, SCREENING};
 use crate::rng::Rng;
@@ -47,8 +49,10 @@ pub fn enquiry_image(rng: &mut Rng) -> Vec<u8> {
 
 /// A record that writing accepts, if the room is long enough.
 fn sound_record(rng: &mut Rng) -> Record {
-    let size = messages::size(rng);
-    let message = sound_draft(rng, size).octets();
+    let message = match rng.below(10) {
+        0 => sound_message_with_carriers(rng),
+        _ => messages::sound_message(rng),
+    };
     Record::read(&message).unwrap_or_default()
 }
 
@@ -96,7 +100,7 @@ fn heavy_transfers(rng: &mut Rng) -> Vec<Transfer> {
         }
     }
     let used = |name: u8| transfers.iter().any(|t| t.header & 0x3F == name);
-    let carried = [0x0C, 0x0D, 0x13, 0x29, 0x38];
+    let carried = [0x0E, 0x0D, 0x13, 0x29, 0x38];
     if let Some(name) = carried.into_iter().find(|&name| !used(name)) {
         transfers.push(Transfer {
             header: 0xC0 | name,
@@ -216,7 +220,7 @@ fn damage_sequence(rng: &mut Rng, record: &mut Record) {
 }
 
 fn damage_transfers(rng: &mut Rng, transfers: &mut Vec<Transfer>) {
-    let parameter = match rng.below(15) {
+    let parameter = match rng.below(18) {
         0 | 1 if !transfers.is_empty() => {
             let mut again = transfers[rng.below(transfers.len())].clone();
             if rng.one_in(3) {
@@ -232,6 +236,8 @@ fn damage_transfers(rng: &mut Rng, transfers: &mut Vec<Transfer>) {
         7 | 8 => alone_of_its_name(transfers, at_limit(rng)),
         9 => alone_of_its_name(transfers, as_octets(&spoilt_charging(rng))),
         10 | 11 => alone_of_its_name(transfers, as_octets(&spoilt_order(rng))),
+        12 | 13 => alone_of_its_name(transfers, as_octets(&spoilt_carriers(rng))),
+        14 => more_carriers(rng, transfers),
         _ if !transfers.is_empty() => {
             let at = rng.below(transfers.len());
             damage_transfer(rng, &mut transfers[at]);
@@ -252,13 +258,28 @@ fn alone_of_its_name(transfers: &mut Vec<Transfer>, parameter: Transfer) -> Tran
     parameter
 }
 
-/// Brings the transfer parameters to 50 to 53, and gives one more.
+/// Brings the CC among the transfer parameters to two or three, and gives one more,
+/// sound or spoilt.
+fn more_carriers(rng: &mut Rng, transfers: &mut Vec<Transfer>) -> Transfer {
+    let is_carriers = |t: &&Transfer| t.header & 0x3F == CARRIERS_NAME;
+    let count = transfers.iter().filter(is_carriers).count();
+    for _ in count..rng.pick(&[2, 3, 3]) {
+        let to = rng.between(0, transfers.len());
+        transfers.insert(to, as_octets(&sound_carriers(rng)));
+    }
+    as_octets(&match rng.below(3) {
+        0 => spoilt_carriers(rng),
+        _ => sound_carriers(rng),
+    })
+}
+
+/// Brings the transfer parameters to 52 to 55, and gives one more.
 fn crowd(rng: &mut Rng, transfers: &mut Vec<Transfer>) -> Transfer {
     let bare = Transfer {
         header: rng.octet(),
         ..Transfer::default()
     };
-    transfers.resize(rng.between(50, 53), bare.clone());
+    transfers.resize(rng.between(52, 55), bare.clone());
     bare
 }
 

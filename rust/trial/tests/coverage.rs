@@ -1,11 +1,13 @@
 //! Over many inputs every answer occurs that a call can have, and no other;
 //! every name meets every refusal that its layout can give; every field is met
 //! at its limit and one above, and so are the number and the mark of the
-//! sequence, every rate kind of the charging information and every form and
-//! header of the connection order; whatever holds digits or characters holds bad
-//! ones in every way; every rule of the mobile call profile is kept, and alone is
-//! not kept; and every condition of a list occurs.
+//! sequence, every rate kind of the charging information, every form and header of
+//! the connection order and every tag, length and code of the carriers; each of
+//! several carriers is asked for, and one more than there are; whatever holds digits
+//! or characters holds bad ones in every way; every rule of the mobile call profile is
+//! kept, and alone is not kept; and every condition of a list occurs.
 
+mod carriers;
 mod charging;
 mod conditions;
 mod contents;
@@ -15,16 +17,17 @@ mod halves;
 mod order;
 mod profile;
 mod sequence;
+mod which;
 
 use conditions::CONDITIONS;
 use contents::{contents_in, parameter_at};
-use plain::transfer::{CHARGING, ORDER};
+use plain::transfer::{CARRIERS, CHARGING, ORDER};
 use std::collections::{BTreeMap, BTreeSet};
 use trial::record::{fields_in, fields_of, Common, Record, Transfer, WITH_FIELDS};
 use trial::{answer, input_at, Coverage, Input, Kind, Outcome};
 
 const SEED: u64 = 17;
-const COUNT: u64 = 200_000;
+const COUNT: u64 = 240_000;
 
 /// The inputs under the seed, with the answers to them.
 fn calls() -> impl Iterator<Item = (Input, Outcome)> {
@@ -42,15 +45,15 @@ type Kinds = BTreeMap<u8, BTreeSet<u8>>;
 
 /// How many names reading refuses with each number. 12 names are unused, 47 of
 /// the others have a PLI of their own. Eleven names under PLI 01 and three under
-/// PLI 10 have zero bits, and eight under PLI 11 a form; ten hold digits, one of
+/// PLI 10 have zero bits, and nine under PLI 11 a form; eleven hold digits, one of
 /// them a check digit, and one is the connection order.
 const READ: [(u8, usize); 8] = [
     (8, 12),
     (9, 47),
     (10, 52),
     (11, 52),
-    (12, 22),
-    (13, 10),
+    (12, 23),
+    (13, 11),
     (18, 1),
     (19, 1),
 ];
@@ -62,8 +65,8 @@ const WRITTEN: [(u8, usize); 8] = [
     (9, 47),
     (10, 52),
     (11, 30),
-    (12, 23),
-    (13, 10),
+    (12, 24),
+    (13, 11),
     (18, 1),
     (19, 1),
 ];
@@ -164,6 +167,34 @@ fn every_form_and_header_occurs_at_its_limits() {
         let missing: Vec<_> = order::all().difference(&seen).copied().collect();
         assert_eq!(missing, [], "{call}");
     }
+}
+
+#[test]
+fn every_tag_and_length_of_carriers_occurs() {
+    let [mut read, mut written, mut edited] = [(); 3].map(|()| carriers::Sights::new());
+    for (input, outcome) in calls() {
+        let Some(contents) = contents_in(CARRIERS, &input, &outcome) else {
+            continue;
+        };
+        let seen = match input.kind() {
+            Kind::Write => &mut written,
+            Kind::Replace | Kind::Append => &mut edited,
+            _ => &mut read,
+        };
+        seen.extend(carriers::sights(&contents));
+    }
+    for (call, seen) in [("read", read), ("written", written), ("edited", edited)] {
+        let missing: Vec<_> = carriers::all().difference(&seen).copied().collect();
+        assert_eq!(missing, [], "{call}");
+    }
+}
+
+#[test]
+fn every_one_of_several_is_asked_for() {
+    let seen = calls().filter_map(|(input, outcome)| which::sight(&input, &outcome));
+    let seen: which::Sights = seen.collect();
+    let missing: Vec<_> = which::all().difference(&seen).copied().collect();
+    assert_eq!(missing, []);
 }
 
 #[test]

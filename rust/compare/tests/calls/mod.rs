@@ -40,6 +40,7 @@ fn finds(message: &[u8]) -> [Input; 2] {
         Input::FindTransfer {
             message,
             name: 0x01,
+            which: 0,
         },
     ]
 }
@@ -55,6 +56,25 @@ fn openings(message: &[u8]) -> [Input; 2] {
         Input::Order {
             message,
             table: lent(),
+        },
+    ]
+}
+
+/// The calls that open the first CC, and what its third row is: the first dependent
+/// entry, if the first carrier entry has one.
+fn carriers(message: &[u8]) -> [Input; 2] {
+    let message = message.to_vec();
+    [
+        Input::Carriers {
+            message: message.clone(),
+            which: 0,
+            table: vec![0xEE; 1100],
+        },
+        Input::CarrierDigits {
+            message,
+            which: 0,
+            row: 2,
+            out: vec![0xEE; 500],
         },
     ]
 }
@@ -82,6 +102,7 @@ fn edits(message: &[u8]) -> [Input; 3] {
             buffer: buffer.clone(),
             n,
             new: vec![0x41, 0x01],
+            which: 0,
         },
         Input::Append {
             buffer: buffer.clone(),
@@ -92,16 +113,18 @@ fn edits(message: &[u8]) -> [Input; 3] {
             buffer,
             n,
             name: 0x01,
+            which: 0,
         },
     ]
 }
 
-/// Every call that reads the message; what they ask for is 04, 41, F7, E0, and by
+/// Every call that reads the message; what they ask for is 04, 41, F7, E0, CC, and by
 /// the mobile call profile D6.
 pub fn all_readers(message: &[u8]) -> Vec<Input> {
     let mut calls = readings(message).to_vec();
     calls.extend(finds(message));
     calls.extend(openings(message));
+    calls.extend(carriers(message));
     calls.extend(enquiries(message));
     calls.extend(edits(message));
     calls

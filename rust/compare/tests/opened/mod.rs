@@ -55,6 +55,7 @@ pub fn writings(header: u8, contents: &[u8], old: &[u8]) -> [Input; 3] {
             buffer: with,
             n: with_n,
             new,
+            which: 0,
         },
     ]
 }

@@ -1,9 +1,11 @@
 //! Conditions on a call and its outcome, each of which is to occur.
 
 use crate::contents::{len_of, parameter_at};
+use plain::carriers::CARRIER_ROW_LIMIT;
+use plain::listing::ROW_LIMIT;
 use plain::order::ORDER_ROW_LIMIT;
-use plain::transfer::{name_of, ORDER};
-use trial::outcome::ROW_LEN;
+use plain::transfer::{name_of, CARRIERS, ORDER};
+use trial::outcome::{CARRIER_ROW_LEN, ROW_LEN};
 use trial::record::Transfer;
 use trial::{answer, Input, Kind, Outcome};
 
@@ -25,13 +27,28 @@ pub const CONDITIONS: &[Condition] = &[
     }),
     ("data of 255 by appending", |i, o| appends(i, o, 0, 255)),
     ("data of 256 by appending", |i, o| appends(i, o, 14, 256)),
-    ("52 transfer parameters", |i, o| {
-        writes(i, o, 0, |w| w.transfers.len() == 52)
+    ("54 transfer parameters", |i, o| {
+        writes(i, o, 0, |w| w.transfers.len() == 54)
     }),
-    ("53 transfer parameters", |i, o| {
+    ("55 transfer parameters", |i, o| {
         writes(i, o, 1, |w| {
-            w.within() == [true, false, true] && w.transfers.len() == 53
+            w.within() == [true, false, true] && w.transfers.len() == 55
         })
+    }),
+    ("54 transfer parameters read", |i, o| {
+        reads(i, o, 0, |m| transfers_in(m) == 54)
+    }),
+    ("three CC read", |i, o| {
+        reads(i, o, 0, |m| carriers_in(m) == 3)
+    }),
+    ("a fourth CC read", |i, o| {
+        refuses(i, o, 10, |p| p[0] == CARRIERS)
+    }),
+    ("three CC written", |i, o| {
+        writes(i, o, 0, |w| w.carriers() == 3)
+    }),
+    ("a fourth CC written", |i, o| {
+        writes(i, o, 10, |w| w.carriers() == 4 && !w.repeats_others())
     }),
     ("6 common parameters", |i, o| {
         writes(i, o, 0, |w| w.common == 6)
@@ -88,8 +105,8 @@ pub const CONDITIONS: &[Condition] = &[
     ("DC withheld with digits", |i, o| {
         refuses(i, o, 12, |p| withheld_wrong_bits(p) == Some(0))
     }),
-    ("more than 50 rows", |i, o| {
-        matches!(i, Input::Rows { .. }) && o.number() == 0 && o.value() > 50
+    ("the most rows", |i, o| {
+        matches!(i, Input::Rows { .. }) && o.number() == 0 && o.value() == ROW_LIMIT
     }),
     ("octets past what is replaced in", |i, o| {
         past(i, o, Kind::Replace)
@@ -130,6 +147,80 @@ pub const CONDITIONS: &[Condition] = &[
     ("order with 255 digits", |i, o| {
         let is_full = |row: &[u8]| row[2..] == [0x91, 129, 0];
         orders(i, o, |_| o.memory.chunks_exact(ROW_LEN).any(is_full))
+    }),
+    ("table for carriers short by one", |i, o| {
+        short(i, o, Kind::Carriers)
+    }),
+    ("octets past the rows of carriers", |i, o| {
+        opens(i, o, |_| o.value() * CARRIER_ROW_LEN < o.memory.len())
+    }),
+    ("carriers of a direction alone", |i, o| {
+        opens(i, o, |contents| contents.len() == 1)
+    }),
+    ("carriers with the most rows, all of one level", |i, o| {
+        opens(i, o, |_| {
+            o.value() == CARRIER_ROW_LIMIT && o.memory[CARRIER_ROW_LEN * 2] == 1
+        })
+    }),
+    ("carriers with the most rows, of two levels", |i, o| {
+        opens(i, o, |_| {
+            o.value() == CARRIER_ROW_LIMIT && o.memory[CARRIER_ROW_LEN * 2] == 2
+        })
+    }),
+    ("carriers of 253 octets", |i, o| {
+        opens(i, o, |contents| contents.len() == 253)
+    }),
+    ("no octet for rows of carriers, and 16", |i, o| {
+        i.kind() == Kind::Carriers && o.number() == 16 && o.memory.is_empty()
+    }),
+    ("octets for rows of carriers, and 16", |i, o| {
+        i.kind() == Kind::Carriers && o.number() == 16 && o.memory.len() > 8
+    }),
+    ("no transfer data, and carriers", |i, o| {
+        is_without_data(i, Kind::Carriers) && o.number() == 16
+    }),
+    ("octets for digits short by one", |i, o| {
+        short(i, o, Kind::CarrierDigits)
+    }),
+    ("octets past the digits", |i, o| {
+        digits(i, o, |count| 0 < count && count < o.memory.len())
+    }),
+    ("odd count of a code's digits", |i, o| {
+        digits(i, o, |count| count % 2 == 1)
+    }),
+    ("even count of a code's digits", |i, o| {
+        digits(i, o, |count| count % 2 == 0 && count > 0)
+    }),
+    ("no octet for no digit", |i, o| {
+        digits(i, o, |count| count == 0 && o.memory.is_empty())
+    }),
+    ("494 digits", |i, o| digits(i, o, |count| count == 494)),
+    ("493 digits", |i, o| digits(i, o, |count| count == 493)),
+    ("digits of the direction", |i, o| {
+        no_digits(i, o, Some([0, 0]))
+    }),
+    ("digits of a carrier entry", |i, o| {
+        no_digits(i, o, Some([1, 0xFA]))
+    }),
+    (
+        "digits of a carrier entry with the tag of a code",
+        |i, o| no_digits(i, o, Some([1, 0xFE])),
+    ),
+    ("digits of what is carried", |i, o| {
+        no_digits(i, o, Some([2, 0xFC]))
+    }),
+    ("digits of the row behind the last", |i, o| {
+        no_digits(i, o, None) && asks_for_row(i, |row, rows| row == rows)
+    }),
+    ("digits of a row of which the low octets are 0", |i, o| {
+        no_digits(i, o, None) && asks_for_row(i, |row, _| row == 1 << 32)
+    }),
+    (
+        "digits of the last row that there is a number for",
+        |i, o| no_digits(i, o, None) && asks_for_row(i, |row, _| row == usize::MAX),
+    ),
+    ("no transfer data, and digits", |i, o| {
+        is_without_data(i, Kind::CarrierDigits) && o.number() == 16
     }),
     ("272 octets in the profile", |i, o| {
         enquires(i, o, 0, |m| m.len() == 272)
@@ -200,7 +291,7 @@ fn reads(input: &Input, outcome: &Outcome, number: u8, wanted: impl Fn(&[u8]) ->
 
 /// Whether a message was read in which the contents under a name are wanted.
 fn holds(input: &Input, outcome: &Outcome, name: u8, wanted: impl Fn(&[u8]) -> bool) -> bool {
-    let found = |m: &[u8]| plain::find_transfer(m, name).is_ok_and(|range| wanted(&m[range]));
+    let found = |m: &[u8]| plain::find_transfer(m, name, 0).is_ok_and(|range| wanted(&m[range]));
     reads(input, outcome, 0, found)
 }
 
@@ -209,8 +300,76 @@ fn orders(input: &Input, outcome: &Outcome, wanted: impl Fn(&[u8]) -> bool) -> b
     let Input::Order { message, .. } = input else {
         return false;
     };
-    let found = || plain::find_transfer(message, name_of(ORDER)).ok();
+    let found = || plain::find_transfer(message, name_of(ORDER), 0).ok();
     outcome.number() == 0 && found().is_some_and(|range| wanted(&message[range]))
+}
+
+/// Whether carriers were opened whose contents are wanted.
+fn opens(input: &Input, outcome: &Outcome, wanted: impl Fn(&[u8]) -> bool) -> bool {
+    let Input::Carriers { message, which, .. } = input else {
+        return false;
+    };
+    let found = || plain::find_transfer(message, name_of(CARRIERS), *which).ok();
+    outcome.number() == 0 && found().is_some_and(|range| wanted(&message[range]))
+}
+
+/// Whether the digits of a code were given, and wanted is how many they are.
+fn digits(input: &Input, outcome: &Outcome, wanted: impl Fn(usize) -> bool) -> bool {
+    input.kind() == Kind::CarrierDigits && outcome.number() == 0 && wanted(outcome.value())
+}
+
+/// Whether the digits of a row were refused with 16: of a row with this level and
+/// tag, or of none that there is.
+fn no_digits(input: &Input, outcome: &Outcome, wanted: Option<[u8; 2]>) -> bool {
+    let Input::CarrierDigits {
+        message,
+        which,
+        row,
+        ..
+    } = input
+    else {
+        return false;
+    };
+    let Ok(rows) = plain::carriers(message, *which) else {
+        return false;
+    };
+    let row = rows.get(*row).map(|row| [row.level, row.tag]);
+    outcome.number() == 16 && row == wanted
+}
+
+/// Whether wanted is the row that is asked for, of so many.
+fn asks_for_row(input: &Input, wanted: impl Fn(usize, usize) -> bool) -> bool {
+    match input {
+        Input::CarrierDigits {
+            message,
+            which,
+            row,
+            ..
+        } => plain::carriers(message, *which).is_ok_and(|rows| wanted(*row, rows.len())),
+        _ => false,
+    }
+}
+
+/// Whether the message of such a call is sound and has no transfer data.
+fn is_without_data(input: &Input, kind: Kind) -> bool {
+    let is_bare = |m: &[u8]| plain::verdict(m).is_ok() && data_len(m).is_none();
+    input.kind() == kind && input.message().is_some_and(is_bare)
+}
+
+/// How many CC an accepted message has.
+fn carriers_in(message: &[u8]) -> usize {
+    let is_there = |which: &usize| plain::find_transfer(message, name_of(CARRIERS), *which).is_ok();
+    (0..).take_while(is_there).count()
+}
+
+/// How many transfer parameters an accepted message has.
+fn transfers_in(message: &[u8]) -> usize {
+    let Ok(data) = plain::find_common(message, 0xC5) else {
+        return 0;
+    };
+    let rows = plain::rows(message).unwrap_or_default();
+    let inside = rows.iter().filter(|row| data.contains(&row.offset.into()));
+    inside.count()
 }
 
 /// Whether reading refused the wanted parameter, of which the octets from the
@@ -276,7 +435,9 @@ fn short(input: &Input, outcome: &Outcome, kind: Kind) -> bool {
         | Input::Order { table: lent, .. }
         | Input::ProfileRead { image: lent, .. }
         | Input::ProfileWrite { room: lent, .. }
-        | Input::AddedClasses { out: lent, .. } => lent.push(0),
+        | Input::AddedClasses { out: lent, .. }
+        | Input::Carriers { table: lent, .. }
+        | Input::CarrierDigits { out: lent, .. } => lent.push(0),
         _ => return false,
     }
     input.kind() == kind && outcome.number() == 15 && answer(&longer).number() == 0
@@ -342,6 +503,19 @@ impl Written {
         dialled.any(|t| t.values.len() == count)
     }
 
+    /// How many CC it has.
+    fn carriers(&self) -> usize {
+        let carriers = self.transfers.iter().filter(|t| t.header == CARRIERS);
+        carriers.count()
+    }
+
+    /// Whether another name stands twice.
+    fn repeats_others(&self) -> bool {
+        let others = self.transfers.iter().filter(|t| t.header != CARRIERS);
+        let names: Vec<u8> = others.map(|t| name_of(t.header)).collect();
+        (1..names.len()).any(|at| names[..at].contains(&names[at]))
+    }
+
     fn contents_len(&self) -> usize {
         self.transfers.iter().map(Transfer::contents_len).sum()
     }
@@ -360,7 +534,7 @@ impl Written {
     fn within(&self) -> [bool; 3] {
         [
             self.common <= 6,
-            self.transfers.len() <= 52,
+            self.transfers.len() <= 54,
             self.contents_len() <= 255,
         ]
     }

@@ -62,7 +62,7 @@ pub fn len_of(octets: &[u8]) -> usize {
 
 /// The contents in a sound message.
 fn found_in(header: u8, message: &[u8]) -> Option<Vec<u8>> {
-    let found = plain::find_transfer(message, name_of(header)).ok()?;
+    let found = plain::find_transfer(message, name_of(header), 0).ok()?;
     Some(message[found].to_vec())
 }
 

@@ -17,6 +17,8 @@ pub enum Holder {
     Charging,
     /// In the parameter with this header of E0.
     Order(u8),
+    /// In a code of CC.
+    Code,
 }
 
 /// Something about the octet that holds the first bad half or character.
@@ -63,6 +65,7 @@ pub fn all() -> Sights {
     for header in [0x91, 0x92] {
         see(Holder::Order(header), &[&ANYWHERE, &HALVES, &FILLER]);
     }
+    see(Holder::Code, &[&ANYWHERE, &HALVES, &FILLER]);
     for header in [0xC9, 0xCA, 0xCD, 0xD2] {
         see(Holder::Order(header), &[&ANYWHERE, &[Sight::Character]]);
     }
@@ -142,6 +145,7 @@ fn holder_of(header: u8, slot: Slot) -> Holder {
         (0xF7, Part::Character) => Holder::Charging,
         (0xF7, _) => Holder::Mbi,
         (0xE0, _) => Holder::Order(slot.holder),
+        (0xCC, _) => Holder::Code,
         _ => Holder::Transfer(header),
     }
 }

@@ -24,7 +24,7 @@ pub struct Slot {
     /// What it is.
     pub part: Part,
     /// The header of the parameter that holds it: of the transfer parameter, in a
-    /// connection order of the one in that.
+    /// connection order of the one in that; in carriers the tag of the code.
     pub holder: u8,
     is_right: fn(u8) -> bool,
 }
@@ -95,6 +95,7 @@ pub fn slots(parameter: &[u8]) -> Vec<Slot> {
         }
         [0xF7, _, _, 8..=10, ..] => characters(0xF7, 5..parameter.len(), is_digit),
         [0xE0, ..] => in_order(parameter),
+        [0xCC, ..] => in_carriers(parameter),
         _ => Vec::new(),
     }
 }
@@ -126,6 +127,27 @@ fn in_order(order: &[u8]) -> Vec<Slot> {
             _ => Vec::new(),
         });
         at = end;
+    }
+    slots
+}
+
+/// Those of the codes in carriers: the entries stand behind the header, the length
+/// octet and the direction.
+fn in_carriers(carriers: &[u8]) -> Vec<Slot> {
+    let mut slots = Vec::new();
+    let mut at = 3;
+    while let Some(&[_, len]) = carriers.get(at..at + 2) {
+        let end = at + 2 + usize::from(len);
+        at += 2;
+        while at < end {
+            let own = at + 2;
+            let (tag, len) = (carriers[at], usize::from(carriers[at + 1]));
+            if tag == 0xFE {
+                let count = 2 * (len - 1) - usize::from(carriers[own] >> 7);
+                slots.extend(halves(tag, own + 1, count, |code| code <= 9));
+            }
+            at = own + len;
+        }
     }
     slots
 }

@@ -65,7 +65,7 @@ impl Call {
 /// That of a message that reading accepts.
 pub fn call_in(message: &[u8]) -> Call {
     let found = |header| {
-        let contents = plain::find_transfer(message, name_of(header)).ok()?;
+        let contents = plain::find_transfer(message, name_of(header), 0).ok()?;
         Some(message[contents].to_vec())
     };
     let kind = plain::find_common(message, SIGNAL_KIND).expect("a sound message");
