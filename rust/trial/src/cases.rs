@@ -31,8 +31,10 @@ const FIELDS: [&str; 8] = [
     "screening",
 ];
 
-/// The most common parameters that the program's struct has room for.
+/// The most common and the most transfer parameters that the program's struct has
+/// room for.
 const MOST_COMMONS: u8 = 6;
+const MOST_TRANSFERS: u8 = 54;
 
 /// All cases, one behind the other.
 ///
@@ -79,31 +81,32 @@ fn case(line: &str) -> Option<Vec<u8>> {
     )
 }
 
-/// `edit NEW | buffer | n | answer`: the name that is removed is decimal.
+/// `edit NEW which | buffer | n | answer`: the name that is removed is decimal, and
+/// an appending has no `which`.
 fn edit_vector(line: &str) -> Option<Vec<u8>> {
     let parts: Vec<&str> = line.split(" | ").collect();
     let [call, buffer, n, _] = parts[..] else {
         return None;
     };
-    let new = match call.split_once(' ')? {
+    let words: Vec<&str> = call.split(' ').collect();
+    let (kind, new, which) = match words[..] {
+        [kind, new, which] => (kind, new, which.parse().ok()?),
+        [kind, new] => (kind, new, 0),
+        _ => return None,
+    };
+    let new = match (kind, new) {
         (_, "-") => Vec::new(),
         ("remove", name) => vec![name.parse().ok()?],
-        (_, new) => hex(new)?,
+        _ => hex(new)?,
     };
-    edit(
-        call.split(' ').next()?,
-        n.parse().ok()?,
-        0,
-        &hex(buffer)?,
-        &new,
-    )
+    edit(kind, n.parse().ok()?, which, &hex(buffer)?, &new)
 }
 
 /// `image | answer`; nothing where the struct has no room for the record.
 fn record_vector(line: &str) -> Option<Vec<u8>> {
     let (image, answer) = line.split_once(" | ")?;
     let image = hex(image)?;
-    if *image.first()? > MOST_COMMONS {
+    if *image.first()? > MOST_COMMONS || transfers_in(&image) > Some(MOST_TRANSFERS) {
         return Some(Vec::new());
     }
     let room = match answer.strip_prefix("accepted ") {
@@ -131,6 +134,22 @@ fn octets_of(
     octets.extend_from_slice(buffer);
     octets.extend_from_slice(last);
     Some(octets)
+}
+
+/// How many transfer parameters an image has.
+fn transfers_in(image: &[u8]) -> Option<u8> {
+    let (&commons, mut rest) = image.split_first()?;
+    let mut count = 0;
+    for _ in 0..commons {
+        let (&[header, .., transfers], behind) = rest.split_first_chunk::<7>()?;
+        rest = behind;
+        for _ in 0..if header == 0xC5 { transfers } else { 0 } {
+            let (&[.., low, high], behind) = rest.split_first_chunk::<11>()?;
+            rest = behind.get(u16::from_le_bytes([low, high]).into()..)?;
+            count += 1;
+        }
+    }
+    Some(count)
 }
 
 /// Octets in hexadecimal, `07*200` for as many of one, M and K of the bench table.
