@@ -158,6 +158,10 @@ carrierRowsOf which m = map (entryRow (startOf (carriersFound which m))) (entrie
 abbrev pub most-carrier-rows : ℕ
 most-carrier-rows = 1 + 252 / 2
 
+-- and the most digits of a code: of the 253 octets of contents six are the direction, two tags, two length octets and the code's first octet
+abbrev pub most-carrier-digits : ℕ
+most-carrier-digits = 2 * 247
+
 -- the row count, or number and place
 unfoldable pub carriersAnswer : List ℕ → ℕ → ℕ → Answer
 carriersAnswer m which room =

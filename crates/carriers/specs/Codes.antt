@@ -35,9 +35,10 @@ use Rattle.annex.specs.declared.Answer.the-variants.{Accepted, Refused}
 use Rattle.annex.specs.declared.Cursor.{Cursor}
 use Rattle.annex.specs.declared.Found.the-variants.{At, Nowhere}
 use Rattle.laws.specs.Bools.{and-left}
+use Rattle.laws.specs.Entries.{code-long}
 use Rattle.laws.specs.Fronts.{front-all}
 use Rattle.entries.specs.Left.{entry-sized, entriesLeft, here, entryHere, held-here}
-use Rattle.carriers.specs.Rows.{Going, right-here, entries-next, none-left, code-long}
+use Rattle.carriers.specs.Rows.{Going, right-here, entries-next, none-left}
 
 -- behind so many entries, of all
 pub record Reached (s : List ℕ) (number : ℕ) (c : Cursor) : Type 0 where

@@ -8,7 +8,7 @@ use borrow.Author.Tests.{ltb-true, lt-ltb, le-ltb}
 use lib.ListN.{length, getD, take, drop, length-append, length-map}
 use lib.Seq.{sets, getD-take}
 use Rattle.annex.specs.Answers.{startOf, no-room}
-use Rattle.annex.specs.Carriers.{holdsCode, insideOf, codeCount, codeDigits, carriersFormed}
+use Rattle.annex.specs.Carriers.{holdsCode, insideOf, codeCount, carriersFormed}
 use Rattle.annex.specs.Entering.{firstEntry, inCarrier, entryInside, entryNext, isCodeHere}
 use Rattle.annex.specs.Finding.{foundAnswer, findAnswer, findPart}
 use Rattle.annex.specs.Packed.{carrier-row-octets, carrierRowOctets, carrierRowsOctets, octetCarriers, octetCarriersTable}
@@ -24,17 +24,16 @@ use Rattle.annex.specs.Transit.{
   carrierRowsOf,
   carriersAnswer,
 }
-use Rattle.annex.specs.declared.Alphabet.the-variants.{Decimal}
 use Rattle.annex.specs.declared.Answer.the-variants.{Accepted, Refused}
 use Rattle.annex.specs.declared.CarrierRow.{CarrierRow}
 use Rattle.annex.specs.declared.Cursor.{Cursor}
 use Rattle.annex.specs.declared.Found.{Found}
 use Rattle.annex.specs.declared.Found.the-variants.{At, Nowhere}
 use Rattle.laws.specs.Bools.{and-left, and-right}
+use Rattle.laws.specs.Entries.{code-long}
 use Rattle.laws.specs.Filling.{sets-append}
 use Rattle.laws.specs.Found.{part-where}
 use Rattle.laws.specs.Fronts.{front-all}
-use Rattle.laws.specs.Halves.{length-digitsOf}
 use Rattle.laws.specs.Runs.{Left, left-none, left-some, left-fits}
 use Rattle.laws.specs.Steps.{then-passed}
 use Rattle.entries.specs.Left.{
@@ -64,11 +63,6 @@ hereRow s c p =
       len = length (entryInside s c);
       digits = cond (isCodeHere s c) (codeCount (entryInside s c) .0) 0;
     }
-
--- a code has as many digits as it counts
-pub code-long : (s : List ℕ) → length (codeDigits s) ≡ codeCount s .0
-unfolding codeDigits
-code-long s = length-digitsOf Decimal (codeCount s) (drop 1 s) (omega arith)
 
 -- that is the row of the entry
 pub here-row : (s : List ℕ) (c : Cursor) → Lies s c → c .at < length s → entryFormed s c ≡ true → (p : ℕ)

@@ -3,7 +3,7 @@ use Prim.Native.Nat.{ℕ, zero, suc, _+_, _-_, _*_, _/_, _%_, _≤_}
 use native.Mathlib.Omega.{arith}
 use mathlib.Core.Path.{_≡_, refl, sym, ap, _∙_}
 use mathlib.Core.Bool.{Bool, true, false, cond, not, _&&_, _||_}
-use mathlib.Core.List.{List, [], _∷_, _++_, append-assoc, append-nil}
+use mathlib.Core.List.{List, [], _∷_, _++_, map, append-assoc, append-nil}
 use borrow.Author.Tests.{eqb-true, ne-eqb, leb-true}
 use lib.Dec.{eqb, leb}
 use lib.ListN.{length, getD, take, drop, length-drop, length-append, length-map, take-append-drop, drop-of-length-le}
@@ -15,6 +15,7 @@ use Rattle.annex.specs.Carriers.{
   insideOf,
   insideAt,
   octetsIn,
+  dependentsIn,
   carriersIn,
   odd-count,
   even-count,
@@ -25,7 +26,7 @@ use Rattle.annex.specs.Carriers.{
 }
 use Rattle.annex.specs.Digits.{isDigitIn, digitsOf, packed, halvesFor}
 use Rattle.annex.specs.Heads.{among}
-use Rattle.annex.specs.Transit.{layAll, codeOctets, flatEntries, entriesOf}
+use Rattle.annex.specs.Transit.{layAll, codeOctets, Entry, entry, noEntry, flatEntries, entriesOf, isCodeEntry, digitsIn}
 use Rattle.annex.specs.Units.{afterOf, octetsOf}
 use Rattle.annex.specs.Walk.{Par, parOf, pars}
 use Rattle.annex.specs.declared.Alphabet.the-variants.{Decimal}
@@ -149,7 +150,71 @@ entries-of-few s =
       length-drop 1 s,
     )
 
+-- ---- how much a dependent entry holds
+
+-- an entry lies within the octets
+short-entries : (n : ℕ) (qs : List Par) → octetsIn qs ≤ n → Each (λ q. 1 + length (q .own) ≤ n) qs
+short-entries n [] l = tt
+short-entries n (q ∷ qs) l = (omega arith, short-entries n qs (omega arith))
+
+-- so one in a carrier entry is shorter by its own tag and length octet, and by those of the carrier entry
+abbrev Shorter : ℕ → Entry → Type 0
+Shorter n e = e .level ≡ 2 → length (e .par .own) + 3 ≤ n
+
+inner-shorter : (n k : ℕ) (qs : List Par) → Each (λ q. 1 + length (q .own) ≤ k) qs → k + 2 ≤ n → (rest : List Entry)
+    → Each (Shorter n) rest → Each (Shorter n) (map (entry 2) qs ++ rest)
+inner-shorter n k [] s l rest t = t
+inner-shorter n k (q ∷ qs) s l rest t = (λ e. omega (arith, s .0), inner-shorter n k qs (s .1) l rest t)
+
+flat-shorter : (n : ℕ) (qs : List Par) → Each (λ q. 1 + length (q .own) ≤ n) qs → Each Counts qs → Each (Shorter n) (flatEntries qs)
+unfolding flatEntries
+flat-shorter n [] s c = tt
+flat-shorter n (q ∷ qs) s c =
+    let inside = length (insideOf q) in
+    let held : length (q .own) ≡ 1 + inside = ap length (c .0) ∙ omega arith in
+    let each = short-entries inside (dependentsIn q) (octets-within (insideAt q) (insideOf q)) in (
+      λ e. absurd (omega arith),
+      inner-shorter n inside (dependentsIn q) each (omega (arith, s .0, held)) (flatEntries qs) (flat-shorter n qs (s .1) (c .1)),
+    )
+
+one-shorter : (n : ℕ) (es : List Entry) → Each (Shorter n) es → (k : ℕ) → Shorter n (getD es k noEntry)
+one-shorter n [] s k e = absurd (omega arith)
+one-shorter n (x ∷ es) s zero e = s .0 e
+one-shorter n (x ∷ es) s (suc k) e = one-shorter n es (s .1) k e
+
+-- and by the direction octet
+pub dependent-short : (s : List ℕ) (k : ℕ) →
+    let e = getD (entriesOf s) k noEntry in
+    e .level ≡ 2 → length (e .par .own) + 4 ≤ length s
+unfolding entriesOf
+dependent-short s zero e = absurd (omega arith)
+dependent-short s (suc k) e =
+    let n = length (drop 1 s) in
+    let each = short-entries n (carriersIn s) (octets-within 1 (drop 1 s)) in
+    let t = one-shorter n (flatEntries (carriersIn s)) (flat-shorter n (carriersIn s) each (entries-count 0 1 (drop 1 s))) k e in
+    omega (arith, t, length-drop 1 s)
+
 -- ---- a code
+
+-- it has as many digits as it counts
+pub code-long : (s : List ℕ) → length (codeDigits s) ≡ codeCount s .0
+unfolding codeDigits
+code-long s = length-digitsOf Decimal (codeCount s) (drop 1 s) (omega arith)
+
+-- two to an octet, but for the six that hold none
+pub code-few : (s : List ℕ) (k : ℕ) →
+    let e = getD (entriesOf s) k noEntry in
+    isCodeEntry e ≡ true → length (digitsIn e) ≤ 2 * (length s - 6)
+code-few s k t =
+    let e = getD (entriesOf s) k noEntry in
+    let d = dependent-short s k (eqb-true (e .level) 2 (and-left (eqb (e .level) 2) _ t)) in
+    omega (
+      arith,
+      code-long (insideOf (e .par)),
+      length-drop 1 (insideOf (e .par)),
+      length-drop 1 (e .par .own),
+      d,
+    )
 
 -- its first octet, by the two that it may be
 mark-by : (P : ℕ → Type 0) → P even-count → P odd-count → (x : ℕ) → among x (even-count ∷ odd-count ∷ []) ≡ true → P x

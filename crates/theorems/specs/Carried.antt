@@ -12,7 +12,7 @@ use lib.Dec.{eqb, leb, ltb}
 use lib.ListN.{length, getD, length-append, length-map}
 use lib.Seq.{take-append-seam, drop-append-seam}
 use Rattle.annex.specs.Allowed.{every, Each, isOctet, itemsIn}
-use Rattle.annex.specs.Answers.{no-room, refuse, andThen, givenOf}
+use Rattle.annex.specs.Answers.{no-room, absent, refuse, andThen, givenOf}
 use Rattle.annex.specs.Heads.{carriers, zeroesOf, formOf}
 use Rattle.annex.specs.Contents.{faultOf}
 use Rattle.annex.specs.Items.{Item, contentsOf}
@@ -69,6 +69,10 @@ use Rattle.annex.specs.Transit.{
   digitsIn,
   entryRow,
   most-carrier-rows,
+  most-carrier-digits,
+  entryFound,
+  codeAnswer,
+  digitsAnswer,
   carriersFound,
   carrierRowsOf,
   carriersAnswer,
@@ -82,7 +86,7 @@ use Rattle.annex.specs.declared.Check.the-variants.{Carriers}
 use Rattle.annex.specs.declared.Fault.{Fault}
 use Rattle.annex.specs.declared.Fault.the-variants.{Sound}
 use Rattle.laws.specs.Bools.{and-left, and-right, and-both}
-use Rattle.laws.specs.Entries.{entry-size, rawEntry, Counts, entries-count, entries-all, code-open, code-closed, entries-of-few}
+use Rattle.laws.specs.Entries.{entry-size, rawEntry, Counts, entries-count, entries-all, code-open, code-closed, code-few, entries-of-few}
 use Rattle.laws.specs.Faults.{then-sound, then-both}
 use Rattle.laws.specs.Headers.{none-asked}
 use Rattle.laws.specs.Leaves.{as-they-are}
@@ -501,4 +505,34 @@ carriers-roomy m o which room l = go (findAnswer m (carriersFound which m)) refl
     go : (a : Answer) → findAnswer m (carriersFound which m) ≡ a
         → andThen a (λ _. refuse (ltb room n) no-room 0 (Accepted n)) ≡ andThen a (λ _. Accepted n)
     go (Accepted k) e = rw (le-ltb room n (omega (arith, listed-few which m o k e)))
+    go (Refused k p) e = refl
+
+-- the digits of a code are at most 494
+listed-digits : (which row : ℕ) (m : List ℕ) → every isOctet m ≡ true → (n : ℕ) → findAnswer m (carriersFound which m) ≡ Accepted n
+    → isCodeEntry (entryFound which row m) ≡ true → length (digitsIn (entryFound which row m)) ≤ most-carrier-digits
+listed-digits which row m o n e t =
+    omega (arith, code-few (findPart m (carriersFound which m)) row t, contents-short which m o n e)
+
+-- so with room for these it is never 15
+pub digits-roomy : (m : List ℕ) → every isOctet m ≡ true → (which row room : ℕ) → most-carrier-digits ≤ room →
+    let x = entryFound which row m in
+    digitsAnswer m which row room
+    ≡ andThen (findAnswer m (carriersFound which m)) (λ _. refuse (not (isCodeEntry x)) absent 0 (Accepted (length (digitsIn x))))
+unfolding digitsAnswer
+digits-roomy m o which row room l = go (findAnswer m (carriersFound which m)) refl
+  where
+    x : Entry
+    x = entryFound which row m
+
+    n : ℕ
+    n = length (digitsIn x)
+
+    by : (b : Bool) → (b ≡ true → n ≤ most-carrier-digits)
+        → refuse (not b) absent 0 (refuse (ltb room n) no-room 0 (Accepted n)) ≡ refuse (not b) absent 0 (Accepted n)
+    by true f = rw (le-ltb room n (omega (arith, f refl)))
+    by false f = refl
+
+    go : (a : Answer) → findAnswer m (carriersFound which m) ≡ a
+        → andThen a (λ _. codeAnswer x room) ≡ andThen a (λ _. refuse (not (isCodeEntry x)) absent 0 (Accepted n))
+    go (Accepted k) e = by (isCodeEntry x) (λ t. listed-digits which row m o k e t)
     go (Refused k p) e = refl

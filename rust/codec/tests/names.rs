@@ -2,7 +2,8 @@
 //! have the headers of a connection order, the networks and the added classes of
 //! the mobile call profile, the directions and tags of the carriers, and the lengths
 //! the same values; both lend as much room for an image, for the rows of an order and
-//! of carriers and for the added classes as is proved to suffice.
+//! of carriers, for the digits of a carrier's code and for the added classes as is
+//! proved to suffice.
 
 use codec::{AddedClassName, CarrierTag, DependentTag, Direction, Network, OrderHeader};
 use std::collections::BTreeMap;
@@ -63,7 +64,7 @@ fn of_the_most_rows_of_an_order() {
 }
 
 #[test]
-fn of_the_most_carriers_and_their_rows() {
+fn of_the_most_carriers_their_rows_and_digits() {
     let proved = include_str!("../../../crates/annex/specs/Heads.antt");
     let carriers = value(line(proved, "most-carriers = ", '\n'));
     assert_eq!(
@@ -76,6 +77,10 @@ fn of_the_most_carriers_and_their_rows() {
     let header = line(HEADER, "#define TK_CARRIER_ROWS_MAX ", '\n');
     assert_eq!(value(header), rows);
     assert_eq!(codec::CARRIER_ROWS_MAX, rows);
+    let digits = value(line(proved, "most-carrier-digits = ", '\n'));
+    let header = line(HEADER, "#define TK_CARRIER_DIGITS_MAX (", ')');
+    assert_eq!(value(header), digits);
+    assert_eq!(codec::CARRIER_DIGITS_MAX, digits);
 }
 
 #[test]
@@ -98,8 +103,6 @@ fn of_the_other_lengths() {
         let told = line(HEADER, &format!("#define {name} "), '\n');
         assert_eq!(value(told), here, "{name}");
     }
-    let digits = line(HEADER, "#define TK_CARRIER_DIGITS_MAX (", ')');
-    assert_eq!(value(digits), codec::CARRIER_DIGITS_MAX);
 }
 
 /// The constants of C that begin so, in Rust's form: `TK_ORDER_CALLED_ARE = 0xCA`
