@@ -1,7 +1,7 @@
 -- What the functions for Rust and C give, in numbers and octets alone: an answer as one number, the refusal's number times 2^32, the place
 -- times 2^16, and the value, number 0 where accepted (places and values are below 2^16); a record as its image; a row as five octets, one of carriers as eight.
 use Prim.Native.Nat.{ℕ, _+_, _*_, _/_, _%_}
-use mathlib.Core.List.{List, [], _∷_, _++_}
+use mathlib.Core.List.{List, _∷_, _++_}
 use lib.Dec.{ltb}
 use lib.ListN.{length, drop}
 use Rattle.annex.specs.Answers.{
@@ -23,7 +23,7 @@ use Rattle.annex.specs.Writing.{writingOf}
 use Rattle.annex.specs.Image.{twoOctets, imageOf, imagedOf}
 use Rattle.annex.specs.Spans.{rowsOf, spansOf}
 use Rattle.annex.specs.Opened.{orderRowsOf, orderAnswer}
-use Rattle.annex.specs.Transit.{carrierRowsOf, carriersAnswer}
+use Rattle.annex.specs.Transit.{layAll, carrierRowsOf, carriersAnswer}
 use Rattle.annex.specs.Profile.{profileVerdict, profileWriting}
 use Rattle.annex.specs.declared.Answer.{Answer}
 use Rattle.annex.specs.declared.Answer.the-variants.{Accepted, Refused}
@@ -100,8 +100,7 @@ abbrev pub rowOctets : Row → List ℕ
 rowOctets r = twoOctets (r .offset) ++ (r .header ∷ twoOctets (r .len))
 
 unfoldable pub rowsOctets : List Row → List ℕ
-rowsOctets [] = []
-rowsOctets (r ∷ rs) = rowOctets r ++ rowsOctets rs
+rowsOctets rs = layAll rowOctets rs
 
 -- the row count, or number and place, for a table of so many octets: it has room for the rows that are whole in it
 abbrev pub octetSpans : List ℕ → ℕ → Answer
@@ -132,8 +131,7 @@ abbrev pub carrierRowOctets : CarrierRow → List ℕ
 carrierRowOctets r = r .level ∷ r .tag ∷ (twoOctets (r .offset) ++ (twoOctets (r .len) ++ twoOctets (r .digits)))
 
 unfoldable pub carrierRowsOctets : List CarrierRow → List ℕ
-carrierRowsOctets [] = []
-carrierRowsOctets (r ∷ rs) = carrierRowOctets r ++ carrierRowsOctets rs
+carrierRowsOctets rs = layAll carrierRowOctets rs
 
 abbrev pub octetCarriers : List ℕ → ℕ → ℕ → Answer
 octetCarriers m which room = carriersAnswer m which (room / carrier-row-octets)

@@ -5,7 +5,7 @@ use mathlib.Core.Path.{_≡_, refl, sym, ap, _∙_}
 use mathlib.Core.Bool.{Bool, true, false, cond, _&&_}
 use mathlib.Core.List.{List, [], _∷_, map}
 use borrow.Author.Tests.{ltb-true, lt-ltb, le-ltb}
-use lib.ListN.{length, getD, take, drop, length-append, length-map}
+use lib.ListN.{length, getD, take, drop, length-map}
 use lib.Seq.{sets, getD-take}
 use Rattle.annex.specs.Answers.{startOf, no-room}
 use Rattle.annex.specs.Carriers.{holdsCode, insideOf, codeCount, carriersFormed}
@@ -34,7 +34,7 @@ use Rattle.laws.specs.Entries.{code-long}
 use Rattle.laws.specs.Filling.{sets-append}
 use Rattle.laws.specs.Found.{part-where}
 use Rattle.laws.specs.Fronts.{front-all}
-use Rattle.laws.specs.Runs.{Left, left-none, left-some, left-fits}
+use Rattle.laws.specs.Runs.{Left, left-none, all-long, one-stored, one-fits}
 use Rattle.laws.specs.Steps.{then-passed}
 use Rattle.entries.specs.Left.{
   Lies,
@@ -145,8 +145,7 @@ formed-some s e = omega (arith, formed-start s e .0 .ends, formed-start s e .0 .
 
 pub length-rows : (rs : List CarrierRow) → length (carrierRowsOctets rs) ≡ carrier-row-octets * length rs
 unfolding carrierRowsOctets
-length-rows [] = refl
-length-rows (r ∷ rs) = omega (arith, length-append (carrierRowOctets r) (carrierRowsOctets rs), length-rows rs)
+length-rows rs = all-long carrierRowOctets carrier-row-octets (λ r. refl) rs
 
 -- of the octets to be stored, those of the row x and of the rows ys are left
 module _ {all : List ℕ} {first : ℕ} {before : List ℕ} (x : CarrierRow) (ys : List CarrierRow) (at : ℕ) (now : List ℕ)
@@ -154,12 +153,11 @@ module _ {all : List ℕ} {first : ℕ} {before : List ℕ} (x : CarrierRow) (ys
   pub left-one : (after : List ℕ) → after ≡ sets now at (carrierRowOctets x)
       → Left all first before (carrierRowsOctets ys) (at + carrier-row-octets) after
   unfolding carrierRowsOctets
-  left-one after e =
-      left-some l (carrierRowOctets x) (carrierRowsOctets ys) refl (at + carrier-row-octets) after (record { ends = refl; put = e })
+  left-one after e = one-stored carrierRowOctets carrier-row-octets (λ r. refl) x ys at now l after e
 
   pub left-fits-one : first + length all ≤ length before → at + carrier-row-octets ≤ length now
   unfolding carrierRowsOctets
-  left-fits-one h = left-fits l (carrierRowOctets x) (carrierRowsOctets ys) refl h
+  left-fits-one h = one-fits carrierRowOctets carrier-row-octets (λ r. refl) x ys at now l h
 
 -- none is left
 pub left-over : {all : List ℕ} {first : ℕ} {before : List ℕ} (at : ℕ) (now : List ℕ) → Left all first before (carrierRowsOctets []) at now

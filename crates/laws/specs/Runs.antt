@@ -1,11 +1,12 @@
 -- Octets stored in lent room, run after run: what is left to store decides what the room will hold.
-use Prim.Native.Nat.{ℕ, suc, _+_, _≤_, _<_}
-use native.Mathlib.Nat.{add-zero}
+use Prim.Native.Nat.{ℕ, suc, _+_, _*_, _≤_, _<_}
+use native.Mathlib.Nat.{add-zero, add-comm, mul-zero, mul-suc}
 use native.Mathlib.Omega.{arith}
 use mathlib.Core.Path.{_≡_, refl, sym, ap, _∙_}
 use mathlib.Core.List.{List, [], _∷_, _++_}
 use lib.ListN.{length, take, drop, set, length-append}
 use lib.Seq.{sets, set-comm, length-sets, take-append-seam}
+use Rattle.annex.specs.Transit.{layAll}
 use Rattle.laws.specs.Fronts.{front-all}
 use Rattle.laws.specs.Filling.{sets-append}
 
@@ -77,3 +78,20 @@ module _ {all : List ℕ} {first : ℕ} {before left : List ℕ} {at : ℕ} {now
     -- there is room for them
     pub left-fits : first + length all ≤ length before → at + length xs ≤ length now
     left-fits h = omega (arith, l .ends, l .long, ap (λ (s : List ℕ). length s) e, length-append xs ys)
+
+-- ---- things of so many octets each, one behind the other
+
+module _ {A : Type 0} (octets : A → List ℕ) (width : ℕ) (wide : (a : A) → length (octets a) ≡ width) where
+  pub all-long : (xs : List A) → length (layAll octets xs) ≡ width * length xs
+  all-long [] = sym (mul-zero width)
+  all-long (x ∷ xs) = length-append (octets x) (layAll octets xs) ∙ rw (wide x, all-long xs) (add-comm width (width * length xs) ∙ sym (mul-suc width (length xs)))
+
+  -- of those to be stored, x and ys are left
+  module _ {all : List ℕ} {first : ℕ} {before : List ℕ} (x : A) (ys : List A) (at : ℕ) (now : List ℕ)
+      (l : Left all first before (layAll octets (x ∷ ys)) at now) where
+    pub one-stored : (after : List ℕ) → after ≡ sets now at (octets x) → Left all first before (layAll octets ys) (at + width) after
+    one-stored after e =
+        left-some l (octets x) (layAll octets ys) refl (at + width) after (record { ends = ap (λ (k : ℕ). at + k) (sym (wide x)); put = e })
+
+    pub one-fits : first + length all ≤ length before → at + width ≤ length now
+    one-fits h = rw (wide x) at (left-fits l (octets x) (layAll octets ys) refl h)

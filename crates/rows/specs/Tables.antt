@@ -6,7 +6,7 @@ use mathlib.Core.Bool.{Bool, true, false}
 use mathlib.Core.List.{List, [], _∷_}
 use borrow.Author.Tests.{le-ltb, ltb-false}
 use lib.Dec.{ltb}
-use lib.ListN.{length, length-append}
+use lib.ListN.{length}
 use lib.Seq.{sets}
 use Rattle.annex.specs.Answers.{andThen}
 use Rattle.annex.specs.Heads.{most-rows}
@@ -18,15 +18,14 @@ use Rattle.annex.specs.declared.Answer.the-variants.{Accepted, Refused}
 use Rattle.annex.specs.declared.Row.{Row}
 use Rattle.laws.specs.Few.{rows-few}
 use Rattle.laws.specs.Fronts.{front-all}
-use Rattle.laws.specs.Runs.{Puts, Left, left-none, left-some, left-fits}
+use Rattle.laws.specs.Runs.{Puts, Left, left-none, all-long, one-stored, one-fits}
 use Rattle.rows.specs.Rows.{answerAfter}
 
 -- ---- the octets of rows
 
 pub length-rows : (rs : List Row) → length (rowsOctets rs) ≡ row-octets * length rs
 unfolding rowsOctets
-length-rows [] = refl
-length-rows (r ∷ rs) = omega (arith, length-append (rowOctets r) (rowsOctets rs), length-rows rs)
+length-rows rs = all-long rowOctets row-octets (λ r. refl) rs
 
 -- ---- stored
 
@@ -40,11 +39,11 @@ module _ {all : List ℕ} {first : ℕ} {before : List ℕ} (x : Row) (ys : List
     (l : Left all first before (rowsOctets (x ∷ ys)) at now) where
   pub left-one : (after : List ℕ) → after ≡ sets now at (rowOctets x) → Left all first before (rowsOctets ys) (at + row-octets) after
   unfolding rowsOctets
-  left-one after e = left-some l (rowOctets x) (rowsOctets ys) refl (at + row-octets) after (record { ends = refl; put = e })
+  left-one after e = one-stored rowOctets row-octets (λ r. refl) x ys at now l after e
 
   pub left-fits-one : first + length all ≤ length before → at + row-octets ≤ length now
   unfolding rowsOctets
-  left-fits-one h = left-fits l (rowOctets x) (rowsOctets ys) refl h
+  left-fits-one h = one-fits rowOctets row-octets (λ r. refl) x ys at now l h
 
 -- none is left
 pub left-over : {all : List ℕ} {first : ℕ} {before : List ℕ} (at : ℕ) (now : List ℕ) → Left all first before (rowsOctets []) at now
