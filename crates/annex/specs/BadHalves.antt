@@ -94,7 +94,8 @@ layoutGood AreLogic own = unread
 layoutGood Guidance own = unread
 layoutGood WaitingTime own = λ j x. isFigure x
 
--- parameters or entries by their offsets, and which octets of each are good: octet number j belongs to the first that does not end before it
+-- parameters or entries by their offsets, and which octets of each are good: octet number j belongs to the first that does not end before
+-- it
 unfoldable pub parsGood : (Par → Good) → List Par → Good
 parsGood good [] j x = true
 parsGood good (q ∷ qs) j x = cond (leb j (q .place + length (q .own))) (good q j x) (parsGood good qs j x)

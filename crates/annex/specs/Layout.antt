@@ -17,6 +17,11 @@ ledBy (Fixed n) s = s
 ledBy (Counted HalfOctet) s = s
 ledBy (Counted Octet) s = length s ∷ s
 
+-- some things, each laid out, one behind the other
+abbrev pub layAll : {A : Type 0} → (A → List ℕ) → List A → List ℕ
+layAll lay [] = []
+layAll lay (x ∷ xs) = lay x ++ layAll lay xs
+
 -- a transfer parameter: its header and the octets after it
 unfoldable pub layoutItem : Item → List ℕ
 layoutItem i = i .header ∷ ledBy (extentOf (i .header)) (contentsOf i)

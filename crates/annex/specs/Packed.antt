@@ -1,5 +1,6 @@
 -- What the functions for Rust and C give, in numbers and octets alone: an answer as one number, the refusal's number times 2^32, the place
--- times 2^16, and the value, number 0 where accepted (places and values are below 2^16); a record as its image; a row as five octets, one of carriers as eight.
+-- times 2^16, and the value, number 0 where accepted (places and values are below 2^16); a record as its image; a row as five octets, one
+-- of carriers as eight.
 use Prim.Native.Nat.{ℕ, _+_, _*_, _/_, _%_}
 use mathlib.Core.List.{List, _∷_, _++_}
 use lib.Dec.{ltb}
@@ -16,14 +17,14 @@ use Rattle.annex.specs.Answers.{
   andThen,
   roomAfter,
 }
-use Rattle.annex.specs.Layout.{layout}
+use Rattle.annex.specs.Layout.{layAll, layout}
 use Rattle.annex.specs.Reading.{verdictOf, recordOf}
 use Rattle.annex.specs.Records.{view}
 use Rattle.annex.specs.Writing.{writingOf}
 use Rattle.annex.specs.Image.{twoOctets, imageOf, imagedOf}
 use Rattle.annex.specs.Spans.{rowsOf, spansOf}
 use Rattle.annex.specs.Opened.{orderRowsOf, orderAnswer}
-use Rattle.annex.specs.Transit.{layAll, carrierRowsOf, carriersAnswer}
+use Rattle.annex.specs.Transit.{carrierRowsOf, carriersAnswer}
 use Rattle.annex.specs.Profile.{profileVerdict, profileWriting}
 use Rattle.annex.specs.declared.Answer.{Answer}
 use Rattle.annex.specs.declared.Answer.the-variants.{Accepted, Refused}

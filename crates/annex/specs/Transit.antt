@@ -22,6 +22,7 @@ use Rattle.annex.specs.Carriers.{
   dependentsIn,
   carriersIn,
 }
+use Rattle.annex.specs.Layout.{layAll}
 use Rattle.annex.specs.Allowed.{every}
 use Rattle.annex.specs.Walk.{Par}
 use Rattle.annex.specs.Finding.{transferFound, findAnswer, findPart}
@@ -63,11 +64,6 @@ carriersRight c = leb (c .direction) most-direction && every carrierRight (c .en
 -- at either level: the tag, how many octets it holds, and these
 abbrev pub layEntry : ℕ → List ℕ → List ℕ
 layEntry t s = t ∷ length s ∷ s
-
--- one behind the other
-abbrev pub layAll : {A : Type 0} → (A → List ℕ) → List A → List ℕ
-layAll lay [] = []
-layAll lay (x ∷ xs) = lay x ++ layAll lay xs
 
 -- a code: the odd mark comes of the digits
 unfoldable pub codeOctets : List ℕ → List ℕ
@@ -158,7 +154,8 @@ carrierRowsOf which m = map (entryRow (startOf (carriersFound which m))) (entrie
 abbrev pub most-carrier-rows : ℕ
 most-carrier-rows = 1 + 252 / 2
 
--- and the most digits of a code: of the 253 octets of contents six are the direction, two tags, two length octets and the code's first octet
+-- and the most digits of a code: of the 253 octets of contents six are the direction, two tags, two length octets and the code's first
+-- octet
 abbrev pub most-carrier-digits : ℕ
 most-carrier-digits = 2 * 247
 

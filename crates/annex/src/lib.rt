@@ -736,6 +736,13 @@ impl Carriers {
 
     pub const ROUTE: u8 = 0xFE;
 
+    // the lowest tag of each level, and the highest of both
+    pub const LOWEST_CARRIER: u8 = Carriers::SCP_BEFORE;
+
+    pub const LOWEST_DEPENDENT: u8 = Carriers::POI_STAGE;
+
+    pub const HIGHEST_TAG: u8 = Carriers::ROUTE;
+
     // the tags of dependent entries: the stage and the charging area of a point of interface, and a carrier's code
     pub const POI_STAGE: u8 = 0xFC;
 

@@ -2,7 +2,7 @@
 -- or digits it is never 15.
 use Prim.Native.Nat.{ℕ, _*_, _/_, _≤_}
 use native.Mathlib.Omega.{arith}
-use mathlib.Core.Path.{_≡_}
+use mathlib.Core.Path.{_≡_, refl}
 use mathlib.Core.Bool.{Bool, true, false, not}
 use mathlib.Core.List.{List}
 use lib.Dec.{ltb}
@@ -85,7 +85,8 @@ digits-upto m which row room =
 pub digits-number : (m : List ℕ) → every isOctet m ≡ true → (which row : ℕ) (room : List ℕ) → most-carrier-digits ≤ length room
     → (r : ℕ) (now : List ℕ) → TkCarrierDigitsPromise m which row room r now
     → r / 4294967296
-    ≡ numberOf (andThen (findAnswer m (carriersFound which m)) (λ _. refuse (not (isCodeEntry (entryFound which row m))) absent 0 (Accepted 0)))
+    ≡ numberOf
+    (andThen (findAnswer m (carriersFound which m)) (λ _. refuse (not (isCodeEntry (entryFound which row m))) absent 0 (Accepted 0)))
 digits-number m o which row room l r now p =
     rw (p .0, digits-roomy m o which row (length room) l) (go (findAnswer m (carriersFound which m)) (isCodeEntry (entryFound which row m)))
   where

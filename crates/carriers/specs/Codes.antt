@@ -6,7 +6,7 @@ use mathlib.Core.Path.{_≡_, refl, sym, ap, _∙_}
 use mathlib.Core.Bool.{Bool, true, false, cond, _&&_}
 use mathlib.Core.List.{List}
 use borrow.Author.Tests.{ltb-true, ltb-false, lt-ltb, le-ltb, le-leb, leb-true, leb-false}
-use lib.Dec.{ltb}
+use lib.Dec.{leb, ltb}
 use lib.ListN.{length, getD, take, drop, length-take, length-drop}
 use lib.Seq.{sets, getD-take, getD-drop}
 use Rattle.annex.specs.Answers.{no-room, absent, roomAfter}
@@ -114,10 +114,13 @@ module _ (s : List ℕ) (c : Cursor) (g : Going s c) where
           let long : length code ≤ b - a = simp length-take (omega arith) in
           omega (arith, count-is, long, entry-sized s c a b f, length-drop 1 code)
 
+      fit : (room : List ℕ) → valuesFit (length room) 0 (length ds) ≡ leb (length ds) (length room)
+      fit room = rw (le-leb (length ds) 512 few, zero-add (length ds))
+
       -- by the room
       pub code-short : (room : List ℕ) → valuesFit (length room) 0 (length ds) ≡ false → DigitsTold s c room (Refused no-room 0) room
       code-short room v =
-          let less : length room < length ds = leb-false (length ds) (length room) (rw (le-leb (length ds) 512 few, zero-add (length ds)) at v) in
+          let less : length room < length ds = leb-false (length ds) (length room) (sym (fit room) ∙ v) in
           let told : codeAnswer (entryAt s c) (length room) ≡ Refused no-room 0 =
           rw (code-at, k, digits-are, lt-ltb (length room) (length ds) less) in
           (sym told, rw told)
@@ -125,7 +128,7 @@ module _ (s : List ℕ) (c : Cursor) (g : Going s c) where
       pub code-given : (room now : List ℕ) → valuesFit (length room) 0 (length ds) ≡ true → now ≡ sets room 0 ds
           → DigitsTold s c room (Accepted (codeCount code .0)) now
       code-given room now v e =
-          let roomy : length ds ≤ length room = leb-true (length ds) (length room) (rw (le-leb (length ds) 512 few, zero-add (length ds)) at v) in
+          let roomy : length ds ≤ length room = leb-true (length ds) (length room) (sym (fit room) ∙ v) in
           let told : codeAnswer (entryAt s c) (length room) ≡ Accepted (length ds) =
           rw (code-at, k, digits-are, le-ltb (length room) (length ds) roomy) in
           (rw (told, count-is), e ∙ front-all room ds roomy ∙ rw (told, digits-are))

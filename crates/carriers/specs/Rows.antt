@@ -187,7 +187,8 @@ rows-fit s p room l =
 -- the CC is found, and its contents start at p
 module _ (m : List ℕ) (which p : ℕ) (e : findAnswer m (carriersFound which m) ≡ Accepted p) where
   -- the octets from there on, as many as it has, are its contents
-  pub contents-are : (len : ℕ) → len ≡ length (findPart m (carriersFound which m)) → take len (drop p m) ≡ findPart m (carriersFound which m)
+  pub contents-are : (len : ℕ) → len ≡ length (findPart m (carriersFound which m))
+      → take len (drop p m) ≡ findPart m (carriersFound which m)
   contents-are len l = sym (part-where (verdictOf m) m (carriersFound which m) ∙ rw (e, ← l))
 
   starts : startOf (carriersFound which m) ≡ p

@@ -358,8 +358,8 @@ pub record Demand2 : Type 0 where
   -- The listing tells the carriers of that CC, whose contents start where finding says: a row to the direction, and one to each carrier
   -- entry before those to the dependent entries in it, in a table that has room for so many. 16 is answered exactly if there is no such
   -- CC; and no listing has more than 127 rows.
-  pub carriers-listed : (s : List Part) → Allowed s → (front : List Item) (one : Item) (back : List Item) → itemsIn s ≡ front ++ (one ∷ back)
-      → one .header ≡ carriers → (which : ℕ) → timesIn (nameOf carriers) (namesOf front) ≡ which
+  pub carriers-listed : (s : List Part) → Allowed s → (front : List Item) (one : Item) (back : List Item)
+      → itemsIn s ≡ front ++ (one ∷ back) → one .header ≡ carriers → (which : ℕ) → timesIn (nameOf carriers) (namesOf front) ≡ which
       → (c : OpenedCarriers) → carriersRight c ≡ true → layCarriers c ≡ one .values
       → (start : ℕ) → FindTransferAnswerPromise (layout s) (nameOf carriers) which (Accepted start) →
       let rows = toldCarrierRows start c in

@@ -380,7 +380,8 @@ module _ (s : List ℕ) (at : ℕ) (l : at < length s) where
     abbrev right-next : Bool
     right-next = entriesFormed lowest-carrier carrierFormed (at + 1 + k) (drop (at + 1 + k) s)
 
-    formed-entry : entriesFormed lowest-carrier carrierFormed at (drop at s) ≡ isTag lowest-carrier (getD s at 0) && right-inside && right-next
+    formed-entry : entriesFormed lowest-carrier carrierFormed at (drop at s)
+        ≡ isTag lowest-carrier (getD s at 0) && right-inside && right-next
     formed-entry = formed-first s at l m lowest-carrier carrierFormed ∙ rw entered
 
     carrier-turn : Turn s (cursorTo at at) (At (at + 2) (at + 1 + k))
@@ -405,15 +406,13 @@ turn : (s : List ℕ) (c : Cursor) → Lies s c → c .at < length s → Turn s 
 unfolding entryStretch
 turn s c i l = go (inCarrier c) refl
   where
-    at : ℕ
-    at = c .at
-
     between : (e : ℕ) → e ≡ c .at → Turn s (cursorTo (c .at) e) (stretchAt s (c .at) (Counted Octet))
     between e q =
         subst (λ (x : ℕ). Turn s (cursorTo (c .at) x) (stretchAt s (c .at) (Counted Octet))) (sym q)
         (next-by s (c .at) l (Turn s (cursorTo (c .at) (c .at)))
         (λ m. cut-turn s (cursorTo (c .at) (c .at)) (record { ends = omega arith; within = omega arith }) l
-        (rw (none-left s (c .at) l, formed-none lowest-dependent dependentFormed (c .at)) (formed-cut s (c .at) l m lowest-carrier carrierFormed)))
+        (rw (none-left s (c .at) l, formed-none lowest-dependent dependentFormed (c .at))
+        (formed-cut s (c .at) l m lowest-carrier carrierFormed)))
         (carrier-turn s (c .at) l))
 
     go : (b : Bool) → inCarrier c ≡ b

@@ -25,7 +25,7 @@ fn is_tag(lowest: u8, tag: u8) -> bool
     if tag < lowest {
         return false;
     }
-    tag <= Carriers::ROUTE
+    tag <= Carriers::HIGHEST_TAG
 }
 
 // The entry at a cursor: it is not cut, its tag is one of its level, and a code has its form.
@@ -38,9 +38,9 @@ fn entry_formed(s: &[u8], c: Cursor) -> bool
     let at = c.at;
     let tag = s[at];
     if c.end <= at {
-        return is_tag(Carriers::SCP_BEFORE, tag);
+        return is_tag(Carriers::LOWEST_CARRIER, tag);
     }
-    if !is_tag(Carriers::POI_STAGE, tag) {
+    if !is_tag(Carriers::LOWEST_DEPENDENT, tag) {
         return false;
     }
     if tag != Carriers::CODE {

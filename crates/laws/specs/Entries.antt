@@ -26,7 +26,8 @@ use Rattle.annex.specs.Carriers.{
 }
 use Rattle.annex.specs.Digits.{isDigitIn, digitsOf, packed, halvesFor}
 use Rattle.annex.specs.Heads.{among}
-use Rattle.annex.specs.Transit.{layAll, codeOctets, Entry, entry, noEntry, flatEntries, entriesOf, isCodeEntry, digitsIn}
+use Rattle.annex.specs.Layout.{layAll}
+use Rattle.annex.specs.Transit.{codeOctets, Entry, entry, noEntry, flatEntries, entriesOf, isCodeEntry, digitsIn}
 use Rattle.annex.specs.Units.{afterOf, octetsOf}
 use Rattle.annex.specs.Walk.{Par, parOf, pars}
 use Rattle.annex.specs.declared.Alphabet.the-variants.{Decimal}

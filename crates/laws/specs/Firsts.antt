@@ -365,7 +365,8 @@ module _ (good : ℕ → Bool) (size : ℕ) where
 
   -- the octets from behind the one before on are good as the parameters say
   abbrev InParameters : ℕ → ℕ → List ℕ → Type 0
-  InParameters k at xs = (j : ℕ) → at + k ≤ j → j < at + length xs → good j ≡ parsGood parameterGood (pars orderSize k at xs) j (getD xs (j - at) 0)
+  InParameters k at xs =
+      (j : ℕ) → at + k ≤ j → j < at + length xs → good j ≡ parsGood parameterGood (pars orderSize k at xs) j (getD xs (j - at) 0)
 
   -- 12 and 19 show nothing, whatever follows
   cut-shown : 0 < size → (a b : ℕ) (t : Bool) (g : Fault) → Shows good size a b (faultThen (faultThen (ordered t) (Bad bad-form 0)) g)
@@ -450,7 +451,8 @@ module _ (good : ℕ → Bool) (size : ℕ) where
   order-shown (form ∷ xs) m g =
       let end : 1 + length xs ≡ 0 + suc (length xs) = omega arith in
       then-shown 0 1 (0 + suc (length xs)) (omega arith) (omega arith) _ _
-      (ordered-shown (omega arith) 0 1 (among form orderForms) (λ j p q. told j (omega arith) ∙ early-good orderSize parameterGood parameter-early 1 j _ xs q))
+      (ordered-shown (omega arith) 0 1 (among form orderForms)
+      (λ j p q. told j (omega arith) ∙ early-good orderSize parameterGood parameter-early 1 j _ xs q))
       (rw end at (parameters-shown (omega arith) form [] 0 1 xs behind-form))
     where
       told : (j : ℕ) → j < suc (length xs) → good j ≡ parsGood parameterGood (pars orderSize 0 1 xs) j (getD (form ∷ xs) j 0)
@@ -495,8 +497,10 @@ module _ (good : ℕ → Bool) (size : ℕ) where
       go : (b : Bool) → leb n (length xs) ≡ b
           → ((j : ℕ) → at + 0 ≤ j → j < at + suc (length xs)
           → good j ≡ parsGood G (cond b (parOf at x n xs ∷ pars entrySize n (at + 1) xs) []) j (getD (x ∷ xs) (j - at) 0))
-          → (InEntries G n (at + 1) xs → Shows good size (at + 1 + n) (at + 1 + length xs) (entriesFault fault (pars entrySize n (at + 1) xs)))
-          → Shows good size (at + 0) (at + suc (length xs)) (entriesFault fault (cond b (parOf at x n xs ∷ pars entrySize n (at + 1) xs) []))
+          → (InEntries G n (at + 1) xs
+          → Shows good size (at + 1 + n) (at + 1 + length xs) (entriesFault fault (pars entrySize n (at + 1) xs)))
+          → Shows good size (at + 0) (at + suc (length xs))
+          (entriesFault fault (cond b (parOf at x n xs ∷ pars entrySize n (at + 1) xs) []))
       go false e g ih = all-good (at + 0) (at + suc (length xs)) (λ j p q. g j p q)
       go true e g ih =
           then-shown (at + 0) (at + 1 + n) (at + suc (length xs)) (omega arith) (omega (arith, within)) _ _

@@ -6,7 +6,7 @@ use mathlib.Core.Path.{_≡_, refl, sym, ap, _∙_}
 use mathlib.Core.List.{List, [], _∷_, _++_}
 use lib.ListN.{length, take, drop, set, length-append}
 use lib.Seq.{sets, set-comm, length-sets, take-append-seam}
-use Rattle.annex.specs.Transit.{layAll}
+use Rattle.annex.specs.Layout.{layAll}
 use Rattle.laws.specs.Fronts.{front-all}
 use Rattle.laws.specs.Filling.{sets-append}
 
@@ -84,7 +84,9 @@ module _ {all : List ℕ} {first : ℕ} {before left : List ℕ} {at : ℕ} {now
 module _ {A : Type 0} (octets : A → List ℕ) (width : ℕ) (wide : (a : A) → length (octets a) ≡ width) where
   pub all-long : (xs : List A) → length (layAll octets xs) ≡ width * length xs
   all-long [] = sym (mul-zero width)
-  all-long (x ∷ xs) = length-append (octets x) (layAll octets xs) ∙ rw (wide x, all-long xs) (add-comm width (width * length xs) ∙ sym (mul-suc width (length xs)))
+  all-long (x ∷ xs) =
+      length-append (octets x) (layAll octets xs)
+      ∙ rw (wide x, all-long xs) (add-comm width (width * length xs) ∙ sym (mul-suc width (length xs)))
 
   -- of those to be stored, x and ys are left
   module _ {all : List ℕ} {first : ℕ} {before : List ℕ} (x : A) (ys : List A) (at : ℕ) (now : List ℕ)

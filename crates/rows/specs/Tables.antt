@@ -73,7 +73,8 @@ module _ {before : Answer} {rows : List Row} {n : ℕ} (table : List ℕ) (l : R
   pub listing-fits : length (rowsOctets rows) ≤ length table
   listing-fits = omega (arith, length-rows rows, l .roomy)
 
-  pub table-put : (now : List ℕ) (r : ℕ) → Puts (rowsOctets rows) 0 table r now → now ≡ octetsBy row-octets (Accepted n) (rowsOctets rows) table
+  pub table-put : (now : List ℕ) (r : ℕ) → Puts (rowsOctets rows) 0 table r now
+      → now ≡ octetsBy row-octets (Accepted n) (rowsOctets rows) table
   table-put now r p =
       let k : length (rowsOctets rows) ≡ row-octets * n = omega (arith, length-rows rows, l .count) in
       rw (p .put, front-all table (rowsOctets rows) listing-fits, k)

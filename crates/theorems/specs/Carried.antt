@@ -1,5 +1,5 @@
--- Carriers (CC): what is sound opens to carriers that may be said and that lay out to it; carriers that may be said, laid out, are sound and
--- says to themselves. Both are shown once for a level of entries, and hold of the two. And the rows of a message's carriers, with the
+-- Carriers (CC): what is sound opens to carriers that may be said and that lay out to it; carriers that may be said, laid out, are sound
+-- and open to themselves. Both are shown once for a level of entries, and hold of the two. And the rows of a message's carriers, with the
 -- digits of their codes: those of what its contents say.
 use Prim.Native.Nat.{ℕ, zero, suc, _+_, _≤_}
 use native.Mathlib.Omega.{arith}
@@ -16,7 +16,7 @@ use Rattle.annex.specs.Answers.{no-room, absent, refuse, andThen, givenOf}
 use Rattle.annex.specs.Heads.{carriers, zeroesOf, formOf}
 use Rattle.annex.specs.Contents.{faultOf}
 use Rattle.annex.specs.Items.{Item, contentsOf}
-use Rattle.annex.specs.Layout.{layoutItem, layoutItems}
+use Rattle.annex.specs.Layout.{layAll, layoutItem, layoutItems}
 use Rattle.annex.specs.Reading.{verdictOf, recordOf}
 use Rattle.annex.specs.Units.{extentOf}
 use Rattle.annex.specs.Finding.{findAnswer, findPart}
@@ -52,7 +52,6 @@ use Rattle.annex.specs.Transit.{
   carrierRight,
   carriersRight,
   layEntry,
-  layAll,
   dependentOctets,
   layDependent,
   layCarrier,
@@ -337,12 +336,12 @@ abbrev pub toldCarrierRows : ℕ → OpenedCarriers → List CarrierRow
 toldCarrierRows p c = record { level = 0; tag = c .direction; offset = p; len = 0; digits = 0 } ∷ toldCarriers (p + 1) (c .entries)
 
 -- and the digits of the codes in these rows, of a row without a code none
-abbrev pub codeOf : Dependent → List ℕ
-codeOf d = cond (holdsCode (d .tag)) (d .values) []
+abbrev pub toldCode : Dependent → List ℕ
+toldCode d = cond (holdsCode (d .tag)) (d .values) []
 
 unfoldable pub toldIn : List Carrier → List (List ℕ)
 toldIn [] = []
-toldIn (e ∷ es) = [] ∷ (map codeOf (e .dependents) ++ toldIn es)
+toldIn (e ∷ es) = [] ∷ (map toldCode (e .dependents) ++ toldIn es)
 
 abbrev pub toldCodes : OpenedCarriers → List (List ℕ)
 toldCodes c = [] ∷ toldIn (c .entries)
@@ -353,20 +352,20 @@ codeIn e = cond (isCodeEntry e) (digitsIn e) []
 -- one dependent entry, laid out: its row and its code
 dependent-row : (d : Dependent) → dependentRight d ≡ true → (s k p : ℕ) → s + k ≡ p →
     let e = entry 2 (laidAt k (d .tag) (dependentOctets d)) in
-    (entryRow s e ≡ toldDependent p d) × (codeIn e ≡ codeOf d)
+    (entryRow s e ≡ toldDependent p d) × (codeIn e ≡ toldCode d)
 dependent-row d g s k p e = go (holdsCode (d .tag)) refl (and-right (isTag lowest-dependent (d .tag)) _ g)
   where
     q : Entry
     q = entry 2 (laidAt k (d .tag) (dependentOctets d))
 
     go : (b : Bool) → holdsCode (d .tag) ≡ b → cond b (every (isDigitIn Decimal) (d .values)) true ≡ true
-        → (entryRow s q ≡ toldDependent p d) × (codeIn q ≡ codeOf d)
+        → (entryRow s q ≡ toldDependent p d) × (codeIn q ≡ toldCode d)
     go true f h = let w = code-closed (d .values) h in (rw (f, w .digits, e), rw (f, w .digits))
     go false f h = (rw (f, e), rw f)
 
 dependents-told : (ds : List Dependent) (s k p : ℕ) → every dependentRight ds ≡ true → s + k ≡ p →
     let es = map (entry 2) (entriesIn k (layAll layDependent ds)) in
-    (map (entryRow s) es ≡ toldDependents p ds) × (map codeIn es ≡ map codeOf ds)
+    (map (entryRow s) es ≡ toldDependents p ds) × (map codeIn es ≡ map toldCode ds)
 unfolding pars toldDependents
 dependents-told [] s k p g e = (refl, refl)
 dependents-told (d ∷ ds) s k p g e =

@@ -74,7 +74,8 @@ module _ (l : tie.At-loop Inv-loop μ-loop) where
   octets = carrierRowOctets (entryRow (start .args .start) (directionEntry (getD s 0 0)))
 
   first-so : first ≡ sets table 0 octets
-  first-so = put .put-row .ensures ∙ ap (λ (r : CarrierRow). sets table 0 (carrierRowOctets r)) (put .before .before .direction-row .ensures)
+  first-so =
+      put .put-row .ensures ∙ ap (λ (r : CarrierRow). sets table 0 (carrierRowOctets r)) (put .before .before .direction-row .ensures)
 
   first-long : length first ≡ length table
   first-long = ap length first-so ∙ length-sets table 0 octets
