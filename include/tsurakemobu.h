@@ -110,22 +110,29 @@ enum tk_direction {
     TK_DIRECTION_BOTH = 0x03      /* both ways */
 };
 
+/* The level of a row of an opened CC. */
+enum tk_level {
+    TK_LEVEL_DIRECTION = 0x00, /* the direction */
+    TK_LEVEL_CARRIER = 0x01,   /* a carrier entry */
+    TK_LEVEL_DEPENDENT = 0x02  /* a dependent entry, in the carrier entry before it */
+};
+
 /* The tags of carrier entries in CC: what the carrier is to the call. */
 enum tk_carrier {
-    TK_CARRIER_OLD_SCP = 0xF8,     /* that of the SCP from which the number was moved */
-    TK_CARRIER_NEW_SCP = 0xF9,     /* that of the SCP to which it was moved */
-    TK_CARRIER_SCP = 0xFA,         /* that of the SCP */
-    TK_CARRIER_ORIGINATING = 0xFB, /* the originating one */
-    TK_CARRIER_TERMINATING = 0xFC, /* the terminating one */
-    TK_CARRIER_TRANSIT = 0xFD,     /* the selected transit carrier */
-    TK_CARRIER_ROUTE = 0xFE        /* one on the route */
+    TK_CARRIER_SCP_BEFORE = 0xF8,       /* that of the SCP before a move */
+    TK_CARRIER_SCP_AFTER = 0xF9,        /* that of the SCP after it */
+    TK_CARRIER_SCP = 0xFA,              /* that of the SCP */
+    TK_CARRIER_ORIGINATING = 0xFB,      /* the originating one */
+    TK_CARRIER_TERMINATING = 0xFC,      /* the terminating one */
+    TK_CARRIER_SELECTED_TRANSIT = 0xFD, /* the selected transit carrier */
+    TK_CARRIER_ROUTE = 0xFE             /* one on the route */
 };
 
 /* The tags of dependent entries in a carrier entry. */
 enum tk_dependent {
-    TK_DEPENDENT_POI_LEVEL = 0xFC,       /* POI, its level: carried octets */
-    TK_DEPENDENT_POI_CHARGE_AREA = 0xFD, /* POI, its charging area: carried octets */
-    TK_DEPENDENT_CODE = 0xFE             /* the carrier's code: digits */
+    TK_DEPENDENT_POI_STAGE = 0xFC, /* POI, its stage: carried octets */
+    TK_DEPENDENT_POI_AREA = 0xFD,  /* POI, its charging area: carried octets */
+    TK_DEPENDENT_CODE = 0xFE       /* the carrier's code: digits */
 };
 
 /*
@@ -257,7 +264,7 @@ uint64_t tk_added_classes(const uint8_t *message, size_t message_len, uint8_t *o
 /* One of the carriers, CC, opened; `which` counts from 0. Value: the count of rows, at the front of `table`; the octets behind them stay.
  * The first row is of the direction. Then each carrier entry has one, and right behind it each of its dependent entries.
  *
- *   1  level: 0 the direction, 1 a carrier entry, 2 a dependent entry
+ *   1  level, a tk_level
  *   1  tag; of the direction its octet, a tk_direction
  *   2  offset of the tag, or of the direction, in the message, least first
  *   2  length of what the entry holds, all behind its length octet, least first; of the direction 0

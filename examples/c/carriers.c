@@ -3,7 +3,7 @@
 
 #include "tsurakemobu.h"
 
-/* Forward: the originating carrier with its code and its POI's level, and the selected transit carrier; then a carrier on the route. */
+/* Forward: the originating carrier with its code and its POI's stage, and the selected transit carrier; then a carrier on the route. */
 static uint8_t message[] = {0x01, 0x01, 0x06, 0x11, 0xC5, 0x1F, 0xCC, 0x13, 0x01, 0xFB, 0x08, 0xFE, 0x03,
                             0x00, 0x00, 0x77, 0xFC, 0x01, 0x02, 0xFD, 0x06, 0xFE, 0x04, 0x80, 0x00, 0x88,
                             0x01, 0xCC, 0x08, 0x00, 0xFE, 0x05, 0xFE, 0x03, 0x00, 0x00, 0x33, 0x00};
@@ -39,7 +39,7 @@ static int tell(size_t len, size_t which) {
     printf("direction: %s\n", directions[table[1]]);
     for (size_t i = 1; i < tk_value_of(answer); i++) {
         const uint8_t *row = table + i * TK_CARRIER_ROW_LEN;
-        if (row[0] == 1)
+        if (row[0] == TK_LEVEL_CARRIER)
             printf("  carrier %02X at %zu\n", row[1], number(row + 2));
         else
             tell_dependent(len, which, i, row);

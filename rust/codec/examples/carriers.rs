@@ -3,7 +3,7 @@
 
 use codec::{Carriers, DependentContents, Refusal, CARRIERS_MAX};
 
-/// Forward: the originating carrier with its code and its POI's level, and the selected
+/// Forward: the originating carrier with its code and its POI's stage, and the selected
 /// transit carrier; then a carrier on the route.
 const MESSAGE: [u8; 38] = [
     0x01, 0x01, 0x06, 0x11, 0xC5, 0x1F, 0xCC, 0x13, 0x01, 0xFB, 0x08, 0xFE, 0x03, 0x00, 0x00, 0x77,
@@ -21,8 +21,8 @@ fn text(contents: &DependentContents) -> String {
             let digits = digits.iter().map(|&digit| char::from(b'0' + digit));
             format!("code {}", digits.collect::<String>())
         }
-        DependentContents::PoiLevel(octets) => format!("POI level {octets:02X?}"),
-        DependentContents::PoiChargeArea(octets) => format!("POI charging area {octets:02X?}"),
+        DependentContents::PoiStage(octets) => format!("POI stage {octets:02X?}"),
+        DependentContents::PoiArea(octets) => format!("POI charging area {octets:02X?}"),
     }
 }
 

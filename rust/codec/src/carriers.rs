@@ -2,6 +2,16 @@
 
 use crate::{CARRIER_DIGITS_MAX, CARRIER_ROW_LEN};
 
+/// The level of the direction's row.
+const DIRECTION_LEVEL: u8 = 0;
+/// The level of a carrier entry.
+const CARRIER_LEVEL: u8 = 1;
+/// The level of a dependent entry.
+const DEPENDENT_LEVEL: u8 = 2;
+
+/// The octets of an entry before what it holds: its tag and its length octet.
+const ENTRY_HEAD: usize = 2;
+
 /// What the carriers, CC, hold.
 #[derive(Clone, Debug, PartialEq, Eq, Hash)]
 pub struct Carriers<'m> {
@@ -20,6 +30,8 @@ pub struct Carrier<'m> {
     pub tag: CarrierTag,
     /// The offset of the tag in the message.
     pub offset: usize,
+    /// How many octets the entry holds, behind its length octet.
+    pub len: usize,
     /// The dependent entries, in the order of the message; tags may repeat.
     pub dependents: Vec<Dependent<'m>>,
 }
@@ -37,10 +49,10 @@ pub struct Dependent<'m> {
 /// itself.
 #[derive(Clone, Debug, PartialEq, Eq, Hash)]
 pub enum DependentContents<'m> {
-    /// FC: the level of the POI, carried.
-    PoiLevel(&'m [u8]),
+    /// FC: the stage of the POI, carried.
+    PoiStage(&'m [u8]),
     /// FD: the charging area of the POI, carried.
-    PoiChargeArea(&'m [u8]),
+    PoiArea(&'m [u8]),
     /// FE: the digits of the carrier's code, 0 to 9, the first digit first.
     Code(Vec<u8>),
 }
@@ -61,10 +73,10 @@ pub enum Direction {
 /// The tag of a carrier entry.
 #[derive(Clone, Copy, Debug, PartialEq, Eq, PartialOrd, Ord, Hash)]
 pub enum CarrierTag {
-    /// F8: the carrier of the SCP from which the number was moved.
-    OldScp = 0xF8,
-    /// F9: the carrier of the SCP to which it was moved.
-    NewScp = 0xF9,
+    /// F8: the carrier of the SCP before a move.
+    ScpBefore = 0xF8,
+    /// F9: the carrier of the SCP after it.
+    ScpAfter = 0xF9,
     /// FA: the carrier of the SCP.
     Scp = 0xFA,
     /// FB: the originating carrier.
@@ -72,7 +84,7 @@ pub enum CarrierTag {
     /// FC: the terminating carrier.
     Terminating = 0xFC,
     /// FD: the selected transit carrier.
-    Transit = 0xFD,
+    SelectedTransit = 0xFD,
     /// FE: a carrier on the route.
     Route = 0xFE,
 }
@@ -80,10 +92,10 @@ pub enum CarrierTag {
 /// The tag of a dependent entry.
 #[derive(Clone, Copy, Debug, PartialEq, Eq, PartialOrd, Ord, Hash)]
 pub enum DependentTag {
-    /// FC: the level of the POI.
-    PoiLevel = 0xFC,
+    /// FC: the stage of the POI.
+    PoiStage = 0xFC,
     /// FD: the charging area of the POI.
-    PoiChargeArea = 0xFD,
+    PoiArea = 0xFD,
     /// FE: the carrier's code.
     Code = 0xFE,
 }
@@ -107,12 +119,12 @@ impl Direction {
 impl CarrierTag {
     /// All tags, in the order of their octets.
     pub const ALL: [Self; 7] = [
-        Self::OldScp,
-        Self::NewScp,
+        Self::ScpBefore,
+        Self::ScpAfter,
         Self::Scp,
         Self::Originating,
         Self::Terminating,
-        Self::Transit,
+        Self::SelectedTransit,
         Self::Route,
     ];
 
@@ -129,7 +141,7 @@ impl CarrierTag {
 
 impl DependentTag {
     /// All tags, in the order of their octets.
-    pub const ALL: [Self; 3] = [Self::PoiLevel, Self::PoiChargeArea, Self::Code];
+    pub const ALL: [Self; 3] = [Self::PoiStage, Self::PoiArea, Self::Code];
 
     /// The tag of this octet, if it is one.
     pub fn of(octet: u8) -> Option<Self> {
@@ -147,7 +159,7 @@ impl Carrier<'_> {
     pub fn code(&self) -> Option<&[u8]> {
         self.dependents.iter().find_map(|d| match &d.contents {
             DependentContents::Code(digits) => Some(&digits[..]),
-            DependentContents::PoiLevel(_) | DependentContents::PoiChargeArea(_) => None,
+            DependentContents::PoiStage(_) | DependentContents::PoiArea(_) => None,
         })
     }
 }
@@ -156,8 +168,8 @@ impl Dependent<'_> {
     /// The tag.
     pub const fn tag(&self) -> DependentTag {
         match self.contents {
-            DependentContents::PoiLevel(_) => DependentTag::PoiLevel,
-            DependentContents::PoiChargeArea(_) => DependentTag::PoiChargeArea,
+            DependentContents::PoiStage(_) => DependentTag::PoiStage,
+            DependentContents::PoiArea(_) => DependentTag::PoiArea,
             DependentContents::Code(_) => DependentTag::Code,
         }
     }
@@ -196,8 +208,8 @@ type Digits<'f> = &'f dyn Fn(usize, &mut [u8]) -> Option<usize>;
 impl<'m> Carriers<'m> {
     /// That of the rows that the static library gives: the direction's, then those of
     /// the entries, each dependent one behind its carrier entry. `digits` asks it for
-    /// the digits of a row. None if a row is not as the static library gives it, so
-    /// that nothing is guessed.
+    /// the digits of a row. None if a row has another level or tag than the static
+    /// library gives, or what it tells is not there, so that nothing is guessed.
     pub(crate) fn of(
         message: &'m [u8],
         table: &[u8],
@@ -205,7 +217,7 @@ impl<'m> Carriers<'m> {
     ) -> Option<Self> {
         let mut rows = table.chunks(CARRIER_ROW_LEN).map(Row::of).enumerate();
         let (_, first) = rows.next()?;
-        let first = first.filter(|row| row.level == 0)?;
+        let first = first.filter(|row| row.level == DIRECTION_LEVEL)?;
         let mut carriers = Carriers {
             direction: Direction::of(first.tag)?,
             offset: first.offset,
@@ -220,12 +232,13 @@ impl<'m> Carriers<'m> {
     /// Adds the entry of a row.
     fn push(&mut self, message: &'m [u8], index: usize, row: Row, digits: Digits) -> Option<()> {
         match row.level {
-            1 => self.entries.push(Carrier {
+            CARRIER_LEVEL => self.entries.push(Carrier {
                 tag: CarrierTag::of(row.tag)?,
                 offset: row.offset,
+                len: row.len,
                 dependents: Vec::new(),
             }),
-            2 => {
+            DEPENDENT_LEVEL => {
                 let carrier = self.entries.last_mut()?;
                 let dependent = Dependent::of(message, index, row, digits)?;
                 carrier.dependents.push(dependent);
@@ -238,12 +251,11 @@ impl<'m> Carriers<'m> {
 
 impl<'m> Dependent<'m> {
     fn of(message: &'m [u8], index: usize, row: Row, digits: Digits) -> Option<Self> {
-        // What an entry holds stands behind its tag and its length octet.
-        let start = row.offset + 2;
+        let start = row.offset + ENTRY_HEAD;
         let carried = message.get(start..start + row.len)?;
         let contents = match DependentTag::of(row.tag)? {
-            DependentTag::PoiLevel => DependentContents::PoiLevel(carried),
-            DependentTag::PoiChargeArea => DependentContents::PoiChargeArea(carried),
+            DependentTag::PoiStage => DependentContents::PoiStage(carried),
+            DependentTag::PoiArea => DependentContents::PoiArea(carried),
             DependentTag::Code => DependentContents::Code(code(index, row.digits, digits)?),
         };
         Some(Dependent {
@@ -313,12 +325,14 @@ mod tests {
         let [first, second] = &carriers.entries[..] else {
             panic!("two carrier entries: {carriers:?}");
         };
-        assert_eq!((first.tag, first.offset), (CarrierTag::Originating, 3));
-        assert_eq!((second.tag, second.offset), (CarrierTag::OldScp, 15));
+        assert_eq!(first.tag, CarrierTag::Originating);
+        assert_eq!((first.offset, first.len), (3, 10));
+        assert_eq!(second.tag, CarrierTag::ScpBefore);
+        assert_eq!((second.offset, second.len), (15, 0));
         let dependent = |offset, contents| Dependent { offset, contents };
         let expected = [
             dependent(5, DependentContents::Code(vec![7])),
-            dependent(9, DependentContents::PoiLevel(&[0xAA])),
+            dependent(9, DependentContents::PoiStage(&[0xAA])),
             dependent(12, DependentContents::Code(vec![])),
         ];
         assert_eq!(first.dependents, expected);

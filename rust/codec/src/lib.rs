@@ -417,8 +417,8 @@ pub fn replace(buffer: &mut [u8], n: usize, new: &[u8], which: usize) -> Result<
 ///
 /// # Errors
 ///
-/// As [`replace`], but 10 if the name is present, CC three times, where that has 16
-/// if it is absent.
+/// As [`replace`], but 10 if the name stands as often as it may, where that has 16
+/// if there are not so many of it.
 pub fn append(buffer: &mut [u8], n: usize, new: &[u8]) -> Result<usize, Refusal> {
     Ok(unpack(boundary::append(buffer, n, new))?.value)
 }

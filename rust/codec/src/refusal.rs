@@ -84,7 +84,7 @@ impl Refusal {
             Self::LEFT_OVER => "octets left over after the end mark",
             Self::UNUSED_NAME => "unused transfer name",
             Self::OTHER_PLI => "transfer name under another PLI",
-            Self::REPEATED_NAME => "repeated transfer name",
+            Self::REPEATED_NAME => "transfer name too often",
             Self::CUT_CONTENTS => "contents cut, or of another length",
             Self::BAD_FORM => "bad form",
             Self::BAD_DIGIT => "bad digit, character or filler",

@@ -78,6 +78,7 @@ fn carriers<'m>(message: &'m [u8], which: usize, rows: &[plain::CarrierRow]) -> 
             carriers.entries.push(Carrier {
                 tag,
                 offset,
+                len: row.len.into(),
                 dependents,
             });
             continue;
@@ -85,8 +86,8 @@ fn carriers<'m>(message: &'m [u8], which: usize, rows: &[plain::CarrierRow]) -> 
         let carried = &message[offset + 2..offset + 2 + usize::from(row.len)];
         let digits = || plain::carrier_digits(message, which, index).expect("a code");
         let contents = match row.tag {
-            0xFC => DependentContents::PoiLevel(carried),
-            0xFD => DependentContents::PoiChargeArea(carried),
+            0xFC => DependentContents::PoiStage(carried),
+            0xFD => DependentContents::PoiArea(carried),
             _ => DependentContents::Code(digits()),
         };
         let carrier = carriers.entries.last_mut().expect("a carrier entry");

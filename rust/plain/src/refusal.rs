@@ -29,7 +29,7 @@ impl Refusal {
     pub const UNUSED_NAME: u8 = 8;
     /// 9: the PLI is not that name's.
     pub const WRONG_PLI: u8 = 9;
-    /// 10: the transfer name is repeated.
+    /// 10: the transfer name stands oftener than it may: once, and CC three times.
     pub const NAME_REPEATED: u8 = 10;
     /// 11: the contents are cut by the end of the transfer data, or are of
     /// another length than the PLI rule gives.
@@ -44,7 +44,7 @@ impl Refusal {
     pub const DATA_OVER: u8 = 14;
     /// 15: the lent room is too short.
     pub const ROOM_SHORT: u8 = 15;
-    /// 16: the name, or the transfer data, is absent.
+    /// 16: the name, that one of several, or the transfer data is absent.
     pub const ABSENT: u8 = 16;
     /// 17: there is no class list for this header.
     pub const NO_CLASS_LIST: u8 = 17;

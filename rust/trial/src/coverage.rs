@@ -42,13 +42,13 @@ impl Case {
 
     /// All numbers that such a call can be answered with, 0 for accepted.
     ///
-    /// Reading gives 1 to 13, 18 and 19. Finding adds 16; rows, and reading into
-    /// a lent image, add 15; opening the charging information, the connection order,
-    /// the carriers or the digits of a code adds both. Writing knows no cut message and no octets after the end
-    /// mark: it has neither 4 nor 7, but 14 and 15. By the mobile call profile
-    /// reading and writing add 20, and so does opening the added classes, beside 15
-    /// and 16. An edit gives 15 for a length beyond the buffer and reading's
-    /// numbers; then, where the message is sound, its own.
+    /// Reading gives 1 to 13, 18 and 19. Finding adds 16; rows, and reading into a
+    /// lent image, add 15; opening the charging information, the connection order,
+    /// the carriers or the digits of a code adds both. Writing knows no cut message
+    /// and no octets after the end mark: it has neither 4 nor 7, but 14 and 15. By
+    /// the mobile call profile reading and writing add 20, and so does opening the
+    /// added classes, beside 15 and 16. An edit gives 15 for a length beyond the
+    /// buffer and reading's numbers; then, where the message is sound, its own.
     pub fn possible(self) -> Vec<u8> {
         let reading = (0..=13).chain([18, 19]);
         let writing = [0, 1, 2, 3, 5, 6, 18, 19].into_iter().chain(8..=15);
