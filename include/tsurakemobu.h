@@ -58,7 +58,7 @@ enum tk_number {
     TK_BAD_DIGIT = 13,        /* a digit code without a meaning, a character that may not be there, or a half left over that is not 0 */
     TK_TRANSFER_OVER = 14,    /* transfer data longer than 255 octets */
     TK_NO_ROOM = 15,          /* what is lent is too short */
-    TK_ABSENT = 16,           /* the parameter, that one of several, or the transfer data is not there */
+    TK_ABSENT = 16,           /* the parameter, that one of several, the code of a row, or the transfer data is not there */
     TK_NO_CLASS_LIST = 17,    /* the header's code values have no classes */
     TK_CHECK_DIGIT = 18,      /* the check digit of the charging information is wrong */
     TK_CONNECTION_ORDER = 19, /* a form or header of the connection order is not listed, not under that form, or repeated */

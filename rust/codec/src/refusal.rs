@@ -55,7 +55,7 @@ impl Refusal {
     pub const TRANSFER_OVER: u8 = 14;
     /// 15: lent memory that is too short.
     pub const NO_ROOM: u8 = 15;
-    /// 16: a parameter, one of several, or transfer data that is not there.
+    /// 16: a parameter, one of several, a row's code, or transfer data that is not there.
     pub const ABSENT: u8 = 16;
     /// 17: a header whose code values have no classes.
     pub const NO_CLASS_LIST: u8 = 17;

@@ -3,7 +3,7 @@
 //! the mobile call profile, the directions and tags of the carriers, and the lengths
 //! the same values; both lend as much room for an image, for the rows of an order and
 //! of carriers, for the digits of a carrier's code and for the added classes as is
-//! proved to suffice.
+//! proved to suffice. The levels of carriers are those of the proved rows.
 
 use codec::{AddedClassName, CarrierTag, DependentTag, Direction, Network, OrderHeader};
 use std::collections::BTreeMap;
@@ -137,6 +137,20 @@ fn of_the_directions_and_tags_of_carriers() {
     assert_eq!(octets_named("TK_CARRIER_"), here);
     let here = DependentTag::ALL.map(|tag| (format!("{tag:?}"), tag.octet()));
     assert_eq!(octets_named("TK_DEPENDENT_"), here);
+}
+
+#[test]
+fn of_the_levels_of_carriers() {
+    let source = include_str!("../../../crates/annex/src/lib.rt");
+    let (_, rows) = source
+        .split_once("\nimpl CarrierRow {")
+        .expect("CarrierRow");
+    for name in ["DIRECTION", "CARRIER", "DEPENDENT"] {
+        let proved = value(line(rows, &format!("pub const {name}: u8 = "), ';'));
+        let told = line(HEADER, &format!("TK_LEVEL_{name} = 0x"), ' ');
+        let told = usize::from_str_radix(told.trim_end_matches(','), 16);
+        assert_eq!(told, Ok(proved), "{name}");
+    }
 }
 
 #[test]

@@ -14,6 +14,7 @@ use plain::carriers::CARRIER_ROW_LIMIT;
 use plain::transfer::{layout_of, Layout, CARRIERS};
 use trial::messages::with_alone;
 use trial::outcome::CARRIER_ROW_LEN;
+use trial::record::Record;
 use trial::{Input, Outcome};
 
 /// The name of the carriers.
@@ -443,6 +444,17 @@ fn which_one_is_edited() {
     }
 }
 
+/// The call that writes a record with this parameter so many times.
+fn written(parameter: &[u8], count: usize) -> Input {
+    let mut record = Record::read(&with_alone(parameter)).expect("a sound message");
+    let data = record.common.last_mut().expect("C5");
+    data.transfers = vec![data.transfers[0].clone(); count];
+    Input::Write {
+        image: record.image(),
+        room: vec![0xEE; 300],
+    }
+}
+
 /// Every name as often as four times, read, written and appended.
 #[test]
 fn how_often_names_stand() {
@@ -455,8 +467,11 @@ fn how_often_names_stand() {
             let is_over = count > limit;
             let place = HEADER + limit * parameter.len();
             let expected = if is_over { (10, place) } else { (0, 0) };
-            for input in readings(&message) {
-                let outcome = outcome(&input);
+            for input in readings(&message)
+                .iter()
+                .chain([&written(&parameter, count)])
+            {
+                let outcome = outcome(input);
                 assert_eq!((outcome.number(), outcome.place()), expected, "{name:02X}");
             }
             let (buffer, n) = calls::buffer(&with_alone(&parameter.repeat(count - 1)));

@@ -136,7 +136,7 @@ pub fn replace(buffer: &mut [u8], n: usize, new: &[u8], which: usize) -> Result<
 /// Octets past the message's new end stay, and all where it is refused.
 ///
 /// Refused is what [`replace`] refuses, but 10 if the name is present, or CC three
-/// times, where that has 16 if it is absent.
+/// times, where that has 16 if there are not so many of it.
 pub fn append(buffer: &mut [u8], n: usize, new: &[u8]) -> Result<usize, Refusal> {
     let name = new.first().map(|&header| name_of(header));
     let (data, present) = survey(buffer, n, name, 0)?;

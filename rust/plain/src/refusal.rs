@@ -44,7 +44,8 @@ impl Refusal {
     pub const DATA_OVER: u8 = 14;
     /// 15: the lent room is too short.
     pub const ROOM_SHORT: u8 = 15;
-    /// 16: the name, that one of several, or the transfer data is absent.
+    /// 16: the name, that one of several, the code of a row, or the transfer data is
+    /// absent.
     pub const ABSENT: u8 = 16;
     /// 17: there is no class list for this header.
     pub const NO_CLASS_LIST: u8 = 17;
