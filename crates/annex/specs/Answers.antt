@@ -76,7 +76,7 @@ transfer-over = 14
 abbrev pub no-room : ℕ
 no-room = 15
 
--- 16: the parameter, or the transfer data, is not there
+-- 16: the parameter, that one of several, the code of a row, or the transfer data is not there
 abbrev pub absent : ℕ
 absent = 16
 

@@ -1,6 +1,7 @@
 -- A walk over octets, parameter by parameter. Verdict, record, finding and rows are instances of it, in Reading, Finding and Spans.
 -- Nothing counts down but the list itself: after a header as many octets are passed over as its step says are its own. At the end a walk
--- that asks nothing but how many these are: the listing of a connection order is an instance, in Opened.
+-- that asks nothing but how many these are: the listing of a connection order is an instance, in Opened, and so are the entries of
+-- carriers, in Carriers.
 use Prim.Native.Nat.{ℕ, zero, suc, _+_}
 use mathlib.Core.Bool.{cond}
 use mathlib.Core.List.{List, [], _∷_}

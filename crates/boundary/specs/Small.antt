@@ -140,6 +140,13 @@ module _ (m : List ℕ) where
   pub find-upto : (k : Key) → Told (foundBy k m)
   find-upto k = told-by (foundBy k m) (plainBy k m) (plain-found k m) (plain-inside k m)
 
+-- what is told of a parameter that was found: so many, where the room holds them
+pub told-upto : (m : List ℕ) (k : Key) (full : Bool) (n : ℕ) → n ≤ farthest
+    → Upto farthest (andThen (findAnswer m (foundBy k m)) (λ _. refuse full no-room 0 (Accepted n)))
+told-upto m k full n few =
+    upto-then (findAnswer m (foundBy k m)) (λ _. refuse full no-room 0 (Accepted n)) farthest farthest (omega arith) (find-upto m k .0)
+    (λ q _. upto-refuse full no-room 0 farthest (Accepted n) (omega arith) (omega arith, few))
+
 -- ---- charging information
 
 octets-upto : (a : ChargingAnswer) (room : ℕ) → chargingPlaceOf a ≤ farthest → Upto farthest (octetChargingBy a room)
@@ -162,12 +169,10 @@ charging-upto m room =
 pub order-upto : (m : List ℕ) (room : ℕ) → Upto farthest (octetOrder m room)
 unfolding orderAnswer orderRowsOf
 order-upto m room =
-    let rows = length (orderRowsOf m) in
-    let full = ltb (room / row-octets) rows in
-    let told = find-upto m (Name (nameOf connection-order) 0) in
-    let few : rows ≤ farthest = omega (arith, told .1, order-few (startOf (orderFound m)) (findPart m (orderFound m))) in
-    upto-then (findAnswer m (orderFound m)) (λ _. refuse full no-room 0 (Accepted rows)) farthest farthest (omega arith) (told .0)
-    (λ q _. upto-refuse full no-room 0 farthest (Accepted rows) (omega arith) (omega arith, few))
+    let k = Name (nameOf connection-order) 0 in
+    let n = length (orderRowsOf m) in
+    told-upto m k (ltb (room / row-octets) n) n
+    (omega (arith, find-upto m k .1, order-few (startOf (orderFound m)) (findPart m (orderFound m))))
 
 -- ---- editing
 

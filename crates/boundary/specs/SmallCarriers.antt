@@ -31,19 +31,17 @@ use Rattle.annex.specs.declared.Answer.the-variants.{Accepted, Refused}
 use Rattle.annex.specs.declared.Key.the-variants.{Name}
 use Rattle.laws.specs.Entries.{code-few, entries-of-few}
 use Rattle.theorems.specs.Carried.{carriers-roomy, digits-roomy}
-use Rattle.boundary.specs.Small.{Upto, farthest, upto-refuse, upto-then, find-upto}
+use Rattle.boundary.specs.Small.{Upto, farthest, upto-refuse, upto-then, find-upto, told-upto}
 
 -- ---- rows
 
 pub carriers-upto : (m : List ℕ) (which room : ℕ) → Upto farthest (octetCarriers m which room)
 unfolding carriersAnswer carrierRowsOf
 carriers-upto m which room =
-    let rows = length (carrierRowsOf which m) in
-    let full = ltb (room / carrier-row-octets) rows in
-    let told = find-upto m (Name (nameOf carriers) which) in
-    let few : rows ≤ farthest = simp length-map (omega (arith, told .1, entries-of-few (findPart m (carriersFound which m)))) in
-    upto-then (findAnswer m (carriersFound which m)) (λ _. refuse full no-room 0 (Accepted rows)) farthest farthest (omega arith) (told .0)
-    (λ q _. upto-refuse full no-room 0 farthest (Accepted rows) (omega arith) (omega arith, few))
+    let k = Name (nameOf carriers) which in
+    let n = length (carrierRowsOf which m) in
+    told-upto m k (ltb (room / carrier-row-octets) n) n
+    (simp length-map (omega (arith, find-upto m k .1, entries-of-few (findPart m (carriersFound which m)))))
 
 -- with room for 127 rows the table is refused for what is wrong with the message alone, or for want of that CC, never for want of room
 pub carriers-number : (m : List ℕ) → every isOctet m ≡ true → (which : ℕ) (table : List ℕ)

@@ -10,7 +10,7 @@ use lib.Seq.{sets, getD-take}
 use Rattle.annex.specs.Answers.{startOf, no-room}
 use Rattle.annex.specs.Carriers.{holdsCode, insideOf, codeCount, carriersFormed}
 use Rattle.annex.specs.Entering.{firstEntry, inCarrier, entryInside, entryNext, isCodeHere}
-use Rattle.annex.specs.Finding.{foundAnswer, findAnswer, findPart}
+use Rattle.annex.specs.Finding.{findAnswer, findPart}
 use Rattle.annex.specs.Packed.{carrier-row-octets, carrierRowOctets, carrierRowsOctets, octetCarriers, octetCarriersTable}
 use Rattle.annex.specs.Reading.{verdictOf}
 use Rattle.annex.specs.Transit.{
@@ -27,8 +27,6 @@ use Rattle.annex.specs.Transit.{
 use Rattle.annex.specs.declared.Answer.the-variants.{Accepted, Refused}
 use Rattle.annex.specs.declared.CarrierRow.{CarrierRow}
 use Rattle.annex.specs.declared.Cursor.{Cursor}
-use Rattle.annex.specs.declared.Found.{Found}
-use Rattle.annex.specs.declared.Found.the-variants.{At, Nowhere}
 use Rattle.laws.specs.Bools.{and-left, and-right}
 use Rattle.laws.specs.Entries.{code-long}
 use Rattle.laws.specs.Filling.{sets-append}
@@ -36,6 +34,7 @@ use Rattle.laws.specs.Found.{part-where}
 use Rattle.laws.specs.Fronts.{front-all}
 use Rattle.laws.specs.Runs.{Left, left-none, all-long, one-stored, one-fits}
 use Rattle.laws.specs.Steps.{then-passed}
+use Rattle.theorems.specs.Places.{found-at}
 use Rattle.entries.specs.Left.{
   Lies,
   entryFormed,
@@ -192,11 +191,7 @@ module _ (m : List ℕ) (which p : ℕ) (e : findAnswer m (carriersFound which m
   contents-are len l = sym (part-where (verdictOf m) m (carriersFound which m) ∙ rw (e, ← l))
 
   starts : startOf (carriersFound which m) ≡ p
-  starts = go (carriersFound which m) (then-passed (verdictOf m) _ p e .2)
-    where
-      go : (f : Found) → foundAnswer f ≡ Accepted p → startOf f ≡ p
-      go (At s t) h = let same : s ≡ p = cc in same
-      go Nowhere h = absurd (let z : _≡_ {A = ℕ} 0 1 = cc in omega arith)
+  starts = found-at (carriersFound which m) p (then-passed (verdictOf m) _ p e .2) .1
 
   -- its rows, and how many there are
   rows-are : carrierRowsOf which m ≡ map (entryRow p) (entriesFound which m)

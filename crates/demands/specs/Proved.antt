@@ -9,7 +9,7 @@ use borrow.Author.Tests.{ltb-true, ltb-false, le-ltb, lt-ltb, ne-eqb}
 use lib.Dec.{ltb}
 use lib.ListN.{length, getD, take, drop}
 use lib.Seq.{take-append-seam, take-at}
-use Rattle.annex.specs.Answers.{bad-digit, absent, no-room, refuse, roomAfter, numberOf, startOf, classNumberOf}
+use Rattle.annex.specs.Answers.{bad-digit, absent, roomAfter, numberOf, startOf, classNumberOf}
 use Rattle.annex.specs.Units.{nameOf}
 use Rattle.annex.specs.Rates.{chargesOf}
 use Rattle.annex.specs.Orders.{OpenedOrder, layOrder, orderRight}
@@ -20,7 +20,7 @@ use Rattle.annex.specs.Reading.{verdictOf, recordOf}
 use Rattle.annex.specs.Records.{pack, isWhole, view, readBy, readingOf}
 use Rattle.annex.specs.Writing.{structWriting, writingOf, writtenOf}
 use Rattle.annex.specs.Spans.{rowsOf, spansOf, tableOf, spansBy}
-use Rattle.annex.specs.Finding.{commonFound, transferFound, foundAnswer, findAnswer, findPart}
+use Rattle.annex.specs.Finding.{commonFound, transferFound, findAnswer, findPart}
 use Rattle.annex.specs.Editing.{Edit, edited, editingOf, bufferOf}
 use Rattle.annex.specs.Packed.{
   oneNumber,
@@ -134,7 +134,7 @@ use Rattle.theorems.specs.Reasons.{editedIn, edit-taken, edit-accepts}
 use Rattle.theorems.specs.Edits.{OfOctets, edited-allowed}
 use Rattle.theorems.specs.Buffers.{buffer-edited, buffer-refused}
 use Rattle.theorems.specs.InPlace.{in-place}
-use Rattle.theorems.specs.Places.{isFound, found-at, name-there, common-is}
+use Rattle.theorems.specs.Places.{isFound, name-is, common-is}
 use Rattle.theorems.specs.Listings.{partRows, rows-of-record, rows-counted}
 use Rattle.theorems.specs.Finds.{transfer-contents, common-contents, sequence-said}
 use Rattle.tight.specs.Told.{
@@ -177,7 +177,15 @@ use Rattle.demands.specs.Demands.{
   Demand2,
   Demand3,
 }
-use Rattle.demands.specs.ProvedCarriers.{carriers-listed-so, carriers-there-so, carriers-few-so, code-told-so, code-none-so}
+use Rattle.demands.specs.ProvedCarriers.{
+  starts-so,
+  told-there,
+  carriers-listed-so,
+  carriers-there-so,
+  carriers-few-so,
+  code-told-so,
+  code-none-so,
+}
 use Rattle.demands.specs.ProvedProfile.{
   profile-verdict-so,
   profile-accepted-so,
@@ -198,7 +206,6 @@ use Rattle.demands.specs.ProvedProfile.{
   profile-write-outside-so,
   classes-told-so,
   classes-there-so,
-  room-alone,
 }
 
 -- an answer that refuses leaves the room
@@ -508,16 +515,11 @@ common-so s a h n r p =
     let w = found-so (layout s) (length (layout s)) (l .0) (commonFound h (layout s)) r p in
     (λ x. sym t ∙ w .0 x, λ x. w .1 (t ∙ x))
 
--- that one of a name is found exactly if more parameters than stand before it have the name
-name-so : (s : List Part) → Allowed s → (x which : ℕ)
-    → isFound (transferFound x which (layout s)) ≡ ltb which (timesIn x (namesOf (itemsIn s)))
-name-so s a x which = let l = laid-then-read s a in rw (l .1) at (name-there x which (layout s) (l .2) (length (layout s)) (l .0))
-
 transfer-so : (s : List Part) → Allowed s → (x which : ℕ) (r : Answer) → FindTransferAnswerPromise (layout s) x which r
     → IsAccepted r ↔ (which < timesIn x (namesOf (itemsIn s)))
 transfer-so s a x which r p =
     let times = timesIn x (namesOf (itemsIn s)) in
-    let t = name-so s a x which in
+    let t = name-is x which s a in
     let w = found-so (layout s) (length (layout s)) (laid-then-read s a .0) (transferFound x which (layout s)) r p in
     (λ q. ltb-true which times (sym t ∙ w .0 q), λ q. w .1 (t ∙ lt-ltb which times q))
 
@@ -552,10 +554,6 @@ charged-first s a front one back w h b r p =
     let values = as-they-are Charging one (rw h) .contents in
     p ∙ rw (found, part, values)
 
--- where contents start that were found
-starts-so : (m : List ℕ) (f : Found) (k : ℕ) → Accepted k ≡ findAnswer m f → startOf f ≡ k
-starts-so m f k p = found-at f k (then-passed (verdictOf m) (λ _. foundAnswer f) k (sym p) .2) .1
-
 order-listed-so : (s : List Part) → Allowed s → (front : List Item) (one : Item) (back : List Item) → itemsIn s ≡ front ++ (one ∷ back)
     → one .header ≡ connection-order → timesIn (nameOf connection-order) (namesOf front) ≡ 0
     → (o : OpenedOrder) → orderRight o ≡ true → layOrder o ≡ one .values
@@ -579,23 +577,10 @@ order-listed-so s a front one back w h b o right e start at table l r now p =
 order-there-so : (s : List Part) → Allowed s → (room : ℕ) (r : Answer) → OrderCheckPromise (layout s) room r
     → (r ≡ Refused absent 0) ↔ (timesIn (nameOf connection-order) (namesOf (itemsIn s)) ≡ 0)
 unfolding orderAnswer
-order-there-so s a room r p = go (orderFound m) refl (name-so s a (nameOf connection-order) 0)
-  where
-    m : List ℕ
-    m = layout s
-
-    times : ℕ
-    times = timesIn (nameOf connection-order) (namesOf (itemsIn s))
-
-    go : (f : Found) → orderFound m ≡ f → isFound (orderFound m) ≡ ltb 0 times → (r ≡ Refused absent 0) ↔ (times ≡ 0)
-    go (At b c) e t =
-        let some = ltb-true 0 times (sym (rw e at t)) in
-        let n = length (orderRowsOf m) in
-        let q : r ≡ refuse (ltb room n) no-room 0 (Accepted n) = p ∙ rw (laid-then-read s a .0, e) in
-        (λ w. absurd (room-alone (ltb room n) n (sym q ∙ w)), λ w. absurd (omega arith))
-    go Nowhere e t =
-        let none = ltb-false 0 times (sym (rw e at t)) in
-        (λ w. omega arith, λ w. p ∙ rw (laid-then-read s a .0, e))
+order-there-so s a room r p =
+    let n = length (orderRowsOf (layout s)) in
+    let t = told-there s a (nameOf connection-order) 0 (ltb room n) n r p in
+    (λ w. omega (arith, t .0 w), λ w. t .1 (omega arith))
 
 order-rows-so : (m : List ℕ) → Octetwise m → (table : List Row) (n : ℕ) (now : List Row) → OrderPromise m table (Accepted n) now
     → (part : List ℕ) → FindTransferPromise m (nameOf connection-order) 0 part

@@ -8,14 +8,14 @@ use mathlib.Core.Logic.{_↔_}
 use borrow.Author.Tests.{le-ltb, lt-ltb, ltb-true, ltb-false}
 use lib.Dec.{ltb}
 use lib.ListN.{length, getD, drop}
-use Rattle.annex.specs.Answers.{startOf, absent, no-room, refuse}
+use Rattle.annex.specs.Answers.{startOf, absent, no-room, refuse, andThen}
 use Rattle.annex.specs.Units.{nameOf}
 use Rattle.annex.specs.Heads.{carriers}
 use Rattle.annex.specs.Items.{Item, Part}
 use Rattle.annex.specs.Layout.{layout}
 use Rattle.annex.specs.Allowed.{timesIn, itemsIn, namesOf, Allowed}
 use Rattle.annex.specs.Reading.{verdictOf}
-use Rattle.annex.specs.Finding.{foundAnswer, findAnswer, findPart}
+use Rattle.annex.specs.Finding.{foundAnswer, findAnswer, findPart, transferFound}
 use Rattle.annex.specs.Transit.{
   OpenedCarriers,
   carriersRight,
@@ -56,6 +56,11 @@ use Rattle.theorems.specs.Carried.{
   carrier-rows-few,
 }
 use Rattle.demands.specs.Demands.{Octetwise}
+use Rattle.demands.specs.ProvedProfile.{room-alone}
+
+-- where contents start that were found
+pub starts-so : (m : List ℕ) (f : Found) (k : ℕ) → Accepted k ≡ findAnswer m f → startOf f ≡ k
+starts-so m f k p = found-at f k (then-passed (verdictOf m) (λ _. foundAnswer f) k (sym p) .2) .1
 
 -- ---- that CC of a record, and what it says
 
@@ -89,10 +94,8 @@ module _ (s : List Part) (a : Allowed s) (front : List Item) (one : Item) (back 
     unfolding carrierRowsOf
     rows-said =
         let f = carriersFound which m in
-        let p : startOf f ≡ start =
-        found-at f start (then-passed (verdictOf m) (λ _. foundAnswer f) start (sym at) .2) .1 in
         ap (λ (t : List ℕ). map (entryRow (startOf f)) (entriesOf t)) part-said ∙ carriers-told c right (startOf f) .0
-        ∙ ap (λ (k : ℕ). toldCarrierRows k c) p
+        ∙ ap (λ (k : ℕ). toldCarrierRows k c) (starts-so m f start at)
 
     pub carriers-listed-so :
         let rows = toldCarrierRows start c in
@@ -134,33 +137,32 @@ module _ (s : List Part) (a : Allowed s) (front : List Item) (one : Item) (back 
 
 -- ---- whether there is one
 
-room-only : (b : Bool) (n : ℕ) → refuse b no-room 0 (Accepted n) ≡ Refused absent 0 → ⊥
-room-only true n e = absurd (let z : no-room ≡ absent = cc in omega arith)
-room-only false n e = absurd (let z : _≡_ {A = ℕ} 0 1 = cc in omega arith)
+-- what is told of that one of a name, by the room alone: 16 exactly if there are not so many of it
+pub told-there : (s : List Part) → Allowed s → (x which : ℕ) (full : Bool) (n : ℕ) (r : Answer)
+    → r ≡ andThen (findAnswer (layout s) (transferFound x which (layout s))) (λ _. refuse full no-room 0 (Accepted n))
+    → (r ≡ Refused absent 0) ↔ (timesIn x (namesOf (itemsIn s)) ≤ which)
+told-there s a x which full n r p = go (transferFound x which (layout s)) refl (name-is x which s a)
+  where
+    times : ℕ
+    times = timesIn x (namesOf (itemsIn s))
+
+    go : (f : Found) → transferFound x which (layout s) ≡ f → isFound (transferFound x which (layout s)) ≡ ltb which times
+        → (r ≡ Refused absent 0) ↔ (times ≤ which)
+    go (At b c) e t =
+        let some = ltb-true which times (sym (rw e at t)) in
+        let q : r ≡ refuse full no-room 0 (Accepted n) = p ∙ rw (laid-then-read s a .0, e) in
+        (λ w. absurd (room-alone full n (sym q ∙ w)), λ w. absurd (omega arith))
+    go Nowhere e t =
+        let none = ltb-false which times (sym (rw e at t)) in
+        (λ w. none, λ w. p ∙ rw (laid-then-read s a .0, e))
 
 pub carriers-there-so : (s : List Part) → Allowed s → (which : ℕ) (table : List ℕ) (r : Answer) (now : List ℕ)
     → CarriersPromise (layout s) which table r now
     → (r ≡ Refused absent 0) ↔ (timesIn (nameOf carriers) (namesOf (itemsIn s)) ≤ which)
 unfolding carriersAnswer
-carriers-there-so s a which table r now p = go (carriersFound which m) refl (name-is (nameOf carriers) which s a)
-  where
-    m : List ℕ
-    m = layout s
-
-    times : ℕ
-    times = timesIn (nameOf carriers) (namesOf (itemsIn s))
-
-    go : (f : Found) → carriersFound which m ≡ f → isFound (carriersFound which m) ≡ ltb which times
-        → (r ≡ Refused absent 0) ↔ (times ≤ which)
-    go (At b c) e t =
-        let some = ltb-true which times (sym (rw e at t)) in
-        let n = length (carrierRowsOf which m) in
-        let full = ltb (length table / carrier-row-octets) n in
-        let q : r ≡ refuse full no-room 0 (Accepted n) = p .0 ∙ rw (laid-then-read s a .0, e) in
-        (λ w. absurd (room-only full n (sym q ∙ w)), λ w. absurd (omega arith))
-    go Nowhere e t =
-        let none = ltb-false which times (sym (rw e at t)) in
-        (λ w. none, λ w. p .0 ∙ rw (laid-then-read s a .0, e))
+carriers-there-so s a which table r now p =
+    let n = length (carrierRowsOf which (layout s)) in
+    told-there s a (nameOf carriers) which (ltb (length table / carrier-row-octets) n) n r (p .0)
 
 pub carriers-few-so : (m : List ℕ) → Octetwise m → (which : ℕ) (table : List ℕ) (n : ℕ) (now : List ℕ)
     → CarriersPromise m which table (Accepted n) now → n ≤ most-carrier-rows

@@ -1,11 +1,11 @@
 -- Laws of the steps of reading: what an accepted step says, and that its octets, and a refusal's place, lie within what it was handed; and
 -- of 8 and 9 of a header to be written.
-use mathlib.Core.Path.{_≡_, refl, sym, _∙_}
+use mathlib.Core.Path.{_≡_, refl, sym, ap, _∙_}
 use mathlib.Core.Bool.{Bool, true, false, cond, not, _||_}
 use mathlib.Core.List.{List, [], _∷_}
 use Prim.Native.Nat.{ℕ, zero, suc, _+_, _-_, _≤_, _<_}
 use native.Mathlib.Omega.{arith}
-use borrow.Author.Tests.{ltb-false, leb-false, not-false}
+use borrow.Author.Tests.{le-ltb, ltb-false, leb-false, not-false}
 use lib.Dec.{eqb, ltb, leb}
 use lib.ListN.{length, getD, take, drop, length-drop, length-take}
 use Rattle.laws.specs.Parts.{from-to}
@@ -24,7 +24,9 @@ use Rattle.annex.specs.Answers.{
   other-pli,
   repeated-name,
   cut-contents,
+  no-room,
   placeOf,
+  givenOf,
   refuse,
   soundThen,
   readingAt,
@@ -71,6 +73,21 @@ passed false k p n a e = (refl, e)
 pub then-passed : (a : Answer) (f : ℕ → Answer) (n : ℕ) → andThen a f ≡ Accepted n → (q : ℕ) × (a ≡ Accepted q) × (f q ≡ Accepted n)
 then-passed (Accepted q) f n e = (q, refl, e)
 then-passed (Refused k p) f n e = absurd (let z : _≡_ {A = ℕ} 0 1 = cc in omega arith)
+
+-- the answer of a listing: what was found, then so many where the room holds them
+pub told-passed : (a : Answer) (room count n : ℕ) → andThen a (λ _. refuse (ltb room count) no-room 0 (Accepted count)) ≡ Accepted n
+    → (q : ℕ) × (a ≡ Accepted q) × (n ≡ count) × (n ≤ room)
+told-passed a room count n e =
+    let t = then-passed a _ n e in
+    let u = passed (ltb room count) no-room 0 n (Accepted count) (t .2) in
+    let same : n ≡ count = sym (ap givenOf (u .1)) in
+    (t .0, t .1, same, omega (arith, ltb-false room count (u .0)))
+
+-- never 15, where the room holds what may be found
+pub told-roomy : (a : Answer) (room count : ℕ) → ((q : ℕ) → a ≡ Accepted q → count ≤ room)
+    → andThen a (λ _. refuse (ltb room count) no-room 0 (Accepted count)) ≡ andThen a (λ _. Accepted count)
+told-roomy (Accepted q) room count f = rw (le-ltb room count (f q refl))
+told-roomy (Refused k p) room count f = refl
 
 pub sounded : (place : ℕ → ℕ → ℕ) (f : Fault) (n : ℕ) (a : Answer) → soundThen place f a ≡ Accepted n → (f ≡ Sound) × (a ≡ Accepted n)
 sounded place Sound n a e = (refl, e)

@@ -7,12 +7,12 @@ use mathlib.Core.Path.{_≡_, refl, sym, ap, _∙_}
 use mathlib.Core.Bool.{Bool, true, false, cond, not, _&&_}
 use mathlib.Core.List.{List, [], _∷_, _++_, map, map-append}
 use mathlib.Core.Logic.{_↔_}
-use borrow.Author.Tests.{eqb-true, eq-eqb, ne-eqb, le-ltb, ltb-false}
+use borrow.Author.Tests.{eqb-true, eq-eqb, ne-eqb, le-ltb}
 use lib.Dec.{eqb, leb, ltb}
 use lib.ListN.{length, getD, length-append, length-map}
 use lib.Seq.{take-append-seam, drop-append-seam}
 use Rattle.annex.specs.Allowed.{every, Each, isOctet, itemsIn}
-use Rattle.annex.specs.Answers.{no-room, absent, refuse, andThen, givenOf}
+use Rattle.annex.specs.Answers.{no-room, absent, refuse, andThen}
 use Rattle.annex.specs.Heads.{carriers, zeroesOf, formOf}
 use Rattle.annex.specs.Contents.{faultOf}
 use Rattle.annex.specs.Items.{Item, contentsOf}
@@ -90,7 +90,7 @@ use Rattle.laws.specs.Faults.{then-sound, then-both}
 use Rattle.laws.specs.Headers.{none-asked}
 use Rattle.laws.specs.Leaves.{as-they-are}
 use Rattle.laws.specs.Plain.{pars-head}
-use Rattle.laws.specs.Steps.{passed, then-passed}
+use Rattle.laws.specs.Steps.{then-passed, told-passed, told-roomy}
 use Rattle.theorems.specs.Transfers.{AllowedItem}
 use Rattle.theorems.specs.Records.{layout-append}
 use Rattle.theorems.specs.Messages.{read-then-laid}
@@ -478,12 +478,7 @@ listed-few which m o n e =
 pub carriers-given : (m : List ℕ) (which room n : ℕ) → carriersAnswer m which room ≡ Accepted n
     → (k : ℕ) × (findAnswer m (carriersFound which m) ≡ Accepted k) × (n ≡ length (carrierRowsOf which m)) × (n ≤ room)
 unfolding carriersAnswer
-carriers-given m which room n e =
-    let count = length (carrierRowsOf which m) in
-    let t = then-passed (findAnswer m (carriersFound which m)) _ n e in
-    let u = passed (ltb room count) no-room 0 n (Accepted count) (t .2) in
-    let same : n ≡ count = sym (ap givenOf (u .1)) in
-    (t .0, t .1, same, omega (arith, ltb-false room count (u .0)))
+carriers-given m which room n e = told-passed (findAnswer m (carriersFound which m)) room (length (carrierRowsOf which m)) n e
 
 pub carrier-rows-few : (m : List ℕ) → every isOctet m ≡ true → (which room n : ℕ) → carriersAnswer m which room ≡ Accepted n
     → n ≤ most-carrier-rows
@@ -496,15 +491,8 @@ pub carriers-roomy : (m : List ℕ) → every isOctet m ≡ true → (which room
     → carriersAnswer m which room
     ≡ andThen (findAnswer m (carriersFound which m)) (λ _. Accepted (length (carrierRowsOf which m)))
 unfolding carriersAnswer
-carriers-roomy m o which room l = go (findAnswer m (carriersFound which m)) refl
-  where
-    n : ℕ
-    n = length (carrierRowsOf which m)
-
-    go : (a : Answer) → findAnswer m (carriersFound which m) ≡ a
-        → andThen a (λ _. refuse (ltb room n) no-room 0 (Accepted n)) ≡ andThen a (λ _. Accepted n)
-    go (Accepted k) e = rw (le-ltb room n (omega (arith, listed-few which m o k e)))
-    go (Refused k p) e = refl
+carriers-roomy m o which room l =
+    told-roomy (findAnswer m (carriersFound which m)) room _ (λ k e. omega (arith, listed-few which m o k e))
 
 -- the digits of a code are at most 494
 listed-digits : (which row : ℕ) (m : List ℕ) → every isOctet m ≡ true → (n : ℕ) → findAnswer m (carriersFound which m) ≡ Accepted n

@@ -7,11 +7,11 @@ use mathlib.Core.Path.{_≡_, refl, sym, ap, _∙_}
 use mathlib.Core.Bool.{Bool, true, false, not, _&&_, _||_}
 use mathlib.Core.List.{List, [], _∷_, _++_, map, append-assoc}
 use mathlib.Core.Logic.{_↔_}
-use borrow.Author.Tests.{eqb-true, eq-eqb, leb-true, le-leb, le-ltb, ltb-false}
-use lib.Dec.{eqb, leb, ltb}
+use borrow.Author.Tests.{eqb-true, eq-eqb, leb-true, le-leb}
+use lib.Dec.{eqb, leb}
 use lib.ListN.{length, getD, take, drop, length-append, length-map, take-append-drop}
 use lib.Seq.{length-take-le, drop-nil, drop-drop, take-append-seam, drop-append-seam, getD-take}
-use Rattle.annex.specs.Answers.{no-room, refuse, andThen, givenOf, isSound, startOf, stopOf}
+use Rattle.annex.specs.Answers.{andThen, isSound, startOf, stopOf}
 use Rattle.annex.specs.Heads.{among, connection-order, zeroesOf, formOf}
 use Rattle.annex.specs.Orders.{
   orderForms,
@@ -55,8 +55,7 @@ use Rattle.annex.specs.Opened.{
   parameterOf,
   most-order-rows,
 }
-use Rattle.annex.specs.declared.Answer.{Answer}
-use Rattle.annex.specs.declared.Answer.the-variants.{Accepted, Refused}
+use Rattle.annex.specs.declared.Answer.the-variants.{Accepted}
 use Rattle.annex.specs.declared.Check.the-variants.{Order}
 use Rattle.annex.specs.declared.Fault.the-variants.{Sound}
 use Rattle.annex.specs.declared.Row.{Row}
@@ -69,7 +68,7 @@ use Rattle.laws.specs.Leaves.{as-they-are}
 use Rattle.laws.specs.Members.{sumOf, once-few}
 use Rattle.laws.specs.Plain.{pars-head}
 use Rattle.laws.specs.Rows.{parAt}
-use Rattle.laws.specs.Steps.{passed, then-passed}
+use Rattle.laws.specs.Steps.{then-passed, told-passed, told-roomy}
 use Rattle.theorems.specs.Transfers.{AllowedItem}
 use Rattle.theorems.specs.Headed.{found-held}
 
@@ -455,12 +454,7 @@ pub record AddUp (m : List ℕ) (n : ℕ) : Type 0 where
 pub order-given : (m : List ℕ) (room n : ℕ) → orderAnswer m room ≡ Accepted n
     → (k : ℕ) × (findAnswer m (orderFound m) ≡ Accepted k) × (n ≡ length (orderRowsOf m)) × (n ≤ room)
 unfolding orderAnswer
-order-given m room n e =
-    let count = length (orderRowsOf m) in
-    let t = then-passed (findAnswer m (orderFound m)) _ n e in
-    let u = passed (ltb room count) no-room 0 n (Accepted count) (t .2) in
-    let same : n ≡ count = sym (ap givenOf (u .1)) in
-    (t .0, t .1, same, omega (arith, ltb-false room count (u .0)))
+order-given m room n e = told-passed (findAnswer m (orderFound m)) room (length (orderRowsOf m)) n e
 
 pub rows-add-up : (m : List ℕ) → every isOctet m ≡ true → (room n : ℕ) → orderAnswer m room ≡ Accepted n → AddUp m n
 rows-add-up m o room n e =
@@ -500,12 +494,4 @@ order-rows-few m o room n e =
 pub order-roomy : (m : List ℕ) → every isOctet m ≡ true → (room : ℕ) → most-order-rows ≤ room
     → orderAnswer m room ≡ andThen (findAnswer m (orderFound m)) (λ _. Accepted (length (orderRowsOf m)))
 unfolding orderAnswer
-order-roomy m o room l = go (findAnswer m (orderFound m)) refl
-  where
-    n : ℕ
-    n = length (orderRowsOf m)
-
-    go : (a : Answer) → findAnswer m (orderFound m) ≡ a
-        → andThen a (λ _. refuse (ltb room n) no-room 0 (Accepted n)) ≡ andThen a (λ _. Accepted n)
-    go (Accepted k) e = rw (le-ltb room n (omega (arith, listed-few m o k e)))
-    go (Refused k p) e = refl
+order-roomy m o room l = told-roomy (findAnswer m (orderFound m)) room _ (λ k e. omega (arith, listed-few m o k e))
