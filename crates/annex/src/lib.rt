@@ -1,5 +1,7 @@
 // The types of document 01 and of document 02's requests, with the constants and constructors of the common, transfer and signal kinds.
 // What they mean is said in specs/, which a reader has to believe; docs/TRUST.md says what else.
+#![tactic(auto)]
+
 ghost use Rattle.annex.specs.Promises.{Gives};
 ghost use Rattle.annex.specs.Answers.{formed};
 ghost use Rattle.annex.specs.Units.{counted_by, whole_count, octets_of, halves_in};

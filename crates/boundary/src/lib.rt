@@ -1,5 +1,7 @@
 // The codec for Rust and C: numbers and lent octets alone. An answer is one number: the refusal's number times 2^32, the place times 2^16,
 // and the value; number 0 where accepted.
+#![tactic(auto)]
+
 ghost use Rattle.std.specs.Prelude.{◌≡◌};
 ghost use Rattle.annex.specs.Answers.{classValueOf};
 ghost use Rattle.annex.specs.Editing.{Edit.Replacing, Edit.Appending, Edit.Removing};

@@ -1,4 +1,6 @@
 // The carriers of a message (CC), told beside its record: a row to the direction and one to each entry, eight octets each.
+#![tactic(auto)]
+
 pub mod part;
 pub mod unpacking;
 

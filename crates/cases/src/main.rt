@@ -3,6 +3,8 @@
 // octets' length and which of those with the name, counted from 0; the buffer and the new octets, for a removal the name first. 3 to 6
 // write a record: to what a part of the struct is changed (3 nothing, 4 its count of common parameters, 5 the first one's count of transfer
 // parameters, 6 the first transfer parameter's count of values), the room's length, the image's length and 0; the record's image.
+#![tactic(auto)]
+
 mod edits;
 mod printing;
 mod records;

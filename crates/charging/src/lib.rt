@@ -1,4 +1,6 @@
 // What the charging information of a message says, beside its record.
+#![tactic(auto)]
+
 pub mod packing;
 
 ghost use Rattle.annex.specs.Promises.{ChargingPromise};

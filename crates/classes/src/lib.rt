@@ -1,5 +1,7 @@
 // The class of a code value: document 01, "Classes of code values". A function for each list of values, `class_in` picks it by the
 // header, and `class_of` asks the bits that must be 0 after it.
+#![tactic(auto)]
+
 ghost use Rattle.std.specs.Prelude.{◌≡◌};
 ghost use Rattle.annex.specs.Promises.{ClassPromise};
 ghost use Rattle.annex.specs.declared.ClassAnswer.TheVariants.{Is};

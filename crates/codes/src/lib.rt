@@ -1,4 +1,6 @@
 // Half-octets, the low half of an octet first, and the digits that they stand for.
+#![tactic(auto)]
+
 ghost use Rattle.std.specs.Prelude.{◌≡◌, get_or};
 ghost use Rattle.annex.specs.Promises.{Gives};
 ghost use Rattle.annex.specs.Digits.{halves, zero_to, digit_of, code_of, last_code, other_zero, is_code};

@@ -1,5 +1,7 @@
 // Reads one message many times, for measuring: standard input has the count (3 octets, least first), the index of an octet of the message
 // that changes with each turn, and the message. It prints the sum of the common parameters read.
+#![tactic(auto)]
+
 ghost use Rattle.std.specs.Prelude.{◌<◌};
 
 use reader::reading::read;

@@ -1,5 +1,7 @@
 // Editing in place: a transfer parameter of the message in a buffer's first n octets is replaced, appended or removed. Each step is
 // accepted before the next one runs, and nothing is written before the last.
+#![tactic(auto)]
+
 mod steps;
 
 ghost use Rattle.annex.specs.Editing.Edit.{Replacing, Appending, Removing};

@@ -1,4 +1,6 @@
 // A record from its image: the struct is filled parameter by parameter, as far as the octets are a whole record within the limits.
+#![tactic(auto)]
+
 pub mod heads;
 
 ghost use Rattle.std.specs.Prelude.{◌≡◌, ◌+◌, ◌≤◌, length};

@@ -1,4 +1,6 @@
 // The headers of transfer parameters: all that the lists ask of one and of the contents under it, by one look-up.
+#![tactic(auto)]
+
 ghost use Rattle.std.specs.Prelude.{◌≡◌, cond};
 ghost use Rattle.annex.specs.Promises.{Gives};
 ghost use Rattle.annex.specs.Answers.{unused-name, other-pli};

@@ -1,4 +1,6 @@
 // The image of a message's record, written straight from the message's octets.
+#![tactic(auto)]
+
 ghost use Rattle.std.specs.Prelude.{◌≡◌, ◌+◌, ◌≤◌, length};
 ghost use Rattle.std.proofs.lemmas.List.Edits.{sets};
 ghost use Rattle.annex.specs.Heads.{most_transfers, most_values};

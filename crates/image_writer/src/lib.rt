@@ -1,4 +1,6 @@
 // The message of an image, with no struct between: one walk judges the parameters and lays them out in a draft.
+#![tactic(auto)]
+
 ghost use Rattle.std.specs.Prelude.{◌≡◌, ◌&&◌, [], ◌≤◌, ltb, length, set, take};
 ghost use Rattle.annex.specs.Heads.{end_mark};
 ghost use Rattle.annex.specs.Image.{items_front, parts_front};

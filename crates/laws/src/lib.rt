@@ -1,1 +1,2 @@
 // No code: laws of the definitions of `annex`, for the proofs of the other crates.
+#![tactic(auto)]

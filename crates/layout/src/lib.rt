@@ -1,5 +1,7 @@
 // Laying a transfer parameter of a record out: what refuses it, how long its contents are, and its octets in lent room.
 // The parameter is given as its head and its values.
+#![tactic(auto)]
+
 ghost use Rattle.std.specs.Prelude.{◌≡◌, List, [], ℕ, ◌≤◌, leb, length, get_or};
 ghost use Rattle.annex.specs.Promises.{Gives, Keeps};
 ghost use Rattle.annex.specs.Units.{extent_of};

@@ -1,4 +1,6 @@
 // The limits of a record: its counts and lengths stay within its arrays, and its contents within 255 octets.
+#![tactic(auto)]
+
 ghost use Rattle.std.specs.Prelude.{◌≡◌, ◌≤◌, take};
 ghost use Rattle.annex.specs.Heads.{most_commons};
 ghost use Rattle.annex.specs.Promises.{Gives};

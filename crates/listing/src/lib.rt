@@ -1,5 +1,7 @@
 // The printed listing of a message: a line for each row, or the one line of a refusal. No contract can say what is printed; the programs
 // over this crate are run and their output is compared.
+#![tactic(auto)]
+
 ghost use Rattle.annex.specs.Heads.{most_rows};
 ghost use Rattle.annex.specs.Promises.{SpansCheckPromise};
 

@@ -1,5 +1,7 @@
 // Octets of a slice, also past its end; copying, moving and clearing within lent octets. Where a request does not fit, nothing is
 // written and the answer is false.
+#![tactic(auto)]
+
 ghost use Rattle.std.specs.Prelude.{◌≡◌, ◌&&◌, ◌+◌, ◌-◌, ◌≤◌, leb, length, get_or, drop, replicate};
 ghost use Rattle.annex.specs.Promises.{Gives, Keeps};
 ghost use Rattle.annex.specs.Memory.{put, spliced, copying, splicing};

@@ -1,4 +1,6 @@
 // The mobile call profile: a call enquiry from a PHS or mobile network, taken by reading's rules and then by those of the profile.
+#![tactic(auto)]
+
 mod added;
 pub mod images;
 mod keeping;

@@ -1,5 +1,7 @@
 // What refuses a record: 1 first, then 2, 3, 5 and 8 to 14 in the reader's order, and 6 at the end, each at the place where its octets
 // would stand.
+#![tactic(auto)]
+
 ghost use Rattle.std.specs.Prelude.{◌≡◌, ◌&&◌, [], ◌+◌, ◌≤◌, ltb, length};
 ghost use Rattle.annex.specs.Answers.{placed_at};
 ghost use Rattle.annex.specs.Promises.{Gives, RecordRefusalPromise};

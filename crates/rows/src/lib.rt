@@ -1,4 +1,6 @@
 // The lent table of rows, as octets and as structs: here thin functions over the count of the rows and the walk from one to the next.
+#![tactic(auto)]
+
 pub mod octets;
 pub mod opened;
 

@@ -1,4 +1,6 @@
 // Lists messages that are accepted and messages that are refused, every number of reading among them.
+#![tactic(auto)]
+
 fn case(name: &[u8], message: &[u8]) {
     io::write_all(libc::STDOUT_FILENO, name);
     io::write_all(libc::STDOUT_FILENO, b"\n");

@@ -1,1 +1,2 @@
 // No code: theorems about the definitions of `annex`.
+#![tactic(auto)]

@@ -1,1 +1,2 @@
 // How tight each promise is: lemmas alone, in specs/.
+#![tactic(auto)]

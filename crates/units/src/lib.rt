@@ -1,4 +1,6 @@
 // How many octets follow a header. Half-octets and octets meet only through the conversion.
+#![tactic(auto)]
+
 ghost use Rattle.annex.specs.Promises.{Gives};
 ghost use Rattle.std.specs.Prelude.{◌≡◌};
 ghost use Rattle.annex.specs.Units.{octets_counted, after_of, lead_of, common_extent_of, extent_of};

@@ -1,4 +1,6 @@
 // Writing a record: where nothing refuses it, it is laid out at the front of lent room.
+#![tactic(auto)]
+
 ghost use Rattle.std.specs.Prelude.{◌≡◌, ◌+◌, ◌≤◌, length};
 ghost use Rattle.annex.specs.Heads.{most_values};
 ghost use Rattle.annex.specs.Layout.{layout_item, layout_items, layout};
