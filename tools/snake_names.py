@@ -116,6 +116,8 @@ def in_text(text, new, dashes):
 
 
 def rust(line, new):
+    """a function of src/ keeps its name where a lemma of that name gets another"""
+    new = {old: text for old, text in new.items() if old != snake(old).replace("-", "_")}
     code, comment, note = line.partition("//")
     return in_text(code, new, True) + comment + in_text(note, new, False)
 

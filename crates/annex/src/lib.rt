@@ -9,7 +9,7 @@ ghost use Rattle.annex.specs.Records.{value_head, octet_head, data_head, carried
 ghost use Rattle.annex.specs.Profile.{no_class};
 
 // What a call answers: accepted, with a count, or refused, with a number and a place.
-#[derive(Drop)]
+#[derive(Clone, Copy)]
 pub enum Answer {
     Accepted(usize),
     Refused(u8, usize),
@@ -59,7 +59,7 @@ impl Answer {
 }
 
 // What is wrong with contents: nothing, or the refusal's number and the offset of the octet in the contents.
-#[derive(Drop)]
+#[derive(Clone, Copy)]
 pub enum Fault {
     Sound,
     Bad(u8, usize),
@@ -79,10 +79,10 @@ impl Fault {
 }
 
 // A count of half-octets (PLI 10) and one of octets (PLI 11). They meet only through the conversion.
-#[derive(Drop)]
+#[derive(Clone, Copy)]
 pub struct HalfOctets(pub usize);
 
-#[derive(Drop)]
+#[derive(Clone, Copy)]
 pub struct Octets(pub usize);
 
 impl HalfOctets {
@@ -117,14 +117,14 @@ impl HalfOctets {
 }
 
 // In what the octet right after a header counts: half-octets, by bits 5-0 of a count octet (PLI 10), or octets, by a length octet (PLI 11).
-#[derive(Drop)]
+#[derive(Clone, Copy)]
 pub enum CountingUnit {
     HalfOctet,
     Octet,
 }
 
 // What a PLI says of the octets after a header: how many there are, or that the first counts the others.
-#[derive(Drop)]
+#[derive(Clone, Copy)]
 pub enum Extent {
     Fixed(usize),
     Counted(CountingUnit),
@@ -132,7 +132,7 @@ pub enum Extent {
 
 // How half-octets stand for digits: zero is code 10 where digits are dialled (PLI 10), and code 0 in a number (D7); decimal digits are
 // those of a number with neither * nor #.
-#[derive(Drop)]
+#[derive(Clone, Copy)]
 pub enum Alphabet {
     Dialled,
     Numbered,
@@ -140,7 +140,7 @@ pub enum Alphabet {
 }
 
 // The upper two bits of a count octet: none told, notification (bit 7), notification and verification (7, 6), or the type of dialling.
-#[derive(Drop)]
+#[derive(Clone, Copy)]
 pub enum Marks {
     Unmarked,
     Notified,
@@ -150,7 +150,7 @@ pub enum Marks {
 
 // What is checked of contents that a record holds as they are: nothing more, so many octets, two octets, these bits of the second 0,
 // charging information, a connection order, or carriers.
-#[derive(Drop)]
+#[derive(Clone, Copy)]
 pub enum Check {
     Nothing,
     Long(u8),
@@ -161,7 +161,7 @@ pub enum Check {
 }
 
 // The forms of contents: held as they are, with a check; digits of PLI 10; a number as in D7, as in DC, as in DA.
-#[derive(Drop)]
+#[derive(Clone, Copy)]
 pub enum Form {
     Checked(Check),
     Digits(Marks),
@@ -172,7 +172,7 @@ pub enum Form {
 
 // How a record holds a parameter's values: as the contents, as digits with marks, as a number, as a number after 06. A number is held with
 // whether it may be withheld: then, with presentation 2, nothing but its screening is told of it.
-#[derive(Drop)]
+#[derive(Clone, Copy)]
 pub enum Holding {
     AsContents,
     AsDigits(Marks),
@@ -192,7 +192,7 @@ impl Message {
 
 // A common parameter. value: the octet of 01 and 06, the number of 82, 83 and 04. more_data: the mark of 04. transfers: how many parameters
 // a C5 holds.
-#[derive(Drop)]
+#[derive(Clone, Copy)]
 pub struct Common {
     pub header: u8,
     pub value: u32,
@@ -283,7 +283,7 @@ impl Common {
 }
 
 // A transfer parameter: its header, its upper marks and fields, and how many values it has: digits, or the octets that it carries.
-#[derive(Drop)]
+#[derive(Clone, Copy)]
 pub struct Transfer {
     pub header: u8,
     pub notification: u8,
@@ -563,14 +563,14 @@ impl Imaged {
 }
 
 // What a parameter is found by: a common one by its header, a transfer one by its name and which of those with the name, counted from 0.
-#[derive(Drop)]
+#[derive(Clone, Copy)]
 pub enum Key {
     Header(u8),
     Name(u8, usize),
 }
 
 // Where a parameter or its contents stand: from an octet to before another.
-#[derive(Drop)]
+#[derive(Clone, Copy)]
 pub enum Found {
     At(usize, usize),
     Nowhere,
@@ -578,7 +578,7 @@ pub enum Found {
 
 // A row of a listing: offset of the header, header, length of the contents. Laid out as in C, so that any caller can lend a table of them.
 #[repr(C)]
-#[derive(Drop)]
+#[derive(Clone, Copy)]
 pub struct Row {
     pub offset: usize,
     pub header: u8,
@@ -591,14 +591,14 @@ impl Row {
 }
 
 // Where a walk over a message stands. at: the next header. end: where the C5 ends that this header is in, and outside C5 `at` too.
-#[derive(Drop)]
+#[derive(Clone, Copy)]
 pub struct Cursor {
     pub at: usize,
     pub end: usize,
 }
 
 // How an octet of charging information is drawn: one whole number, a digit in each half, or an IA5 character for a digit.
-#[derive(Drop)]
+#[derive(Clone, Copy)]
 pub enum Drawn {
     Whole,
     Halves,
@@ -606,7 +606,7 @@ pub enum Drawn {
 }
 
 // The fields of charging information.
-#[derive(Drop)]
+#[derive(Clone, Copy)]
 pub enum Field {
     UnitFee,
     InitialUnits,
@@ -622,7 +622,7 @@ pub enum Field {
 }
 
 // What charging information says: its kind, and its fields as whole numbers, times in half seconds; 0 where the kind has no such field.
-#[derive(Drop)]
+#[derive(Clone, Copy)]
 pub struct Charges {
     pub kind: u8,
     pub unit_fee: u16,
@@ -666,7 +666,7 @@ impl Charges {
 }
 
 // What the charging information of a message says, or why there is none.
-#[derive(Drop)]
+#[derive(Clone, Copy)]
 pub enum ChargingAnswer {
     Is(Charges),
     Refused(u8, usize),
@@ -675,7 +675,7 @@ pub enum ChargingAnswer {
 // How a parameter of a connection order is laid out behind its header: one octet; a length octet, which is 1, and one octet; one octet with
 // bit 7 set; a whole octet of count and digits; and behind a length octet a number, what controls an ARE, what controls its logic, or
 // guidance, which is carried; three figures.
-#[derive(Drop)]
+#[derive(Clone, Copy)]
 pub enum OrderLayout {
     TrunkKind,
     ReleaseKind,
@@ -689,7 +689,7 @@ pub enum OrderLayout {
 }
 
 // A connection order.
-#[derive(Drop)]
+#[derive(Clone, Copy)]
 pub struct Order;
 
 impl Order {
@@ -744,7 +744,7 @@ impl Order {
 }
 
 // The carriers of CC.
-#[derive(Drop)]
+#[derive(Clone, Copy)]
 pub struct Carriers;
 
 impl Carriers {
@@ -794,7 +794,7 @@ impl Carriers {
 
 // A row of the listing of CC: the level (0 the direction, 1 a carrier entry, 2 a dependent entry), the tag, of the direction its value,
 // the offset of that octet in the message, how many octets the entry holds, and how many digits, where it holds a code.
-#[derive(Drop)]
+#[derive(Clone, Copy)]
 pub struct CarrierRow {
     pub level: u8,
     pub tag: u8,
@@ -815,7 +815,7 @@ impl CarrierRow {
 }
 
 // The class of a code value.
-#[derive(Drop)]
+#[derive(Clone, Copy)]
 pub enum Class {
     Named,
     HeldBack,
@@ -823,14 +823,14 @@ pub enum Class {
 }
 
 // What the class of a code value is, or why there is none.
-#[derive(Drop)]
+#[derive(Clone, Copy)]
 pub enum ClassAnswer {
     Is(Class),
     Refused(u8, usize),
 }
 
 // The network that a call enquiry comes from, as the mobile call profile knows it.
-#[derive(Drop)]
+#[derive(Clone, Copy)]
 pub enum Network {
     Other,
     Phs,
@@ -845,7 +845,7 @@ impl Network {
 }
 
 // An added user class: a pair of D6, its name and its value.
-#[derive(Drop)]
+#[derive(Clone, Copy)]
 pub struct AddedClass {
     pub name: u8,
     pub value: u8,
@@ -881,7 +881,7 @@ impl AddedClass {
 
 // What a call enquiry of the profile tells beside its record: its network, and the first `classes` of `class`, in the order of arrival.
 // Unused room is zero.
-#[derive(Drop)]
+#[derive(Clone, Copy)]
 pub struct Profile {
     pub network: Network,
     pub classes: u8,

@@ -40,7 +40,7 @@ pub fn digits_in(n: HalfOctets, octets: &[u8]) -> HalfOctets
 }
 
 // Whether so many values, no more than a record holds, fit in the room after the used ones.
-pub fn has_room_lem(room: usize, used: usize, count: usize) -> bool
+pub fn has_room(room: usize, used: usize, count: usize) -> bool
     ensures { Gives (values_fit room used count) result }
 {
     if Transfer::MOST_VALUES < count {
@@ -121,7 +121,7 @@ pub fn unpack_digits(
     ensures { Keeps (unpacking z octets.now n values.old used) result values.new }
 {
     let count = digits_in(n, octets);
-    if !has_room_lem(values.len(), used, count.0) {
+    if !has_room(values.len(), used, count.0) {
         return false;
     }
     unpack_fitting(z, octets, count, values, used);

@@ -14,7 +14,7 @@ use units::{extent_of, lead, octets_after};
 
 // The kinds of edit. One that removes is told the name, the others have it in the octets that they bring; one that replaces or removes is
 // told which of those with the name, counted from 0.
-#[derive(Drop)]
+#[derive(Clone, Copy)]
 pub enum Kind {
     Replacing(usize),
     Appending,

@@ -12,7 +12,7 @@ ghost use Rattle.heads.specs.Asked.{listed_asked, unlisted_asked, counted_heads,
 use annex::{Answer, Check, Form, Marks, Transfer};
 
 // What is asked of a header and of the contents under it.
-#[derive(Drop)]
+#[derive(Clone, Copy)]
 pub struct Asked {
     pub right: bool,
     pub zeroes: u8,

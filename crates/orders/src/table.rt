@@ -9,7 +9,7 @@ ghost use Rattle.orders.specs.Asked.{asking, asked_of, has_bit};
 use annex::{Order, OrderLayout};
 
 // What the table says of a header: its place among those of the table, its layout, and the forms under which it may stand.
-#[derive(Drop)]
+#[derive(Clone, Copy)]
 pub struct Asked {
     pub place: usize,
     pub layout: OrderLayout,

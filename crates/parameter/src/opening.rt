@@ -8,7 +8,7 @@ ghost use Rattle.annex.specs.Opening.{head_for, values_with, opened_head, opened
 
 use annex::{Alphabet, Form, HalfOctets, Holding, Marks, Transfer};
 use digits::numbers::count_of;
-use digits::packing::{digits_in, has_room_lem, unpack_digits};
+use digits::packing::{digits_in, has_room, unpack_digits};
 use heads::head_of;
 use octets::{copy_in, octet_at, octets_from};
 
@@ -59,7 +59,7 @@ pub fn open_contents(header: u8, s: &[u8], values: &mut [u8], used: usize) -> Tr
     ensures put { Gives (values_with (open_by AsContents header s.now) used values.old) values.new }
 {
     let count = s.len();
-    if !has_room_lem(values.len(), used, count) {
+    if !has_room(values.len(), used, count) {
         return Transfer::none();
     }
     copy_in(values, used, s);
@@ -101,7 +101,7 @@ fn open_generic(header: u8, s: &[u8], values: &mut [u8], used: usize) -> Transfe
     let number = octets_from(s, 1);
     let count = count_of(number);
     let len = count.0 + 1;
-    if !has_room_lem(values.len(), used, len) {
+    if !has_room(values.len(), used, len) {
         return Transfer::none();
     }
     values[used] = Transfer::ADDED_CALLING_NUMBER;

@@ -11,7 +11,7 @@ use digits::characters::is_figure;
 
 // What a kind asks of the octets behind it: how many there are, how the first of them is drawn (all others are characters), and whether a
 // check digit is among them. None is asked where the kind is not listed.
-#[derive(Drop)]
+#[derive(Clone, Copy)]
 pub struct Asked {
     pub listed: bool,
     pub octets: u8,

@@ -10,7 +10,7 @@ use annex::{Charges, Drawn, Field};
 use octets::{octet_at, octets_from};
 
 // A field: its place among the fields of an answer, how its octets are drawn, and how many it has.
-#[derive(Drop)]
+#[derive(Clone, Copy)]
 struct FieldRow {
     place: usize,
     drawn: Drawn,

@@ -18,7 +18,7 @@ use units::{common_extent_of, extent_of, lead};
 use walk::stretch::stretch_at;
 
 // What finding gives: the answer to the second question, and where the contents start and end, 0 and 0 if refused.
-#[derive(Drop)]
+#[derive(Clone, Copy)]
 struct Finding(Answer, usize, usize);
 
 // Whether a parameter with the header h is sought.
@@ -136,7 +136,7 @@ fn find(m: &[u8], k: Key) -> Finding
 }
 
 // The answer to the second question, and how many octets the contents have, 0 if refused.
-#[derive(Drop)]
+#[derive(Clone, Copy)]
 pub struct Stretch {
     pub answer: Answer,
     pub len: usize,

@@ -385,7 +385,7 @@ entries_told (c ∷ es) s k p g e =
     let here = and_left (carrier_right c) (every carrier_right es) g in
     let w = dependents_told c.dependents s (k + 2) (p + 2) (and_right (is_tag lowest_carrier c.tag) _ here) (omega arith) in
     let ih = entries_told es s (k + 2 + n) (p + 2 + n) (and_right (carrier_right c) (every carrier_right es) g) (omega arith) in
-    (rw (first, map-append, w.0, ih.0, e), rw (first, map-append, w.1, ih.1))
+    (rw (first, map-append (entry_row s), w.0, ih.0, e), rw (first, map-append code_in, w.1, ih.1))
 
 -- the entries of carriers that may be said, laid out: their rows and their codes
 pub carriers_told : (c : OpenedCarriers) → carriers_right c ≡ true → (p : ℕ)

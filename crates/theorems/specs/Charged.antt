@@ -1,7 +1,7 @@
 -- Charging information (F7): what is sound may be said and is drawn again from what it says; what may be said, drawn, is sound and says the
 -- same. First for the octets of one field, by how they are drawn; then for any list in which no field stands twice; then for the contents.
 use Rattle.std.specs.Prelude.{ℕ, zero, suc, ◌+◌, ◌-◌, ◌*◌, ◌/◌, ◌%◌, ◌^◌, ◌≤◌, ◌<◌, Bool, false, cond, not, ◌&&◌, ◌⊎◌, eqb, leb, get_or, take, drop, replicate}
-use Rattle.std.proofs.Common.{pow-suc, arith, sym, ap, ◌∙◌, length-drop, take-append-drop}
+use Rattle.std.proofs.Common.{pow-suc, arith, sym, ap, ◌∙◌, subst, length-drop, take-append-drop}
 use Rattle.std.proofs.Math.Path.{◌≡◌, refl}
 use Rattle.std.proofs.Math.Bool.{true}
 use Rattle.std.proofs.Math.Logic.{inl, inr}
@@ -230,7 +230,8 @@ has_here : (g : Field) (gs : List Field) → has_field g (g ∷ gs) ≡ true
 has_here g gs = rw (same_self g)
 
 has_there : (f g : Field) (gs : List Field) → has_field f gs ≡ true → has_field f (g ∷ gs) ≡ true
-has_there f g gs h = elim (met f g) [ inl e ↦ rw e (has_here g gs) | inr e ↦ rw e h ]
+has_there f g gs h =
+    elim (met f g) [ inl e ↦ subst (λ (k : Field). has_field k (g ∷ gs) ≡ true) (sym e) (has_here g gs) | inr e ↦ rw e h ]
 
 -- no field stands twice
 abbrev apart : List Field → Bool

@@ -1,6 +1,6 @@
 -- Laws of lists: tests of each, how often one stands, and the pigeonhole law.
 use Rattle.std.specs.Prelude.{ℕ, zero, suc, ◌+◌, ◌*◌, ◌≤◌, ◌<◌, ◌≡◌, refl, Bool, true, false, cond, ◌||◌, List, [], ◌∷◌, ◌++◌, map, eqb, leb, take, drop}
-use Rattle.std.proofs.Common.{mul-suc, mul-le-mul_left, arith, eqb-true, eq-eqb, leb-true, le-leb}
+use Rattle.std.proofs.Common.{mul-suc, mul-le-mul_left, arith, subst, eqb-true, eq-eqb, leb-true, le-leb}
 use Rattle.annex.specs.Heads.{among}
 use Rattle.annex.specs.Allowed.{every, Each, times_in, at_most}
 use Rattle.laws.specs.Bools.{and_left, and_right, and_both}
@@ -154,7 +154,9 @@ module _ (w : ℕ → ℕ) where
       go : (b : Bool) → eqb x u ≡ b → b || among x us ≡ true
           → (among x us ≡ true → w x + sum_of (weighed xs) us ≤ sum_of (weighed (x ∷ xs)) us)
           → w x + (weighed xs u + sum_of (weighed xs) us) ≤ weighed (x ∷ xs) u + sum_of (weighed (x ∷ xs)) us
-      go true p q r = rw (← eqb-true x u p) (omega (arith, weighed_one x xs, rest))
+      go true p q r =
+          let P : ℕ → Type 0 = λ v. w x + (weighed xs v + sum_of (weighed xs) us) ≤ weighed (x ∷ xs) v + sum_of (weighed (x ∷ xs)) us in
+          subst P (eqb-true x u p) (omega (arith, weighed_one x xs, rest))
       go false p q r = omega (arith, weighed_more x xs u, r q)
 
   weighed_all : (us xs : List ℕ) → every (λ x. among x us) xs ≡ true → sum_of w xs ≤ sum_of (weighed xs) us

@@ -76,7 +76,7 @@ pub fn lead(e: Extent) -> usize
 }
 
 // What follows a transfer header: how many octets, and how many of them stand before the contents.
-#[derive(Drop)]
+#[derive(Clone, Copy)]
 pub struct After {
     pub octets: usize,
     pub lead: usize,
