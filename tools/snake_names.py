@@ -22,6 +22,8 @@ OF_STD = {"length", "take", "drop", "get_or", "map", "set", "sets", "append", "c
 NAME = re.compile(r"[A-Za-z_][A-Za-z0-9_'\u2080-\u2089]*(?:-[A-Za-z0-9_'\u2080-\u2089]+)*")
 # where the rule's name is another definition's already, the name that is taken instead
 BY_HAND = {
+    # as std has it
+    "and-true": "and-true",
     "carrier-row-octets": "octets_to_a_carrier_row",
     "row-octets": "octets_to_a_row",
     "common-head": "octets_to_a_common_head",

@@ -2,7 +2,7 @@
 use Rattle.std.specs.Prelude.{ℕ, ◌-◌, ◌≤◌, ◌<◌, ◌≡◌, Bool, false, not, ◌||◌, List, [], ◌∷◌, ◌++◌, ◌↔◌, eqb, ltb, get_or, take, drop}
 use Rattle.std.proofs.Common.{arith, ◌∙◌, take_at}
 use Rattle.std.proofs.Math.Path.{refl, sym, ap}
-use Rattle.std.proofs.Math.Bool.{true, and_true}
+use Rattle.std.proofs.Math.Bool.{true, and-true}
 use borrow.Author.Tests.{eqb-true, ltb-true, ltb-false, le-ltb}
 use Rattle.std.proofs.Math.ListN.{length}
 use Rattle.std.proofs.Math.Seq.{take-append_seam}
@@ -287,7 +287,7 @@ classes_there_so s a i room r now p = go (ltb 0 times) refl
     there : some (is_headed added_class) (items_in s) ≡ ltb 0 times
     there =
         some_found added_class Nothing refl refl refl s a (is_headed added_class) (λ j e. e)
-        ∙ rw (name_is (name_of added_class) 0 s a) (and_true (ltb 0 times))
+        ∙ rw (name_is (name_of added_class) 0 s a) (and-true (ltb 0 times))
 
     answer : r ≡ refuse (not (some (is_headed added_class) (items_in s))) absent 0 (refuse (ltb (length room) n) no_room 0 (Accepted n))
     answer = p.0 ∙ rw (laid_then_taken s a i, (laid_then_read s a).1)

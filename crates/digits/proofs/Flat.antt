@@ -16,9 +16,9 @@ pub every_turn : (f : ℕ → Bool) (xs : List ℕ) (i : ℕ) (all good : Bool) 
 every_turn f xs i all good e h =
     e ∙ ap (λ (b : Bool). good && b) (every_one f xs i h) ∙ sym (and_assoc good (f (get_or xs i 0)) (every f (drop (i + 1) xs)))
 
-and_true : (b : Bool) → b && true ≡ b
-and_true true = refl
-and_true false = refl
+and-true : (b : Bool) → b && true ≡ b
+and-true true = refl
+and-true false = refl
 
 pub every_end : (f : ℕ → Bool) (xs : List ℕ) (i : ℕ) (all good : Bool) → all ≡ good && every f (drop i xs) → length xs ≤ i → good ≡ all
-every_end f xs i all good e h = sym (and_true good) ∙ ap (λ (l : List ℕ). good && every f l) (sym (drop_of_length-le xs h)) ∙ sym e
+every_end f xs i all good e h = sym (and-true good) ∙ ap (λ (l : List ℕ). good && every f l) (sym (drop_of_length-le xs h)) ∙ sym e

@@ -452,13 +452,13 @@ module _ (n : ℕ) (q : Record) (k used i : ℕ) (s : List ℕ) where
       cond (eqb (ei j) n && (leb (ec j) most_commons && (leb (et j) most_transfers && leb (ev j) most_values)))
       (record { answer = Accepted (ec j); held = h j })
       no_image)
-      ∙ rw (le-leb q.commons most_commons c, le-leb k most_transfers t, le-leb used most_values v) (and_true (eqb i n))
+      ∙ rw (le-leb q.commons most_commons c, le-leb k most_transfers t, le-leb used most_values v) (and-true (eqb i n))
     where
-      and_true : (b : Bool)
+      and-true : (b : Bool)
           → cond {A = Imaged} (b && true) (record { answer = Accepted q.commons; held = q }) no_image
           ≡ cond b (record { answer = Accepted q.commons; held = q }) no_image
-      and_true true = refl
-      and_true false = refl
+      and-true true = refl
+      and-true false = refl
 
 -- ---- the count before them
 

@@ -3,7 +3,7 @@
 use Rattle.std.specs.Prelude.{ℕ, ◌≡◌, Bool, cond, ◌&&◌, ◌||◌, List, [], eqb, get_or}
 use Rattle.std.proofs.Common.{arith, sym, ◌∙◌}
 use Rattle.std.proofs.Math.Path.{refl, ap}
-use Rattle.std.proofs.Math.Bool.{true, false, not, and_true, not-not}
+use Rattle.std.proofs.Math.Bool.{true, false, not, and-true, not-not}
 use Rattle.annex.specs.Units.{name_of}
 use Rattle.annex.specs.Heads.{signal_kind, often_of, form_of}
 use Rattle.annex.specs.Items.{Item, plain_item}
@@ -125,11 +125,11 @@ module _ (m : List ℕ) (o : every is_octet m ≡ true) (n : ℕ) (e : verdict_o
       values_found added_class Nothing a.0 a.1 a.2 (record_of m) (read_then_laid m o n e).1 ∙ part_same added_class
 
   pub added_under : some (is_headed added_class) (items_in (record_of m)) ≡ is_found (headed added_class m)
-  added_under = some_under added_class added_alone (is_headed added_class) (λ i f. f) ∙ and_true (is_found (headed added_class m))
+  added_under = some_under added_class added_alone (is_headed added_class) (λ i f. f) ∙ and-true (is_found (headed added_class m))
 
   region_under : some (is_headed originating_region) (items_in (record_of m)) ≡ is_found (headed originating_region m)
   region_under =
-      some_under originating_region region_alone (is_headed originating_region) (λ i f. f) ∙ and_true (is_found (headed originating_region m))
+      some_under originating_region region_alone (is_headed originating_region) (λ i f. f) ∙ and-true (is_found (headed originating_region m))
 
   pub network_under : (x : ℕ) → eqb 0 x ≡ false → some (is_network x) (items_in (record_of m)) ≡ eqb (network_in m) x
   network_under x z =
