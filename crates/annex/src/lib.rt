@@ -181,7 +181,7 @@ pub enum Holding {
 }
 
 // A message.
-#[derive(Drop)]
+#[derive(Clone, Copy)]
 pub struct Message;
 
 impl Message {
@@ -494,7 +494,7 @@ impl Transfer {
 }
 
 // A signal kind: H0 in bits 7-4, H1 in bits 3-0.
-#[derive(Drop)]
+#[derive(Clone, Copy)]
 pub struct Signal(pub u8);
 
 impl Signal {
@@ -527,7 +527,7 @@ impl Signal {
 
 // A record: the first `commons` of `common`; the parameters of its C5s one after the other in `transfer`; their values one after
 // the other in `values`. Unused room is zero in a record handed out.
-#[derive(Drop)]
+#[derive(Clone, Copy)]
 pub struct Record {
     pub commons: u8,
     pub common: [Common; Common::MOST],
@@ -536,14 +536,14 @@ pub struct Record {
 }
 
 // What reading gives: the verdict, and the record beside it, empty where refused.
-#[derive(Drop)]
+#[derive(Clone, Copy)]
 pub struct Reading {
     pub answer: Answer,
     pub record: Record,
 }
 
 // What a record's image gives: accepted with the count of common parameters, and the record; or refused, and the empty record.
-#[derive(Drop)]
+#[derive(Clone, Copy)]
 pub struct Imaged {
     pub answer: Answer,
     pub held: Record,
@@ -889,7 +889,7 @@ pub struct Profile {
 }
 
 // What reading by the profile gives: the verdict, and beside it the record and what it tells, those of nothing where refused.
-#[derive(Drop)]
+#[derive(Clone, Copy)]
 pub struct ProfileReading {
     pub answer: Answer,
     pub record: Record,

@@ -33,7 +33,7 @@ use image_reader::read_image;
 use image_writer::write_image;
 use profile::{images, writing};
 use reader::finding::find_both;
-use rows::octets::{octet_order, octet_spans};
+use rows::in_octets::{octet_order, octet_spans};
 
 fn pack(number: u8, place: usize, value: usize) -> u64
     ensures { result ≡ one_number number place value }

@@ -1,7 +1,7 @@
 // A record from its image: the struct is filled parameter by parameter, as far as the octets are a whole record within the limits.
 #![tactic(auto)]
 
-pub mod heads;
+pub mod image_heads;
 
 ghost use Rattle.std.specs.Prelude.{◌≡◌, ◌+◌, ◌≤◌, length};
 ghost use Rattle.std.proofs.lemmas.List.Edits.{sets};
@@ -10,13 +10,13 @@ ghost use Rattle.annex.specs.Image.{items_front, parts_front, no_image, imaged_b
 ghost use Rattle.annex.specs.Promises.{FromImagePromise};
 ghost use Rattle.from_image.specs.Filling.{fits_at, unfilled, filled_by};
 
-use crate::heads::{common_head, is_whole, transfer_head};
+use crate::image_heads::{common_head, is_whole, transfer_head};
 use annex::{Answer, Common, Imaged, Record, Transfer};
 use parameter::opening::open_contents;
 use reader::reading::empty;
 
 // A record's struct, how many of its transfer parameters and values are filled in, and how many octets were read; or not whole, and empty.
-#[derive(Drop)]
+#[derive(Clone, Copy)]
 struct Filled {
     whole: bool,
     held: Record,

@@ -12,7 +12,7 @@ ghost use Rattle.image_writer.specs.Walked.{ItemsServed, DataServed, PartsServed
 
 use annex::{Answer, Common, Imaged, Message, Transfer};
 use common::laying::lay_head;
-use from_image::heads::{common_head, is_whole, transfer_head};
+use from_image::image_heads::{common_head, is_whole, transfer_head};
 use layout::{contents_len, lay};
 use octets::copy_in;
 use refusing::{end_refusal, head_refusal, placed};

@@ -24,7 +24,7 @@ use reader::reading::empty;
 use verdict::profile_verdict;
 
 // The pairs of a D6, the first `count` of `class`.
-#[derive(Drop)]
+#[derive(Clone, Copy)]
 struct Opened {
     count: u8,
     class: [AddedClass; AddedClass::MOST],

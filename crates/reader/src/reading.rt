@@ -19,7 +19,7 @@ use units::{common_extent_of, extent_of};
 use walk::stretch::stretch_at;
 
 // A record's struct, and how many of its transfer parameters and values are filled in.
-#[derive(Drop)]
+#[derive(Clone, Copy)]
 struct Filled {
     held: Record,
     transfers: usize,

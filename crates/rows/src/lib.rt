@@ -1,7 +1,7 @@
 // The lent table of rows, as octets and as structs: here thin functions over the count of the rows and the walk from one to the next.
 #![tactic(auto)]
 
-pub mod octets;
+pub mod in_octets;
 pub mod opened;
 
 ghost use Rattle.annex.specs.Promises.{SpansPromise, OrderPromise};

@@ -1,0 +1,8 @@
+-- `is_code` meets its contract: its tests are those of the definition.
+use borrow.Author.Rules.{rules}
+use Rattle.annex.specs.Digits.{is_code}
+use Rattle.codes.proofs.is_code.Goals as goal
+
+pub returns : goal.returns
+unfolding is_code
+returns c = rw (← c.last_code.ensures, ← c.other_zero.ensures)
