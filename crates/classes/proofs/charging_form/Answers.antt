@@ -1,0 +1,16 @@
+-- `charging_form` meets its contract: over the numbers of each arm the class is computed.
+use mathlib.Core.List.{[]}
+use native.Mathlib.Omega.{arith}
+use Rattle.annex.specs.declared.Class.TheVariants.{Named, Spare}
+use Rattle.annex.specs.declared.ClassAnswer.TheVariants.{Is}
+use Rattle.classes.specs.Listed.{listed_class}
+use Rattle.classes.proofs.Arms.{in_range}
+use Rattle.classes.proofs.charging_form.Goals as goal
+
+pub returns-in-0-to-3 : goal.returns-in-0-to-3
+unfolding listed_class
+returns-in-0-to-3 c = in_range 0x67 (Is Named) [] 0 4 tt c.args.octet tt (omega arith) (omega arith)
+
+pub returns-in_default : goal.returns-in_default
+unfolding listed_class
+returns-in_default c = in_range 0x67 (Is Spare) [] 4 252 tt c.args.octet tt (omega arith) (omega arith)

@@ -1,0 +1,16 @@
+-- `charging_order` meets its contract: over the numbers of each arm the class is computed.
+use mathlib.Core.List.{[]}
+use native.Mathlib.Omega.{arith}
+use Rattle.classes.specs.Listed.{listed_class}
+use Rattle.annex.specs.declared.Class.TheVariants.{Named, Spare}
+use Rattle.annex.specs.declared.ClassAnswer.TheVariants.{Is}
+use Rattle.classes.proofs.Arms.{in_range}
+use Rattle.classes.proofs.charging_order.Goals as goal
+
+pub returns-in-0-to-1 : goal.returns-in-0-to-1
+unfolding listed_class
+returns-in-0-to-1 c = in_range 0x7C (Is Named) [] 0 2 tt c.args.octet tt (omega arith) (omega arith)
+
+pub returns-in_default : goal.returns-in_default
+unfolding listed_class
+returns-in_default c = in_range 0x7C (Is Spare) [] 2 254 tt c.args.octet tt (omega arith) (omega arith)

@@ -1,0 +1,23 @@
+use Prim.Native.Nat.{◌+◌, ◌-◌, ◌*◌, ◌/◌, ◌≤◌}
+use native.Mathlib.Nat.{sub-zero, add-zero, add_assoc}
+use native.Mathlib.Omega.{arith}
+use mathlib.Core.Path.{◌≡◌, sym, ap, ◌∙◌}
+use borrow.Author.Rules.{rules}
+use borrow.Author.Tests.{not-true, not-false}
+use lib.ListN.{drop}
+use Rattle.annex.specs.Units.{halves_in}
+use Rattle.annex.specs.Digits.{halves, halves_fault, digits_fault}
+use Rattle.annex.specs.declared.HalfOctets.{HalfOctets}
+use Rattle.laws.specs.Halves.{length-halves}
+use Rattle.digits.proofs.Turns.{halves_turn, halves_end}
+use Rattle.digits.proofs.judging.first_fault.Goals as goal
+
+pub loop-i-init : goal.loop-i-init
+unfolding digits_fault
+loop-i-init c =
+    (omega arith, ap (λ (n : HalfOctets). n.0) c.of-halves.ensures, simp (sub-zero, add-zero))
+
+pub returns : goal.returns
+returns c =
+    let s = c.args.s.now in
+    sym (c.loop-i.invariant.2 ∙ halves_end _ _ c.loop-i.i _ (halves s) (omega (arith, length-halves s)))

@@ -1,0 +1,21 @@
+-- `pack_fitting` meets its contract: before each turn the octets of the first 2 i digits stand at the front of the room; an odd last digit
+-- follows at the end.
+use Prim.Native.Nat.{◌+◌, ◌-◌, ◌*◌, ◌/◌, ◌≤◌}
+use native.Mathlib.Omega.{arith}
+use mathlib.Core.Path.{◌≡◌, refl, ◌∙◌}
+use borrow.Author.Rules.{rules}
+use lib.ListN.{length, get_or, take, length-set}
+use lib.Seq.{sets}
+use Rattle.annex.specs.Digits.{packed}
+use Rattle.annex.specs.Memory.{low_octets}
+use Rattle.laws.specs.Written.{written_turn, written_end}
+use Rattle.laws.specs.Joined.{length-packed}
+use Rattle.digits.proofs.Pairs.{pair_octet, last_octet}
+use Rattle.digits.proofs.packing.pack_fitting.Given as goal
+
+abbrev pub invariant-loop-i : goal.invariant-loop-i
+invariant-loop-i l =
+    (l.i ≤ l.n) × (length l.room ≡ length l.initial.room) × (l.room ≡ sets l.initial.room 0 (take l.i (low_octets (packed l.z l.digits))))
+
+abbrev pub decreases-loop-i : goal.decreases-loop-i
+decreases-loop-i l = l.n - l.i
