@@ -26,6 +26,7 @@ BY_HAND = {
     "and-true": "and-true",
     "carrier-row-octets": "octets_to_a_carrier_row",
     "row-octets": "octets_to_a_row",
+    "over-limits": "over_the_limits",
     "common-head": "octets_to_a_common_head",
     "transfer-head": "octets_to_a_transfer_head",
 }
@@ -47,7 +48,7 @@ def collect():
     """name: its kinds ('definition', 'field', 'lemma') and the files of each"""
     kinds = collections.defaultdict(lambda: collections.defaultdict(set))
     for path in files(".antt"):
-        proof = os.path.basename(path) in GENERATED
+        proof = os.path.basename(path) in GENERATED and "/proofs/" in path
         record = False
         with open(path, encoding="utf-8") as f:
             for line in f:

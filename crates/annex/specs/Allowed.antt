@@ -1,7 +1,7 @@
 -- What a record may be: document 01, "Common part", "Transfer data" and "Writing", and of the sequence document 02, request d; one line for
 -- each rule. Nothing here mentions reading, and nothing but what is wrong with one parameter's values says in which order a refusal comes.
 use Rattle.std.specs.Prelude.{ℕ, suc, ◌+◌, ◌≤◌, ◌<◌, ◌≡◌, Bool, true, cond, ◌&&◌, List, [], ◌∷◌, ◌++◌, map, eqb, leb, ltb, length, get_or, drop}
-use Rattle.annex.specs.Answers.{bad-digit, formedThen, isSound}
+use Rattle.annex.specs.Answers.{bad_digit, formed_then, is_sound}
 use Rattle.annex.specs.Units.{name_of, after_of, extent_of}
 use Rattle.annex.specs.Heads.{
   withheld,
@@ -96,15 +96,15 @@ number_right w i = fields_right i && cond (w && eqb i.presentation withheld) (wi
 
 -- Writing, 13: each digit is one of the twelve values that a record holds for digits
 abbrev pub values_fault : List ℕ → Fault
-values_fault ds = cond (every is_digit ds) Sound (Bad bad-digit 0)
+values_fault ds = cond (every is_digit ds) Sound (Bad bad_digit 0)
 
 -- Writing, 12, 13 and 18: contents held as they are have the faults of contents; of digits and numbers, a mark or field has too many
 -- bits, or a value is no digit
 abbrev pub fault_as : Holding → Item → Fault
 fault_as AsContents i = fault_of i.header i.values
-fault_as (AsDigits m) i = formedThen (marks_right m i) (values_fault i.values)
-fault_as (AsNumber w) i = formedThen (number_right w i) (values_fault i.values)
-fault_as AsGeneric i = formedThen (fields_right i) (values_fault (drop 1 i.values))
+fault_as (AsDigits m) i = formed_then (marks_right m i) (values_fault i.values)
+fault_as (AsNumber w) i = formed_then (number_right w i) (values_fault i.values)
+fault_as AsGeneric i = formed_then (fields_right i) (values_fault (drop 1 i.values))
 
 -- what is wrong with the values of a parameter
 unfoldable pub fault_in : Item → Fault
@@ -189,7 +189,7 @@ pub record Allowed (r : List Part) : Type 0 where
   pub plis_right : every (λ i. pli_right i.header) (items_in r) ≡ true
   pub names_often : at_most often_of (names_of (items_in r)) ≡ true
   pub lengths_right : every length_right (items_in r) ≡ true
-  pub faults_none : every (λ i. isSound (fault_in i)) (items_in r) ≡ true
+  pub faults_none : every (λ i. is_sound (fault_in i)) (items_in r) ≡ true
 
 -- what a record that is written may be: for now, what one that is read may be
 abbrev pub Writable : List Part → Type 0

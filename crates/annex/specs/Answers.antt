@@ -13,8 +13,8 @@ use Rattle.annex.specs.declared.ClassAnswer.{ClassAnswer}
 use Rattle.annex.specs.declared.ClassAnswer.TheVariants as classes
 
 -- 1: a message of no octets or of more than 272, or a record beyond what a record may hold
-abbrev pub over-limits : ℕ
-over-limits = 1
+abbrev pub over_the_limits : ℕ
+over_the_limits = 1
 
 -- 2: a common header that is not in the list
 abbrev pub unlisted : ℕ
@@ -29,8 +29,8 @@ abbrev pub cut_short : ℕ
 cut_short = 4
 
 -- 5: a user class, a signal kind or the number of a sequence that is not allowed; the last by document 02, request d
-abbrev pub not-allowed : ℕ
-not-allowed = 5
+abbrev pub not_allowed : ℕ
+not_allowed = 5
 
 -- 6: the end mark comes before user class and signal kind have both stood
 abbrev pub missing : ℕ
@@ -41,32 +41,32 @@ abbrev pub left_over : ℕ
 left_over = 7
 
 -- 8: a transfer name that is not in use
-abbrev pub unused-name : ℕ
-unused-name = 8
+abbrev pub unused_name : ℕ
+unused_name = 8
 
 -- 9: a transfer name under a PLI that it does not have
-abbrev pub other-pli : ℕ
-other-pli = 9
+abbrev pub other_pli : ℕ
+other_pli = 9
 
 -- 10: a transfer name oftener than it may stand
-abbrev pub repeated-name : ℕ
-repeated-name = 10
+abbrev pub repeated_name : ℕ
+repeated_name = 10
 
 -- 11: contents run past the end of the transfer data; or, to be written or edited, are not as long as the PLI asks
-abbrev pub cut-contents : ℕ
-cut-contents = 11
+abbrev pub cut_contents : ℕ
+cut_contents = 11
 
 -- 12: a bit that must be 0 is set, the contents are of the wrong form, or a value is too large for its bits
-abbrev pub bad-form : ℕ
-bad-form = 12
+abbrev pub bad_form : ℕ
+bad_form = 12
 
 -- 13: a digit code without a meaning, a character that is no digit, or a half-octet left over that is not 0
-abbrev pub bad-digit : ℕ
-bad-digit = 13
+abbrev pub bad_digit : ℕ
+bad_digit = 13
 
 -- 14: more than 255 octets of transfer data
-abbrev pub transfer-over : ℕ
-transfer-over = 14
+abbrev pub transfer_over : ℕ
+transfer_over = 14
 
 -- 15: what is lent is too short
 abbrev pub no_room : ℕ
@@ -77,21 +77,21 @@ abbrev pub absent : ℕ
 absent = 16
 
 -- 17: the code values of this header have no classes
-abbrev pub no-class-list : ℕ
-no-class-list = 17
+abbrev pub no_class_list : ℕ
+no_class_list = 17
 
 -- 18: the check digit of charging information does not fit its digits (document 02, request a)
-abbrev pub check-digit : ℕ
-check-digit = 18
+abbrev pub check_digit : ℕ
+check_digit = 18
 
 -- 19: a connection form or a header that is not in the tables, one that may not stand under the form, or one for the second time
 -- (document 02, request b)
-abbrev pub wrong-order : ℕ
-wrong-order = 19
+abbrev pub wrong_order : ℕ
+wrong_order = 19
 
 -- 20: a rule of the mobile call profile is not kept (document 02, request f)
-abbrev pub outside-profile : ℕ
-outside-profile = 20
+abbrev pub outside_profile : ℕ
+outside_profile = 20
 
 -- the number of an answer, 0 where accepted; its place, 0 where accepted; and the count that it gives, 0 where refused
 abbrev pub number_of : Answer → ℕ
@@ -107,63 +107,63 @@ given_of (Accepted n) = n
 given_of (Refused k p) = 0
 
 -- what lent room holds after an answer: so many elements written at its front and those past them as before; unchanged where refused
-abbrev pub roomAfter : {A : Type 0} → Answer → List A → List A → List A
-roomAfter (Accepted n) written room = written ++ drop n room
-roomAfter (Refused k p) written room = room
+abbrev pub room_after : {A : Type 0} → Answer → List A → List A → List A
+room_after (Accepted n) written room = written ++ drop n room
+room_after (Refused k p) written room = room
 
 -- the number of a fault, 0 where there is none, and the offset of the octet in the contents
-abbrev pub faultNumberOf : Fault → ℕ
-faultNumberOf Sound = 0
-faultNumberOf (Bad k i) = k
+abbrev pub fault_number_of : Fault → ℕ
+fault_number_of Sound = 0
+fault_number_of (Bad k i) = k
 
 abbrev pub offset_of : Fault → ℕ
 offset_of Sound = 0
 offset_of (Bad k i) = i
 
 -- faults in their order: 12 where the form is not kept, and else another
-abbrev pub formedThen : Bool → Fault → Fault
-formedThen true f = f
-formedThen false f = Bad bad-form 0
+abbrev pub formed_then : Bool → Fault → Fault
+formed_then true f = f
+formed_then false f = Bad bad_form 0
 
 abbrev pub formed : Bool → Fault
-formed b = formedThen b Sound
+formed b = formed_then b Sound
 
 -- one fault, and where there is none another
-abbrev pub faultThen : Fault → Fault → Fault
-faultThen Sound g = g
-faultThen (Bad k i) g = Bad k i
+abbrev pub fault_then : Fault → Fault → Fault
+fault_then Sound g = g
+fault_then (Bad k i) g = Bad k i
 
 -- nothing is wrong
-abbrev pub isSound : Fault → Bool
-isSound Sound = true
-isSound (Bad k i) = false
+abbrev pub is_sound : Fault → Bool
+is_sound Sound = true
+is_sound (Bad k i) = false
 
 -- where what was found starts and ends, the empty stretch where there is none
 abbrev pub start_of : Found → ℕ
 start_of (At s e) = s
 start_of Nowhere = 0
 
-abbrev pub stopOf : Found → ℕ
-stopOf (At s e) = e
-stopOf Nowhere = 0
+abbrev pub stop_of : Found → ℕ
+stop_of (At s e) = e
+stop_of Nowhere = 0
 
 -- the classes as numbers, and the number, place and class of a class answer
-abbrev pub classValueOf : Class → ℕ
-classValueOf Named = 0
-classValueOf HeldBack = 1
-classValueOf Spare = 2
+abbrev pub class_value_of : Class → ℕ
+class_value_of Named = 0
+class_value_of HeldBack = 1
+class_value_of Spare = 2
 
-abbrev pub classNumberOf : ClassAnswer → ℕ
-classNumberOf (classes.Is c) = 0
-classNumberOf (classes.Refused k p) = k
+abbrev pub class_number_of : ClassAnswer → ℕ
+class_number_of (classes.Is c) = 0
+class_number_of (classes.Refused k p) = k
 
-abbrev pub classPlaceOf : ClassAnswer → ℕ
-classPlaceOf (classes.Is c) = 0
-classPlaceOf (classes.Refused k p) = p
+abbrev pub class_place_of : ClassAnswer → ℕ
+class_place_of (classes.Is c) = 0
+class_place_of (classes.Refused k p) = p
 
-abbrev pub classGivenOf : ClassAnswer → ℕ
-classGivenOf (classes.Is c) = classValueOf c
-classGivenOf (classes.Refused k p) = 0
+abbrev pub class_given_of : ClassAnswer → ℕ
+class_given_of (classes.Is c) = class_value_of c
+class_given_of (classes.Refused k p) = 0
 
 -- refused with the number k at the place p if the test holds, and else what follows
 abbrev pub refuse : Bool → ℕ → ℕ → Answer → Answer
@@ -171,9 +171,9 @@ refuse true k p a = Refused k p
 refuse false k p a = a
 
 -- refused with a fault's number, at the place that `place` makes of number and offset, and else what follows
-abbrev pub soundThen : (ℕ → ℕ → ℕ) → Fault → Answer → Answer
-soundThen place Sound a = a
-soundThen place (Bad k i) a = Refused k (place k i)
+abbrev pub sound_then : (ℕ → ℕ → ℕ) → Fault → Answer → Answer
+sound_then place Sound a = a
+sound_then place (Bad k i) a = Refused k (place k i)
 
 -- a fault is told at the header, which stands at p: in writing and in editing
 abbrev pub header_at : ℕ → ℕ → ℕ → ℕ
@@ -181,8 +181,8 @@ header_at p k i = p
 
 -- where reading tells it, counted from the header, of contents that start so many octets behind it: 13 at the octet (document 02, request
 -- e), any other number at the header
-abbrev pub readingAt : ℕ → ℕ → ℕ → ℕ
-readingAt start k i = cond (eqb k bad-digit) (start + i) 0
+abbrev pub reading_at : ℕ → ℕ → ℕ → ℕ
+reading_at start k i = cond (eqb k bad_digit) (start + i) 0
 
 -- what follows an accepted step; a refusal is passed on
 abbrev pub and_then : Answer → (ℕ → Answer) → Answer

@@ -3,7 +3,7 @@
 -- entries may hold: one rule says for both what the form is (12), one where the first bad digit stands (13). The form of all of CC is
 -- looked at before any digit.
 use Rattle.std.specs.Prelude.{ℕ, ◌+◌, Bool, true, cond, not, ◌&&◌, List, [], ◌∷◌, eqb, leb, length, get_or, drop}
-use Rattle.annex.specs.Answers.{formedThen, faultThen}
+use Rattle.annex.specs.Answers.{formed_then, fault_then}
 use Rattle.annex.specs.Heads.{among}
 use Rattle.annex.specs.Digits.{digits_fault, digits_of, count_behind}
 use Rattle.annex.specs.Walk.{Par, Size, size_by, pars}
@@ -76,7 +76,7 @@ entries_formed lowest right at xs =
 -- 13: the first of some entries with which something is wrong
 unfoldable pub entries_fault : (Par → Fault) → List Par → Fault
 entries_fault fault [] = Sound
-entries_fault fault (q ∷ qs) = faultThen (fault q) (entries_fault fault qs)
+entries_fault fault (q ∷ qs) = fault_then (fault q) (entries_fault fault qs)
 
 -- ---- a carrier code
 
@@ -137,4 +137,4 @@ carriers_formed s =
 
 -- 12 wherever it is, then 13
 unfoldable pub carriers_fault : List ℕ → Fault
-carriers_fault s = formedThen (carriers_formed s) (entries_fault carrier_fault (carriers_in s))
+carriers_fault s = formed_then (carriers_formed s) (entries_fault carrier_fault (carriers_in s))

@@ -1,7 +1,7 @@
 -- The charging information of a message, beside its record: document 02, request a. Reading's numbers, then 16 where there is no F7, or
 -- what F7 says; and the same as octets for Rust and C.
 use Rattle.std.specs.Prelude.{ℕ, List, [], ◌∷◌, ◌++◌, map, ltb, length}
-use Rattle.annex.specs.Answers.{no_room, refuse, roomAfter}
+use Rattle.annex.specs.Answers.{no_room, refuse, room_after}
 use Rattle.annex.specs.Units.{name_of}
 use Rattle.annex.specs.Heads.{charging_information}
 use Rattle.annex.specs.Rates.{fields, charges_of, value_of}
@@ -79,4 +79,4 @@ octet_charging m room = octet_charging_by (charging_of m) room
 
 -- what the room then holds: the octets at its front, and behind them what was there; unchanged where refused
 unfoldable pub octet_charged : List ℕ → List ℕ → List ℕ
-octet_charged m room = roomAfter (octet_charging m (length room)) (charge_octets_by (charging_of m)) room
+octet_charged m room = room_after (octet_charging m (length room)) (charge_octets_by (charging_of m)) room

@@ -1,6 +1,6 @@
 -- Classes of code values: document 01, "Classes of code values", and refusals 17 and 12, in that order.
 use Rattle.std.specs.Prelude.{ℕ, ◌/◌, ◌%◌, Bool, false, cond, ◌&&◌, ◌||◌, List, [], ◌∷◌, eqb, leb}
-use Rattle.annex.specs.Answers.{bad-form, no-class-list}
+use Rattle.annex.specs.Answers.{bad_form, no_class_list}
 use Rattle.annex.specs.Heads.{clear, zeroes_of}
 use Rattle.annex.specs.declared.Class.{Class}
 use Rattle.annex.specs.declared.Class.TheVariants.{Named, HeldBack, Spare}
@@ -64,8 +64,8 @@ abbrev pub class_by : ClassList → ℕ → Class
 class_by l x = cond (seen_in l.look x l.named) Named (cond (seen_in l.look x l.held) HeldBack Spare)
 
 abbrev pub class_in : List ClassList → ℕ → ℕ → ClassAnswer
-class_in [] h x = Refused no-class-list 0
-class_in (l ∷ ls) h x = cond (eqb h l.header) (cond (clear (zeroes_of h) x) (Is (class_by l x)) (Refused bad-form 0)) (class_in ls h x)
+class_in [] h x = Refused no_class_list 0
+class_in (l ∷ ls) h x = cond (eqb h l.header) (cond (clear (zeroes_of h) x) (Is (class_by l x)) (Refused bad_form 0)) (class_in ls h x)
 
 -- asked with a header and an octet
 unfoldable pub class_of : ℕ → ℕ → ClassAnswer

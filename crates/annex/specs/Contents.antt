@@ -2,7 +2,7 @@
 -- b and g, with refusals 18 and 19. 12 comes before 13 and 13 before 18; in a connection order 19 comes first of each part. The offset is
 -- that of the octet in the contents.
 use Rattle.std.specs.Prelude.{ℕ, ◌+◌, ◌-◌, ◌/◌, ◌%◌, cond, not, ◌&&◌, List, eqb, ltb, length, get_or, drop}
-use Rattle.annex.specs.Answers.{formedThen, formed, faultThen, check-digit}
+use Rattle.annex.specs.Answers.{formed_then, formed, fault_then, check_digit}
 use Rattle.annex.specs.Units.{counted_by}
 use Rattle.annex.specs.Heads.{added_calling_number, withheld, clear, zeroes_of, form_of}
 use Rattle.annex.specs.declared.Check.{Check}
@@ -30,7 +30,7 @@ calling_fault s =
 
 -- Transfer data, DA: a first octet, which says whether a number follows (06) or anything at all
 unfoldable pub generic_fault : List ℕ → Fault
-generic_fault s = formedThen (not (eqb (length s) 0)) (cond (eqb (get_or s 0 0) added_calling_number) (number_fault 1 (drop 1 s)) Sound)
+generic_fault s = formed_then (not (eqb (length s) 0)) (cond (eqb (get_or s 0 0) added_calling_number) (number_fault 1 (drop 1 s)) Sound)
 
 -- Transfer data, PLI 10: the count octet, then its digits
 unfoldable pub dialled_fault : List ℕ → Fault
@@ -44,9 +44,9 @@ two_fault mask s = formed (eqb (length s) 2 && clear mask (get_or s 1 0))
 -- them, fits
 unfoldable pub charging_fault : List ℕ → Fault
 charging_fault s =
-    formedThen (is_kind (kind_in s) && eqb (length s) (2 + length (drawn_for (kind_in s))))
-    (faultThen (drawn_fault 2 (drawn_for (kind_in s)) (field_octets s))
-    (cond (check_right (kind_in s) (field_octets s)) Sound (Bad check-digit (length s - 1))))
+    formed_then (is_kind (kind_in s) && eqb (length s) (2 + length (drawn_for (kind_in s))))
+    (fault_then (drawn_fault 2 (drawn_for (kind_in s)) (field_octets s))
+    (cond (check_right (kind_in s) (field_octets s)) Sound (Bad check_digit (length s - 1))))
 
 -- contents that a record holds as they are, by their check
 abbrev pub check_fault : Check → List ℕ → Fault
@@ -66,7 +66,7 @@ fault_by Generic s = generic_fault s
 
 -- the contents s: first these bits of their first octet that must be 0, then the form
 abbrev pub fault_under : ℕ → Form → List ℕ → Fault
-fault_under zeroes form s = formedThen (clear zeroes (get_or s 0 0)) (fault_by form s)
+fault_under zeroes form s = formed_then (clear zeroes (get_or s 0 0)) (fault_by form s)
 
 -- as the header h asks it
 unfoldable pub fault_of : ℕ → List ℕ → Fault

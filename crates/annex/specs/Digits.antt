@@ -1,6 +1,6 @@
 -- Digits in half-octets: document 01, "Transfer data", PLI 10 and D7.
 use Rattle.std.specs.Prelude.{ℕ, zero, suc, ◌+◌, ◌-◌, ◌*◌, ◌/◌, ◌%◌, Bool, cond, not, ◌&&◌, List, [], ◌∷◌, map, eqb, leb, ltb, length, get_or, take, drop}
-use Rattle.annex.specs.Answers.{bad-digit, formedThen}
+use Rattle.annex.specs.Answers.{bad_digit, formed_then}
 use Rattle.annex.specs.Units.{halves_of, halves_in}
 use Rattle.annex.specs.declared.HalfOctets.{HalfOctets}
 use Rattle.annex.specs.declared.Alphabet.{Alphabet}
@@ -63,8 +63,8 @@ is_digit_in Decimal d = leb d 9
 -- the first half that is not as it must be: of the first n a digit, of the others 0. i counts the halves from the contents' start
 unfoldable pub halves_fault : Alphabet → ℕ → ℕ → List ℕ → Fault
 halves_fault z n i [] = Sound
-halves_fault z zero i (h ∷ hs) = cond (eqb h 0) (halves_fault z zero (i + 1) hs) (Bad bad-digit (i / 2))
-halves_fault z (suc n) i (h ∷ hs) = cond (is_code z h) (halves_fault z n (i + 1) hs) (Bad bad-digit (i / 2))
+halves_fault z zero i (h ∷ hs) = cond (eqb h 0) (halves_fault z zero (i + 1) hs) (Bad bad_digit (i / 2))
+halves_fault z (suc n) i (h ∷ hs) = cond (is_code z h) (halves_fault z n (i + 1) hs) (Bad bad_digit (i / 2))
 
 -- the octets s, the first of them at the offset `at` of the contents, hold n digits and filler
 unfoldable pub digits_fault : Alphabet → HalfOctets → ℕ → List ℕ → Fault
@@ -99,8 +99,8 @@ count_of s = count_behind 2 s
 -- set a digit octet too; then the digits, in some code, with filler after an odd count
 unfoldable pub number_fault_in : Alphabet → ℕ → List ℕ → Fault
 number_fault_in z at s =
-    formedThen (not (ltb (length s) 2))
-    (formedThen (not (eqb (odd_of s) 1 && eqb (length s) 2))
+    formed_then (not (ltb (length s) 2))
+    (formed_then (not (eqb (odd_of s) 1 && eqb (length s) 2))
     (digits_fault z (count_of s) (at + 2) (drop 2 s)))
 
 -- in D7's own code

@@ -2,13 +2,13 @@
 -- so edited, and what the buffer then holds.
 use Rattle.std.specs.Prelude.{ℕ, ◌-◌, cond, not, List, [], ◌∷◌, ◌++◌, map, eqb, ltb, leb, length, get_or, take, drop, replicate}
 use Rattle.annex.specs.Answers.{
-  repeated-name,
-  cut-contents,
-  transfer-over,
+  repeated_name,
+  cut_contents,
+  transfer_over,
   no_room,
   absent,
   refuse,
-  soundThen,
+  sound_then,
   header_at,
   and_then,
 }
@@ -42,15 +42,15 @@ new_item new = item_of (new_header new) (contents_in (extent_of (new_header new)
 
 -- 11, 8 and 9 of the new octets' header
 abbrev pub new_head : List ℕ → Answer → Answer
-new_head new a = refuse (eqb (length new) 0) cut-contents 0 (head_writing 0 (new_header new) a)
+new_head new a = refuse (eqb (length new) 0) cut_contents 0 (head_writing 0 (new_header new) a)
 
 -- 11 of the octets after it, and what is wrong with their contents
 abbrev pub new_contents : List ℕ → Answer
 new_contents new =
     let h = new_header new in
     let xs = new_after new in
-    refuse (not (eqb (length xs) (after_of (extent_of h) (get_or xs 0 0)))) cut-contents 0
-    (soundThen (header_at 0) (fault_of h (contents_in (extent_of h) xs))
+    refuse (not (eqb (length xs) (after_of (extent_of h) (get_or xs 0 0)))) cut_contents 0
+    (sound_then (header_at 0) (fault_of h (contents_in (extent_of h) xs))
     (Accepted 0))
 
 -- what the edit itself is refused for; the parameters are those of C5
@@ -59,7 +59,7 @@ edit_refusal (Replacing new which) is =
     new_head new (refuse (leb (times_in (name_of (new_header new)) (names_of is)) which) absent 0 (new_contents new))
 edit_refusal (Appending new) is =
     new_head new
-    (refuse (leb (often_of (name_of (new_header new))) (times_in (name_of (new_header new)) (names_of is))) repeated-name 0
+    (refuse (leb (often_of (name_of (new_header new))) (times_in (name_of (new_header new)) (names_of is))) repeated_name 0
     (new_contents new))
 edit_refusal (Removing x which) is = refuse (leb (times_in x (names_of is)) which) absent 0 (Accepted 0)
 
@@ -88,7 +88,7 @@ record_editing e r room =
     refuse (not (among transfer_data (headers_of r))) absent 0
     (and_then (edit_refusal e (items_in r))
     (λ _.
-    refuse (ltb most_transfer_octets (length (layout_items (items_in (edited e r))))) transfer-over 0
+    refuse (ltb most_transfer_octets (length (layout_items (items_in (edited e r))))) transfer_over 0
     (refuse (ltb room (length (layout (edited e r)))) no_room 0
     (Accepted (length (layout (edited e r)))))))
 

@@ -2,7 +2,7 @@
 -- listing. `at` is the offset of the next tag, `end` where the carrier entry ends that it stands in; between carrier entries `end` is `at`.
 -- No rule of the documents; in contents of the right form the entries from the first cursor on are those of Carriers.
 use Rattle.std.specs.Prelude.{ℕ, ◌-◌, Bool, cond, ◌&&◌, List, ltb, length, get_or, take, drop}
-use Rattle.annex.specs.Answers.{start_of, stopOf}
+use Rattle.annex.specs.Answers.{start_of, stop_of}
 use Rattle.annex.specs.Carriers.{holds_code}
 use Rattle.annex.specs.Walking.{stretch_at, cursor_to}
 use Rattle.annex.specs.declared.CountingUnit.TheVariants.{Octet}
@@ -37,7 +37,7 @@ entry_next s c = entry_behind s c (entry_stretch s c)
 abbrev pub entry_inside : List ℕ → Cursor → List ℕ
 entry_inside s c =
     let f = entry_stretch s c in
-    take (stopOf f - start_of f) (drop (start_of f) s)
+    take (stop_of f - start_of f) (drop (start_of f) s)
 
 -- it holds a code
 abbrev pub is_code_here : List ℕ → Cursor → Bool

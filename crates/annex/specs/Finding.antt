@@ -1,7 +1,7 @@
 -- Finding contents: document 01, "Finding contents", and which of those with a name, document 02, request g: where they stand, the part
 -- itself, and the answer to the second question; 16 comes after reading's numbers.
 use Rattle.std.specs.Prelude.{ℕ, ◌+◌, ◌-◌, cond, List, [], ◌∷◌, eqb, length, take, drop}
-use Rattle.annex.specs.Answers.{start_of, stopOf, absent, and_then}
+use Rattle.annex.specs.Answers.{start_of, stop_of, absent, and_then}
 use Rattle.annex.specs.Units.{name_of, lead_of, extent_of, common_extent_of}
 use Rattle.annex.specs.Heads.{end_mark, transfer_data, kth}
 use Rattle.annex.specs.Walk.{Par}
@@ -57,7 +57,7 @@ find_answer m f = and_then (verdict_of m) (λ _. found_answer f)
 
 -- the stretch itself
 abbrev pub found_part : List ℕ → Found → List ℕ
-found_part m f = take (stopOf f - start_of f) (drop (start_of f) m)
+found_part m f = take (stop_of f - start_of f) (drop (start_of f) m)
 
 abbrev pub part_by : Answer → List ℕ → Found → List ℕ
 part_by (Accepted n) m f = found_part m f

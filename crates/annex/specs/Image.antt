@@ -1,6 +1,6 @@
 -- A record's image as octets, for calls from Rust and C: the values of a record one after the other, and before what is counted its count.
 use Rattle.std.specs.Prelude.{ℕ, zero, suc, ◌+◌, ◌*◌, ◌/◌, ◌%◌, Bool, cond, ◌&&◌, List, [], ◌∷◌, ◌++◌, eqb, leb, length, get_or, take, drop}
-use Rattle.annex.specs.Answers.{over-limits}
+use Rattle.annex.specs.Answers.{over_the_limits}
 use Rattle.annex.specs.Heads.{transfer_data, most_commons, most_transfers, most_transfer_octets, most_values}
 use Rattle.annex.specs.Items.{Item, Part, own_more_data}
 use Rattle.annex.specs.Allowed.{items_in}
@@ -119,7 +119,7 @@ parts_front (suc n) s =
 
 -- no record: 1 at 0, and the empty struct
 abbrev pub no_image : Imaged
-no_image = record { answer = Refused over-limits 0; held = pack [] }
+no_image = record { answer = Refused over_the_limits 0; held = pack [] }
 
 -- the limits of the struct
 unfoldable pub is_within : List Part → Bool

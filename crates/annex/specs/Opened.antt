@@ -1,7 +1,7 @@
 -- The connection order of a message, listed beside its record: document 02, request b. Reading's numbers, then 16 where there is no E0,
 -- then 15; a row to the form and one to each parameter: message offset, header, and how many octets follow it, of the form none.
 use Rattle.std.specs.Prelude.{ℕ, ◌+◌, List, [], ◌∷◌, map, ltb, length, get_or, drop}
-use Rattle.annex.specs.Answers.{start_of, no_room, refuse, and_then, roomAfter}
+use Rattle.annex.specs.Answers.{start_of, no_room, refuse, and_then, room_after}
 use Rattle.annex.specs.Units.{name_of}
 use Rattle.annex.specs.Heads.{connection_order}
 use Rattle.annex.specs.Orders.{OrderParameter, order_parameter, OpenedOrder, order_size}
@@ -61,4 +61,4 @@ order_answer m room =
 
 -- what the table then holds: the rows at its front, those past the last as before; unchanged where refused
 unfoldable pub order_table : List ℕ → List Row → List Row
-order_table m table = roomAfter (order_answer m (length table)) (order_rows_of m) table
+order_table m table = room_after (order_answer m (length table)) (order_rows_of m) table

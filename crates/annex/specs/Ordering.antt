@@ -1,7 +1,7 @@
 -- The rows of a connection order from a cursor on, by the length rule alone, in octets of any kind: what the functions give that serve its
 -- listing. No rule of the documents; in an accepted message the rows from the first cursor on are those of Opened.
 use Rattle.std.specs.Prelude.{ℕ, zero, suc, ◌+◌, cond, List, [], ◌∷◌, map, eqb, leb, ltb, length, get_or, take, drop}
-use Rattle.annex.specs.Answers.{start_of, stopOf}
+use Rattle.annex.specs.Answers.{start_of, stop_of}
 use Rattle.annex.specs.Units.{name_of}
 use Rattle.annex.specs.Heads.{connection_order}
 use Rattle.annex.specs.Orders.{order_size}
@@ -15,7 +15,7 @@ use Rattle.annex.specs.declared.Row.{Row}
 abbrev pub order_span : List ℕ → Cursor
 order_span m =
     let f = transfer_plain (name_of connection_order) 0 m in
-    cursor_to (start_of f) (stopOf f)
+    cursor_to (start_of f) (stop_of f)
 
 -- the octets from a cursor on; none where it is past its end, or that is past the message
 abbrev pub order_left : List ℕ → Cursor → List ℕ

@@ -3,7 +3,7 @@
 -- and its listing follow from it. The headers are of an order alone: 41 to 43, 91 and CC to CF are not the transfer parameters
 -- of those numbers.
 use Rattle.std.specs.Prelude.{ℕ, zero, suc, ◌+◌, ◌%◌, Bool, true, false, cond, not, ◌&&◌, ◌||◌, List, [], ◌∷◌, ◌++◌, map, eqb, leb, length, get_or, take, drop}
-use Rattle.annex.specs.Answers.{bad-form, bad-digit, wrong-order, formedThen, formed, faultThen, isSound}
+use Rattle.annex.specs.Answers.{bad_form, bad_digit, wrong_order, formed_then, formed, fault_then, is_sound}
 use Rattle.annex.specs.Units.{whole_count, octets_of}
 use Rattle.annex.specs.Heads.{among}
 use Rattle.annex.specs.Digits.{digits_fault, number_fault_in}
@@ -125,7 +125,7 @@ is_are_character x = is_figure x || (eqb x 0x3B || eqb x 0x03)
 -- 13: the first octet that is none of some characters; `at` is the offset of the first octet in the contents of E0
 unfoldable pub outside_fault : (ℕ → Bool) → ℕ → List ℕ → Fault
 outside_fault known at [] = Sound
-outside_fault known at (x ∷ xs) = cond (known x) (outside_fault known (at + 1) xs) (Bad bad-digit at)
+outside_fault known at (x ∷ xs) = cond (known x) (outside_fault known (at + 1) xs) (Bad bad_digit at)
 
 -- the repeat count, the second octet: forever, or up to three times
 abbrev pub repeat_right : List ℕ → Bool
@@ -133,11 +133,11 @@ repeat_right s = leb (get_or s 1 0) 3
 
 -- 92: as D7 with decimal digits, and nothing in bits 3-0 of the second octet
 unfoldable pub forward_fault : ℕ → List ℕ → Fault
-forward_fault at s = formedThen (eqb (get_or s 1 0 % 16) 0) (number_fault_in Decimal at s)
+forward_fault at s = formed_then (eqb (get_or s 1 0 % 16) 0) (number_fault_in Decimal at s)
 
 -- C9, CA and CD: a code, the repeat count, and at least one character
 unfoldable pub control_fault : ℕ → List ℕ → Fault
-control_fault at s = formedThen (leb 3 (length s) && repeat_right s) (outside_fault is_are_character (at + 2) (drop 2 s))
+control_fault at s = formed_then (leb 3 (length s) && repeat_right s) (outside_fault is_are_character (at + 2) (drop 2 s))
 
 -- CC: the kind of conversion, the repeat count, and a key, which may be empty
 unfoldable pub logic_fault : List ℕ → Fault
@@ -160,29 +160,29 @@ layout_fault WaitingTime at own = outside_fault is_figure at own
 -- 19 comes first of a form and of a header
 abbrev pub ordered : Bool → Fault
 ordered true = Sound
-ordered false = Bad wrong-order 0
+ordered false = Bad wrong_order 0
 
 -- the octets xs from behind a header to the end of the order: cut short is 12
 unfoldable pub own_fault : OrderLayout → ℕ → List ℕ → Fault
 own_fault l at xs =
     let n = order_after l (get_or xs 0 0) in
-    formedThen (leb n (length xs)) (layout_fault l at (take n xs))
+    formed_then (leb n (length xs)) (layout_fault l at (take n xs))
 
 -- a parameter under a form, with the header h and the octets xs after it, behind parameters with the headers `before`
 unfoldable pub parameter_fault : ℕ → List ℕ → ℕ → ℕ → List ℕ → Fault
-parameter_fault form before at h xs = faultThen (ordered (may_stand form h && not (among h before))) (own_fault (layout_of h) at xs)
+parameter_fault form before at h xs = fault_then (ordered (may_stand form h && not (among h before))) (own_fault (layout_of h) at xs)
 
 -- the parameters from left to right: k octets still belong to the one before, and `at` is the offset of the next octet
 unfoldable pub parameters_fault : ℕ → List ℕ → ℕ → ℕ → List ℕ → Fault
 parameters_fault form before k at [] = Sound
 parameters_fault form before (suc k) at (x ∷ xs) = parameters_fault form before k (at + 1) xs
 parameters_fault form before zero at (x ∷ xs) =
-    faultThen (parameter_fault form before (at + 1) x xs) (parameters_fault form (x ∷ before) (order_size x xs) (at + 1) xs)
+    fault_then (parameter_fault form before (at + 1) x xs) (parameters_fault form (x ∷ before) (order_size x xs) (at + 1) xs)
 
 -- the contents of E0: its form, then its parameters
 unfoldable pub order_fault : List ℕ → Fault
-order_fault [] = Bad bad-form 0
-order_fault (form ∷ xs) = faultThen (ordered (among form order_forms)) (parameters_fault form [] 0 1 xs)
+order_fault [] = Bad bad_form 0
+order_fault (form ∷ xs) = fault_then (ordered (among form order_forms)) (parameters_fault form [] 0 1 xs)
 
 -- ---- what an order may be
 
@@ -213,7 +213,7 @@ abbrev pub parameter_right : ℕ → OrderParameter → Bool
 parameter_right form p =
     let l = layout_of p.header in
     may_stand form p.header
-    && (eqb (length p.own) (order_after l (get_or p.own 0 0)) && isSound (layout_fault l 0 p.own))
+    && (eqb (length p.own) (order_after l (get_or p.own 0 0)) && is_sound (layout_fault l 0 p.own))
 
 -- each header stands once
 abbrev pub once : List ℕ → Bool

@@ -6,13 +6,13 @@ use Rattle.annex.specs.Answers.{
   number_of,
   place_of,
   given_of,
-  classNumberOf,
-  classPlaceOf,
-  classGivenOf,
+  class_number_of,
+  class_place_of,
+  class_given_of,
   no_room,
   refuse,
   and_then,
-  roomAfter,
+  room_after,
 }
 use Rattle.annex.specs.Layout.{lay_all, layout}
 use Rattle.annex.specs.Reading.{verdict_of, record_of}
@@ -48,7 +48,7 @@ packed_stretch a part = packed_length a (length part)
 
 -- 0 named, 1 held back, 2 spare, or number and place
 abbrev pub packed_class : ClassAnswer → ℕ
-packed_class a = one_number (classNumberOf a) (classPlaceOf a) (classGivenOf a)
+packed_class a = one_number (class_number_of a) (class_place_of a) (class_given_of a)
 
 -- ---- a message read to its record's image
 
@@ -60,7 +60,7 @@ image_reading m room =
 
 -- what the room then holds: the image at its front, octets past it as before; unchanged where refused
 unfoldable pub image_read : List ℕ → List ℕ → List ℕ
-image_read m room = roomAfter (image_reading m (length room)) (image_of (record_of m)) room
+image_read m room = room_after (image_reading m (length room)) (image_of (record_of m)) room
 
 -- ---- a message written from a record's image
 
@@ -70,7 +70,7 @@ image_writing image room = and_then (imaged_of image).answer (λ _. writing_of (
 
 -- what the room then holds
 unfoldable pub image_written : List ℕ → List ℕ → List ℕ
-image_written image room = roomAfter (image_writing image (length room)) (layout (view (imaged_of image).held)) room
+image_written image room = room_after (image_writing image (length room)) (layout (view (imaged_of image).held)) room
 
 -- ---- the same by the mobile call profile
 
@@ -79,14 +79,14 @@ unfoldable pub profile_image_reading : List ℕ → ℕ → Answer
 profile_image_reading m room = and_then (profile_verdict m) (λ _. image_reading m room)
 
 unfoldable pub profile_image_read : List ℕ → List ℕ → List ℕ
-profile_image_read m room = roomAfter (profile_image_reading m (length room)) (image_of (record_of m)) room
+profile_image_read m room = room_after (profile_image_reading m (length room)) (image_of (record_of m)) room
 
 -- 1 where the octets are no image, then the refusals of the profile's writing
 unfoldable pub profile_image_writing : List ℕ → ℕ → Answer
 profile_image_writing image room = and_then (imaged_of image).answer (λ _. profile_writing (imaged_of image).held room)
 
 unfoldable pub profile_image_written : List ℕ → List ℕ → List ℕ
-profile_image_written image room = roomAfter (profile_image_writing image (length room)) (layout (view (imaged_of image).held)) room
+profile_image_written image room = room_after (profile_image_writing image (length room)) (layout (view (imaged_of image).held)) room
 
 -- ---- a message's rows
 

@@ -1,7 +1,7 @@
 -- The mobile call profile: document 02, request f, with the annex's figure 3.1 and item (35). What it asks of a record, apart from the
 -- order of refusals; then this order, in reading and in writing, and what is told beside the record.
 use Rattle.std.specs.Prelude.{ℕ, ◌-◌, ◌%◌, ◌≡◌, Bool, true, false, cond, not, ◌&&◌, ◌||◌, List, [], ◌∷◌, map, eqb, ltb, length, get_or}
-use Rattle.annex.specs.Answers.{outside-profile, no_room, absent, refuse, and_then, roomAfter}
+use Rattle.annex.specs.Answers.{outside_profile, no_room, absent, refuse, and_then, room_after}
 use Rattle.annex.specs.Heads.{among, signal_kind}
 use Rattle.annex.specs.Orders.{once}
 use Rattle.annex.specs.Items.{Item, Part}
@@ -119,7 +119,7 @@ is_in_profile r =
 
 -- behind the refusals of a message or a record: 20 at the end mark, the last of the message's n octets
 abbrev pub profiled : List Part → Answer → Answer
-profiled r a = and_then a (λ n. refuse (not (is_in_profile r)) outside-profile (n - 1) (Accepted n))
+profiled r a = and_then a (λ n. refuse (not (is_in_profile r)) outside_profile (n - 1) (Accepted n))
 
 -- reading: its own numbers first
 unfoldable pub profile_verdict : List ℕ → Answer
@@ -134,7 +134,7 @@ profile_writing s room = and_then (profile_refusal s) (λ n. refuse (ltb room n)
 
 -- what the room then holds
 unfoldable pub profile_written : Record → List ℕ → List ℕ
-profile_written s room = roomAfter (profile_writing s (length room)) (layout (view s)) room
+profile_written s room = room_after (profile_writing s (length room)) (layout (view s)) room
 
 -- ---- what is told beside the record
 
@@ -185,4 +185,4 @@ classes_answer m room =
 
 -- what the room then holds
 unfoldable pub classes_given : List ℕ → List ℕ → List ℕ
-classes_given m room = roomAfter (classes_answer m (length room)) (pair_octets (classes_of (record_of m))) room
+classes_given m room = room_after (classes_answer m (length room)) (pair_octets (classes_of (record_of m))) room

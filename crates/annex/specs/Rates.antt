@@ -1,7 +1,7 @@
 -- Charging information (F7): document 02, request a, with the annex's item (13). Two tables say how each field is drawn and which fields
 -- each kind has. How many octets there are, what each may be, what they add up to and what number a field holds follow from these.
 use Rattle.std.specs.Prelude.{ℕ, zero, suc, ◌+◌, ◌*◌, ◌/◌, ◌%◌, ◌^◌, ◌≡◌, Bool, true, false, cond, ◌&&◌, ◌||◌, List, [], ◌∷◌, ◌++◌, map, eqb, leb, ltb, get_or, take, drop, replicate}
-use Rattle.annex.specs.Answers.{bad-digit}
+use Rattle.annex.specs.Answers.{bad_digit}
 use Rattle.annex.specs.Heads.{among}
 use Rattle.annex.specs.Digits.{zero_from, zero_to}
 use Rattle.annex.specs.declared.Alphabet.TheVariants.{Dialled}
@@ -157,7 +157,7 @@ field_octets s = drop 2 s
 unfoldable pub drawn_fault : ℕ → List Drawn → List ℕ → Fault
 drawn_fault at [] xs = Sound
 drawn_fault at (d ∷ ds) [] = Sound
-drawn_fault at (d ∷ ds) (x ∷ xs) = cond (is_right d x) (drawn_fault (at + 1) ds xs) (Bad bad-digit at)
+drawn_fault at (d ∷ ds) (x ∷ xs) = cond (is_right d x) (drawn_fault (at + 1) ds xs) (Bad bad_digit at)
 
 -- the sum of numbers
 abbrev pub total : List ℕ → ℕ

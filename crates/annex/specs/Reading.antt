@@ -4,20 +4,20 @@
 -- `Contents.fault_of`.
 use Rattle.std.specs.Prelude.{ℕ, ◌+◌, ◌*◌, Bool, cond, not, ◌&&◌, ◌||◌, List, [], ◌∷◌, map, eqb, ltb, leb, length, get_or, take}
 use Rattle.annex.specs.Answers.{
-  over-limits,
+  over_the_limits,
   unlisted,
   repeated,
   cut_short,
-  not-allowed,
+  not_allowed,
   missing,
   left_over,
-  unused-name,
-  other-pli,
-  repeated-name,
-  cut-contents,
+  unused_name,
+  other_pli,
+  repeated_name,
+  cut_contents,
   refuse,
-  soundThen,
-  readingAt,
+  sound_then,
+  reading_at,
   and_then,
   shifted,
 }
@@ -55,7 +55,7 @@ common_form times h xs =
     refuse (not (among h listed_headers)) unlisted 0
     (refuse (ltb 0 times) repeated 0
     (refuse (ltb (length xs) n) cut_short 0
-    (refuse (not (octet_allowed h (get_or xs 0 0))) not-allowed 0
+    (refuse (not (octet_allowed h (get_or xs 0 0))) not_allowed 0
     (Accepted n))))
 
 -- the end mark: 6, then 7 at the first octet after it
@@ -92,11 +92,11 @@ module _ (rule : Rule) where
   unfoldable pub transfer_by : ℕ → ℕ → List ℕ → Answer
   transfer_by times h xs =
       let n = after_of (extent_of h) (get_or xs 0 0) in
-      refuse (not (name_used h)) unused-name 0
-      (refuse (not (pli_right h)) other-pli 0
-      (refuse (leb (often_of (name_of h)) times) repeated-name 0
-      (refuse (ltb (length xs) n) cut-contents 0
-      (soundThen (readingAt (1 + lead_of (extent_of h))) (rule h (contents_in (extent_of h) (take n xs)))
+      refuse (not (name_used h)) unused_name 0
+      (refuse (not (pli_right h)) other_pli 0
+      (refuse (leb (often_of (name_of h)) times) repeated_name 0
+      (refuse (ltb (length xs) n) cut_contents 0
+      (sound_then (reading_at (1 + lead_of (extent_of h))) (rule h (contents_in (extent_of h) (take n xs)))
       (Accepted n)))))
 
   abbrev pub transfer_step_by : Step
@@ -126,7 +126,7 @@ module _ (rule : Rule) where
 
   -- the verdict of a message: accepted with its length, or the first refusal
   unfoldable pub verdict_by : List ℕ → Answer
-  verdict_by m = refuse (eqb (length m) 0 || ltb most_octets (length m)) over-limits 0 (message_verdict_by m)
+  verdict_by m = refuse (eqb (length m) 0 || ltb most_octets (length m)) over_the_limits 0 (message_verdict_by m)
 
   -- ---- the record of an accepted message
 

@@ -1,7 +1,7 @@
 -- Spans: document 01, "Spans": the rows of a message, those of C5 right behind its own, the end mark's last; 15 comes after reading's
 -- numbers; and what the table then holds. As reading is, they are by a rule of contents; the names at the end are by the rule in force.
 use Rattle.std.specs.Prelude.{ℕ, ◌+◌, ◌-◌, cond, List, [], ◌∷◌, ◌++◌, eqb, ltb, length}
-use Rattle.annex.specs.Answers.{no_room, refuse, and_then, roomAfter}
+use Rattle.annex.specs.Answers.{no_room, refuse, and_then, room_after}
 use Rattle.annex.specs.Units.{lead_of, extent_of, common_extent_of}
 use Rattle.annex.specs.Heads.{transfer_data}
 use Rattle.annex.specs.Contents.{Rule, fault_of}
@@ -55,4 +55,4 @@ spans_of = spans_by fault_of
 
 -- what the table then holds
 unfoldable pub table_of : List ℕ → List Row → List Row
-table_of m table = roomAfter (spans_of m (length table)) (rows_of m) table
+table_of m table = room_after (spans_of m (length table)) (rows_of m) table

@@ -2,7 +2,7 @@
 -- the entries of contents in their order; and for a message reading's numbers, then 16 where that CC is not there, then 15. A row to the
 -- direction and one to each entry, each dependent entry right behind the carrier entry that it stands in; and the digits of a code.
 use Rattle.std.specs.Prelude.{ℕ, ◌+◌, ◌*◌, ◌/◌, ◌%◌, Bool, true, cond, not, ◌&&◌, List, [], ◌∷◌, ◌++◌, map, eqb, leb, ltb, length, get_or}
-use Rattle.annex.specs.Answers.{start_of, no_room, absent, refuse, and_then, roomAfter}
+use Rattle.annex.specs.Answers.{start_of, no_room, absent, refuse, and_then, room_after}
 use Rattle.annex.specs.Units.{name_of}
 use Rattle.annex.specs.Heads.{carriers}
 use Rattle.annex.specs.Digits.{is_digit_in, packed}
@@ -180,4 +180,4 @@ digits_answer m which row room =
 -- what the room then holds: the digits at its front, one an octet, octets past them as before; unchanged where refused
 unfoldable pub digits_given : List ℕ → ℕ → ℕ → List ℕ → List ℕ
 digits_given m which row room =
-    roomAfter (digits_answer m which row (length room)) (digits_in (entry_found which row m)) room
+    room_after (digits_answer m which row (length room)) (digits_in (entry_found which row m)) room

@@ -3,23 +3,23 @@
 -- holds.
 use Rattle.std.specs.Prelude.{ℕ, ◌+◌, ◌-◌, Bool, cond, not, ◌||◌, List, [], ◌∷◌, eqb, leb, ltb, length}
 use Rattle.annex.specs.Answers.{
-  over-limits,
+  over_the_limits,
   unlisted,
   repeated,
-  not-allowed,
+  not_allowed,
   missing,
-  unused-name,
-  other-pli,
-  repeated-name,
-  cut-contents,
-  bad-form,
-  transfer-over,
+  unused_name,
+  other_pli,
+  repeated_name,
+  cut_contents,
+  bad_form,
+  transfer_over,
   no_room,
   refuse,
-  soundThen,
+  sound_then,
   header_at,
   and_then,
-  roomAfter,
+  room_after,
 }
 use Rattle.annex.specs.Units.{name_of}
 use Rattle.annex.specs.Heads.{
@@ -46,16 +46,16 @@ use Rattle.annex.specs.declared.Answer.TheVariants.{Accepted}
 -- 8 and 9 of a header that is to be written, its place p, in a record or as the new parameter of an edit; and then what follows. A header
 -- that may be read and not written would be refused here, after 9
 abbrev pub head_writing : ℕ → ℕ → Answer → Answer
-head_writing p h a = refuse (not (name_used h)) unused-name p (refuse (not (pli_right h)) other-pli p a)
+head_writing p h a = refuse (not (name_used h)) unused_name p (refuse (not (pli_right h)) other_pli p a)
 
 -- a transfer parameter whose name stood so many times before, its header at the place p: 8 to 11, what is wrong with its values, or the
 -- place behind it
 unfoldable pub item_writing : ℕ → ℕ → Item → Answer
 item_writing times p i =
     head_writing p i.header
-    (refuse (leb (often_of (name_of i.header)) times) repeated-name p
-    (refuse (not (length_right i)) cut-contents p
-    (soundThen (header_at p) (fault_in i)
+    (refuse (leb (often_of (name_of i.header)) times) repeated_name p
+    (refuse (not (length_right i)) cut_contents p
+    (sound_then (header_at p) (fault_in i)
     (Accepted (p + length (layout_item i))))))
 
 -- transfer parameters from the place p on, or the place behind them
@@ -67,7 +67,7 @@ items_writing seen p (i ∷ is) =
 -- C5, its header at the place p: its parameters start behind the length octet; then 14
 unfoldable pub data_writing : ℕ → List Item → Answer
 data_writing p is =
-    and_then (items_writing unseen (p + 2) is) (λ q. refuse (ltb most_transfer_octets (q - (p + 2))) transfer-over p (Accepted q))
+    and_then (items_writing unseen (p + 2) is) (λ q. refuse (ltb most_transfer_octets (q - (p + 2))) transfer_over p (Accepted q))
 
 -- a common parameter whose name stood so many times before, its header at the place p: 2, 3, 5, a mark or number too large for its bits 12,
 -- and for C5 its parameters; or the place behind it
@@ -75,8 +75,8 @@ unfoldable pub part_writing : ℕ → ℕ → Part → Answer
 part_writing times p q =
     refuse (not (among q.header common_headers)) unlisted p
     (refuse (ltb 0 times) repeated p
-    (refuse (not (value_right q)) not-allowed p
-    (refuse (not (value_fits q)) bad-form p
+    (refuse (not (value_right q)) not_allowed p
+    (refuse (not (value_fits q)) bad_form p
     (cond (eqb q.header transfer_data) (data_writing p q.items)
     (Accepted (p + length (layout_part q)))))))
 
@@ -98,7 +98,7 @@ over_limits r =
 
 -- a record, room aside: the message's length, or the first refusal
 unfoldable pub record_writing : List Part → Answer
-record_writing r = refuse (over_limits r) over-limits 0 (parts_writing unseen 0 r)
+record_writing r = refuse (over_limits r) over_the_limits 0 (parts_writing unseen 0 r)
 
 -- a struct over its limits: its counts or lengths leave its arrays, or its record is over them
 abbrev pub struct_over : Record → Bool
@@ -106,7 +106,7 @@ struct_over s = not (is_whole s) || over_limits (view s)
 
 -- a struct: one whose counts or lengths leave its arrays is over its limits
 unfoldable pub struct_writing : Record → Answer
-struct_writing s = refuse (not (is_whole s)) over-limits 0 (record_writing (view s))
+struct_writing s = refuse (not (is_whole s)) over_the_limits 0 (record_writing (view s))
 
 -- and where the message goes: 15 where the room is shorter
 unfoldable pub writing_of : Record → ℕ → Answer
@@ -114,4 +114,4 @@ writing_of s room = and_then (struct_writing s) (λ n. refuse (ltb room n) no_ro
 
 -- what the room then holds
 unfoldable pub written_of : Record → List ℕ → List ℕ
-written_of s room = roomAfter (writing_of s (length room)) (layout (view s)) room
+written_of s room = room_after (writing_of s (length room)) (layout (view s)) room

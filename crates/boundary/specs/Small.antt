@@ -3,7 +3,7 @@
 use Rattle.std.specs.Prelude.{ℕ, ◌+◌, ◌-◌, ◌/◌, ◌%◌, ◌≤◌, ◌<◌, ◌≡◌, refl, Bool, true, false, cond, List, [], ◌∷◌, eqb, ltb, length, take, drop}
 use Rattle.std.proofs.Common.{arith, length-take, length-drop}
 use Rattle.annex.specs.Answers.{
-  bad-form,
+  bad_form,
   no_room,
   start_of,
   number_of,
@@ -11,9 +11,9 @@ use Rattle.annex.specs.Answers.{
   given_of,
   refuse,
   and_then,
-  classValueOf,
-  classPlaceOf,
-  classGivenOf,
+  class_value_of,
+  class_place_of,
+  class_given_of,
 }
 use Rattle.annex.specs.Units.{name_of}
 use Rattle.annex.specs.Heads.{clear, charging_information, connection_order, most_octets, zeroes_of}
@@ -191,19 +191,19 @@ editing_upto e d n o w = (place_told farthest (editing_of e d n) (editing_place 
 
 -- ---- classes
 
-class_value : (c : Class) → classValueOf c ≤ 2
+class_value : (c : Class) → class_value_of c ≤ 2
 class_value Named = omega arith
 class_value HeldBack = omega arith
 class_value Spare = omega arith
 
 abbrev Few : ClassAnswer → Type 0
-Few a = (classPlaceOf a ≡ 0) × (classGivenOf a ≤ 2)
+Few a = (class_place_of a ≡ 0) × (class_given_of a ≤ 2)
 
 pub class_few : (h x : ℕ) → Few (class_of h x)
 unfolding class_of
 class_few h x = among_few class_lists
   where
-    one : (b c : Bool) (k : Class) (rest : ClassAnswer) → Few rest → Few (cond b (cond c (classes.Is k) (classes.Refused bad-form 0)) rest)
+    one : (b c : Bool) (k : Class) (rest : ClassAnswer) → Few rest → Few (cond b (cond c (classes.Is k) (classes.Refused bad_form 0)) rest)
     one true true k rest u = (refl, class_value k)
     one true false k rest u = (refl, omega arith)
     one false c k rest u = u

@@ -1,7 +1,7 @@
 -- Places and values are below 2^16 where a message is read to an image, or written from one.
 use Rattle.std.specs.Prelude.{ℕ, ◌+◌, ◌-◌, ◌*◌, ◌/◌, ◌≤◌, ◌≡◌, refl, Bool, true, false, cond, not, ◌||◌, ◌&&◌, List, [], ◌∷◌, ◌++◌, eqb, ltb, length}
 use Rattle.std.proofs.Common.{arith, ap, ◌∙◌, ltb-false, le-ltb, length-append}
-use Rattle.annex.specs.Answers.{over-limits, missing, transfer-over, no_room, number_of, refuse, and_then}
+use Rattle.annex.specs.Answers.{over_the_limits, missing, transfer_over, no_room, number_of, refuse, and_then}
 use Rattle.annex.specs.Units.{extent_of}
 use Rattle.annex.specs.Heads.{among, common_headers, transfer_data, is_call, most_commons, most_transfers, most_transfer_octets}
 use Rattle.annex.specs.Items.{Item, Part}
@@ -94,9 +94,9 @@ data_upto : (p : ℕ) (is : List Item) → Upto (p + 2 + length (layout_items is
 unfolding data_writing
 data_upto p is =
     let n = p + 2 + length (layout_items is) in
-    upto_then (items_writing unseen (p + 2) is) (λ q. refuse (ltb most_transfer_octets (q - (p + 2))) transfer-over p (Accepted q)) n n
+    upto_then (items_writing unseen (p + 2) is) (λ q. refuse (ltb most_transfer_octets (q - (p + 2))) transfer_over p (Accepted q)) n n
     (omega arith) (items_upto is unseen (p + 2))
-    (λ q h. upto_refuse (ltb most_transfer_octets (q - (p + 2))) transfer-over p n (Accepted q) (omega arith) (omega arith, h))
+    (λ q h. upto_refuse (ltb most_transfer_octets (q - (p + 2))) transfer_over p n (Accepted q) (omega arith) (omega arith, h))
 
 part_upto : (times p : ℕ) (q : Part) → Upto (p + length (layout_part q)) (part_writing times p q)
 unfolding part_writing layout_part
@@ -169,7 +169,7 @@ record_upto r =
   where
     go : (a b c : Bool) → (a ≡ false → length r ≤ most_commons) → (b ≡ false → length (items_in r) ≤ most_transfers)
         → (c ≡ false → contents_sum (items_in r) ≤ most_transfer_octets)
-        → Upto most_written (refuse (a || (b || c)) over-limits 0 (parts_writing unseen 0 r))
+        → Upto most_written (refuse (a || (b || c)) over_the_limits 0 (parts_writing unseen 0 r))
     go true b c h i j = (omega arith, omega arith)
     go false true c h i j = (omega arith, omega arith)
     go false false true h i j = (omega arith, omega arith)
@@ -179,7 +179,7 @@ record_upto r =
 
 pub struct_upto : (s : Record) → Upto most_written (struct_writing s)
 unfolding struct_writing
-struct_upto s = upto_refuse (not (is_whole s)) over-limits 0 most_written (record_writing (view s)) (omega arith) (record_upto (view s))
+struct_upto s = upto_refuse (not (is_whole s)) over_the_limits 0 most_written (record_writing (view s)) (omega arith) (record_upto (view s))
 
 -- then the room
 pub room_upto : (a : Answer) (room : ℕ) → Upto most_written a

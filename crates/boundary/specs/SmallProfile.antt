@@ -2,7 +2,7 @@
 -- pairs of any D6 that it takes.
 use Rattle.std.specs.Prelude.{ℕ, ◌*◌, ◌-◌, ◌/◌, ◌≤◌, ◌≡◌, refl, Bool, true, false, cond, not, List, [], ◌∷◌, ltb, length}
 use Rattle.std.proofs.Common.{arith, le-ltb}
-use Rattle.annex.specs.Answers.{outside-profile, absent, no_room, number_of, refuse, and_then}
+use Rattle.annex.specs.Answers.{outside_profile, absent, no_room, number_of, refuse, and_then}
 use Rattle.annex.specs.Items.{Item, Part}
 use Rattle.annex.specs.Allowed.{every, Each, is_octet, items_in}
 use Rattle.annex.specs.Reading.{verdict_of, record_of}
@@ -38,8 +38,8 @@ use Rattle.boundary.specs.SmallImages.{image_upto, most_written, struct_upto, ro
 -- the end mark is no further than the message
 profiled_upto : (k : ℕ) (r : List Part) (a : Answer) → Upto k a → Upto k (profiled r a)
 profiled_upto k r a u =
-    upto_then a (λ n. refuse (not (is_in_profile r)) outside-profile (n - 1) (Accepted n)) k k (omega arith) u
-    (λ n h. upto_refuse (not (is_in_profile r)) outside-profile (n - 1) k (Accepted n) (omega arith) (omega arith, h))
+    upto_then a (λ n. refuse (not (is_in_profile r)) outside_profile (n - 1) (Accepted n)) k k (omega arith) u
+    (λ n h. upto_refuse (not (is_in_profile r)) outside_profile (n - 1) k (Accepted n) (omega arith) (omega arith, h))
 
 verdict_small : (m : List ℕ) → Upto farthest (profile_verdict m)
 unfolding profile_verdict

@@ -3,7 +3,7 @@
 #![tactic(auto)]
 
 ghost use Rattle.std.specs.Prelude.{◌≡◌};
-ghost use Rattle.annex.specs.Answers.{classValueOf};
+ghost use Rattle.annex.specs.Answers.{class_value_of};
 ghost use Rattle.annex.specs.Editing.{Edit.Replacing, Edit.Appending, Edit.Removing};
 ghost use Rattle.annex.specs.Packed.{one_number, packed_answer, packed_length};
 ghost use Rattle.annex.specs.Promises.{
@@ -62,7 +62,7 @@ fn pack_answer(a: Answer) -> u64
 }
 
 fn class_value(c: Class) -> usize
-    ensures { result ≡ classValueOf c }
+    ensures { result ≡ class_value_of c }
 {
     match c {
         Class::Named => 0,

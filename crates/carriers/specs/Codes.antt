@@ -4,7 +4,7 @@ use Rattle.std.proofs.Common.{zero-add, arith, sym, ap, ◌∙◌, ltb-true, ltb
 use Rattle.std.specs.Prelude.{◌≡◌, refl, Bool, true, false, cond, ◌&&◌, leb, ltb, length, get_or, take, drop}
 use mathlib.Core.List.{List}
 use Rattle.std.proofs.lemmas.List.Edits.{sets}
-use Rattle.annex.specs.Answers.{no_room, absent, roomAfter}
+use Rattle.annex.specs.Answers.{no_room, absent, room_after}
 use Rattle.annex.specs.Carriers.{holds_code, code_count, code_digits, carriers_in}
 use Rattle.annex.specs.Digits.{digits_of}
 use Rattle.annex.specs.Entering.{in_carrier, entry_stretch, entry_inside, is_code_here}
@@ -48,7 +48,7 @@ entry_at s c = get_or (entries_left s c) 0 no_entry
 abbrev pub DigitsTold : List ℕ → Cursor → List ℕ → Answer → List ℕ → Type 0
 DigitsTold s c room r now =
     let a = code_answer (entry_at s c) (length room) in
-    (r ≡ a) × (now ≡ roomAfter a (digits_in (entry_at s c)) room)
+    (r ≡ a) × (now ≡ room_after a (digits_in (entry_at s c)) room)
 
 -- ---- whether it is a code
 

@@ -6,7 +6,7 @@ use Prim.Native.Nat.{ℕ, ◌+◌, ◌*◌, ◌/◌, ◌%◌, ◌≤◌, ◌<◌
 use native.Mathlib.Omega.{arith}
 use lib.Dec.{T, eqb, eqb→eq}
 use types.Run.{OneOf}
-use Rattle.annex.specs.Answers.{no-class-list, classValueOf}
+use Rattle.annex.specs.Answers.{no_class_list, class_value_of}
 use Rattle.annex.specs.Heads.{among}
 use Rattle.annex.specs.Classes.{ClassList, class_by}
 use Rattle.annex.specs.declared.Class.{Class}
@@ -19,7 +19,7 @@ use Rattle.classes.specs.Listed.{listed_in, listed_class}
 
 -- the two classes are one
 abbrev same_class : Class → Class → Bool
-same_class a b = eqb (classValueOf a) (classValueOf b)
+same_class a b = eqb (class_value_of a) (class_value_of b)
 
 same_class_lem : (a b : Class) → T (same_class a b) → a ≡ b
 same_class_lem Named Named t = refl
@@ -75,11 +75,11 @@ listed [] = []
 listed (l ∷ ls) = l.header ∷ listed ls
 
 -- a header without a list: 17
-pub unlisted : (ls : List ClassList) (h x : ℕ) → T (not (among h (listed ls))) → Refused no-class-list 0 ≡ listed_in ls h x
+pub unlisted : (ls : List ClassList) (h x : ℕ) → T (not (among h (listed ls))) → Refused no_class_list 0 ≡ listed_in ls h x
 unlisted [] h x t = refl
 unlisted (l ∷ ls) h x t = go (eqb h l.header) t (unlisted ls h x)
   where
-    go : (b : Bool) → T (not (b || among h (listed ls))) → (T (not (among h (listed ls))) → Refused no-class-list 0 ≡ listed_in ls h x)
-        → Refused no-class-list 0 ≡ cond b (Is (class_by l x)) (listed_in ls h x)
+    go : (b : Bool) → T (not (b || among h (listed ls))) → (T (not (among h (listed ls))) → Refused no_class_list 0 ≡ listed_in ls h x)
+        → Refused no_class_list 0 ≡ cond b (Is (class_by l x)) (listed_in ls h x)
     go true u r = absurd u
     go false u r = r u

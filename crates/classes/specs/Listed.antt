@@ -1,13 +1,13 @@
 -- The class of an octet by its header's list alone; the bits that must be 0 are asked after.
 use Rattle.std.specs.Prelude.{ℕ, ◌≡◌, refl, Bool, true, false, cond, List, [], ◌∷◌, eqb}
-use Rattle.annex.specs.Answers.{bad-form, no-class-list}
+use Rattle.annex.specs.Answers.{bad_form, no_class_list}
 use Rattle.annex.specs.Heads.{clear, zeroes_of}
 use Rattle.annex.specs.Classes.{ClassList, class_lists, class_by, class_in, class_of}
 use Rattle.annex.specs.declared.ClassAnswer.{ClassAnswer}
 use Rattle.annex.specs.declared.ClassAnswer.TheVariants.{Is, Refused}
 
 abbrev pub listed_in : List ClassList → ℕ → ℕ → ClassAnswer
-listed_in [] h x = Refused no-class-list 0
+listed_in [] h x = Refused no_class_list 0
 listed_in (l ∷ ls) h x = cond (eqb h l.header) (Is (class_by l x)) (listed_in ls h x)
 
 unfoldable pub listed_class : ℕ → ℕ → ClassAnswer
@@ -15,7 +15,7 @@ listed_class h x = listed_in class_lists h x
 
 -- a class where the bits are clear, and else 12; a refusal is passed on
 abbrev pub where_clear : Bool → ClassAnswer → ClassAnswer
-where_clear b (Is k) = cond b (Is k) (Refused bad-form 0)
+where_clear b (Is k) = cond b (Is k) (Refused bad_form 0)
 where_clear b (Refused k p) = Refused k p
 
 cleared : (ls : List ClassList) (h x : ℕ) → where_clear (clear (zeroes_of h) x) (listed_in ls h x) ≡ class_in ls h x
@@ -24,7 +24,7 @@ cleared (l ∷ ls) h x = by (eqb h l.header) (cleared ls h x)
   where
     by : (b : Bool) → where_clear (clear (zeroes_of h) x) (listed_in ls h x) ≡ class_in ls h x
         → where_clear (clear (zeroes_of h) x) (cond b (Is (class_by l x)) (listed_in ls h x))
-        ≡ cond b (cond (clear (zeroes_of h) x) (Is (class_by l x)) (Refused bad-form 0)) (class_in ls h x)
+        ≡ cond b (cond (clear (zeroes_of h) x) (Is (class_by l x)) (Refused bad_form 0)) (class_in ls h x)
     by true r = refl
     by false r = r
 

@@ -4,7 +4,7 @@
 -- A function answers `r`; `now` is what it leaves in the memory it was lent. A slice of octets is a list of numbers, each below 256
 -- (`Octetwise`), and a struct has arrays of their lengths, with numbers that fit their fields (`FitsStruct`): that is what the types say.
 use Rattle.std.specs.Prelude.{ℕ, ◌+◌, ◌*◌, ◌/◌, ◌%◌, ◌≤◌, ◌<◌, ◌≡◌, Bool, true, false, List, [], ◌∷◌, ◌++◌, ◌↔◌, length, get_or, take, drop}
-use Rattle.annex.specs.Answers.{bad-digit, absent, outside-profile, number_of, classNumberOf}
+use Rattle.annex.specs.Answers.{bad_digit, absent, outside_profile, number_of, class_number_of}
 use Rattle.annex.specs.Units.{name_of}
 use Rattle.annex.specs.Heads.{among, end_mark, sequence, sequence_number, charging_information, connection_order, carriers}
 use Rattle.annex.specs.Rates.{charges_of, charged_contents, Chargeable}
@@ -158,48 +158,48 @@ pub record PackedLending (before : List ℕ) (d : Answer) (P : ℕ → List ℕ 
 -- place at most. Of its own new parameter an edit tells the place 0.
 pub record Showing (m : List ℕ) : Type 0 where
   pub one_place : (p q : ℕ) → ShownAt m p → ShownAt m q → p ≡ q
-  pub verdict : (p : ℕ) → VerdictPromise m (Refused bad-digit p) → ShownAt m p
-  pub read : (q : Record) (p : ℕ) → ReadPromise m (record { answer = Refused bad-digit p; «record» = q }) → ShownAt m p
-  pub find_common : (h p : ℕ) → FindCommonAnswerPromise m h (Refused bad-digit p) → ShownAt m p
-  pub find_transfer : (x which p : ℕ) → FindTransferAnswerPromise m x which (Refused bad-digit p) → ShownAt m p
-  pub check : (room p : ℕ) → SpansCheckPromise m room (Refused bad-digit p) → ShownAt m p
-  pub check_order : (room p : ℕ) → OrderCheckPromise m room (Refused bad-digit p) → ShownAt m p
-  pub charging : (p : ℕ) → ChargingPromise m (chargings.Refused bad-digit p) → ShownAt m p
-  pub profile_verdict : (p : ℕ) → ProfileVerdictPromise m (Refused bad-digit p) → ShownAt m p
+  pub verdict : (p : ℕ) → VerdictPromise m (Refused bad_digit p) → ShownAt m p
+  pub read : (q : Record) (p : ℕ) → ReadPromise m (record { answer = Refused bad_digit p; «record» = q }) → ShownAt m p
+  pub find_common : (h p : ℕ) → FindCommonAnswerPromise m h (Refused bad_digit p) → ShownAt m p
+  pub find_transfer : (x which p : ℕ) → FindTransferAnswerPromise m x which (Refused bad_digit p) → ShownAt m p
+  pub check : (room p : ℕ) → SpansCheckPromise m room (Refused bad_digit p) → ShownAt m p
+  pub check_order : (room p : ℕ) → OrderCheckPromise m room (Refused bad_digit p) → ShownAt m p
+  pub charging : (p : ℕ) → ChargingPromise m (chargings.Refused bad_digit p) → ShownAt m p
+  pub profile_verdict : (p : ℕ) → ProfileVerdictPromise m (Refused bad_digit p) → ShownAt m p
   pub profile_read : (q : Record) (t : Profile) (p : ℕ)
-      → ProfileReadPromise m (record { answer = Refused bad-digit p; «record» = q; profile = t }) → ShownAt m p
-  pub spans : (table now : List Row) (p : ℕ) → SpansPromise m table (Refused bad-digit p) now → ShownAt m p
-  pub octet_spans_holds : (table now : List ℕ) (p : ℕ) → OctetSpansPromise m table (Refused bad-digit p) now → ShownAt m p
-  pub order : (table now : List Row) (p : ℕ) → OrderPromise m table (Refused bad-digit p) now → ShownAt m p
-  pub octet_order_holds : (table now : List ℕ) (p : ℕ) → OctetOrderPromise m table (Refused bad-digit p) now → ShownAt m p
-  pub octet_charging_holds : (room now : List ℕ) (p : ℕ) → OctetChargingPromise m room (Refused bad-digit p) now → ShownAt m p
-  pub carriers : (which : ℕ) (table now : List ℕ) (p : ℕ) → CarriersPromise m which table (Refused bad-digit p) now → ShownAt m p
-  pub carrier_digits : (which row : ℕ) (room now : List ℕ) (p : ℕ) → CarrierDigitsPromise m which row room (Refused bad-digit p) now
+      → ProfileReadPromise m (record { answer = Refused bad_digit p; «record» = q; profile = t }) → ShownAt m p
+  pub spans : (table now : List Row) (p : ℕ) → SpansPromise m table (Refused bad_digit p) now → ShownAt m p
+  pub octet_spans_holds : (table now : List ℕ) (p : ℕ) → OctetSpansPromise m table (Refused bad_digit p) now → ShownAt m p
+  pub order : (table now : List Row) (p : ℕ) → OrderPromise m table (Refused bad_digit p) now → ShownAt m p
+  pub octet_order_holds : (table now : List ℕ) (p : ℕ) → OctetOrderPromise m table (Refused bad_digit p) now → ShownAt m p
+  pub octet_charging_holds : (room now : List ℕ) (p : ℕ) → OctetChargingPromise m room (Refused bad_digit p) now → ShownAt m p
+  pub carriers : (which : ℕ) (table now : List ℕ) (p : ℕ) → CarriersPromise m which table (Refused bad_digit p) now → ShownAt m p
+  pub carrier_digits : (which row : ℕ) (room now : List ℕ) (p : ℕ) → CarrierDigitsPromise m which row room (Refused bad_digit p) now
       → ShownAt m p
-  pub read_image : (room now : List ℕ) (p : ℕ) → ImageReadPromise m room (Refused bad-digit p) now → ShownAt m p
-  pub profile_read_image : (room now : List ℕ) (p : ℕ) → ProfileImageReadPromise m room (Refused bad-digit p) now → ShownAt m p
-  pub added_classes : (room now : List ℕ) (p : ℕ) → ClassesPromise m room (Refused bad-digit p) now → ShownAt m p
-  pub edit : (e : Edit) (d : List ℕ) (n : ℕ) → take n d ≡ m → (p : ℕ) (now : List ℕ) → EditPromise e d n (Refused bad-digit p) now
+  pub read_image : (room now : List ℕ) (p : ℕ) → ImageReadPromise m room (Refused bad_digit p) now → ShownAt m p
+  pub profile_read_image : (room now : List ℕ) (p : ℕ) → ProfileImageReadPromise m room (Refused bad_digit p) now → ShownAt m p
+  pub added_classes : (room now : List ℕ) (p : ℕ) → ClassesPromise m room (Refused bad_digit p) now → ShownAt m p
+  pub edit : (e : Edit) (d : List ℕ) (n : ℕ) → take n d ≡ m → (p : ℕ) (now : List ℕ) → EditPromise e d n (Refused bad_digit p) now
       → (v : Answer) → VerdictPromise m v → (IsAccepted v → p ≡ 0) × ((k q : ℕ) → v ≡ Refused k q → ShownAt m p)
-  pub tk_read : (room : List ℕ) (r : ℕ) (now : List ℕ) → TkReadPromise m room r now → packed_number r ≡ bad-digit → ShownAt m (packed_place r)
-  pub tk_rows : (table : List ℕ) (r : ℕ) (now : List ℕ) → TkRowsPromise m table r now → packed_number r ≡ bad-digit
+  pub tk_read : (room : List ℕ) (r : ℕ) (now : List ℕ) → TkReadPromise m room r now → packed_number r ≡ bad_digit → ShownAt m (packed_place r)
+  pub tk_rows : (table : List ℕ) (r : ℕ) (now : List ℕ) → TkRowsPromise m table r now → packed_number r ≡ bad_digit
       → ShownAt m (packed_place r)
-  pub tk_find_common : (h r : ℕ) → TkFindCommonPromise m h r → packed_number r ≡ bad-digit → ShownAt m (packed_place r)
-  pub tk_find_transfer : (x which r : ℕ) → TkFindTransferPromise m x which r → packed_number r ≡ bad-digit → ShownAt m (packed_place r)
-  pub tk_charging : (room : List ℕ) (r : ℕ) (now : List ℕ) → TkChargingPromise m room r now → packed_number r ≡ bad-digit
+  pub tk_find_common : (h r : ℕ) → TkFindCommonPromise m h r → packed_number r ≡ bad_digit → ShownAt m (packed_place r)
+  pub tk_find_transfer : (x which r : ℕ) → TkFindTransferPromise m x which r → packed_number r ≡ bad_digit → ShownAt m (packed_place r)
+  pub tk_charging : (room : List ℕ) (r : ℕ) (now : List ℕ) → TkChargingPromise m room r now → packed_number r ≡ bad_digit
       → ShownAt m (packed_place r)
-  pub tk_order : (table : List ℕ) (r : ℕ) (now : List ℕ) → TkOrderPromise m table r now → packed_number r ≡ bad-digit
+  pub tk_order : (table : List ℕ) (r : ℕ) (now : List ℕ) → TkOrderPromise m table r now → packed_number r ≡ bad_digit
       → ShownAt m (packed_place r)
   pub tk_carriers : (which : ℕ) (table : List ℕ) (r : ℕ) (now : List ℕ) → TkCarriersPromise m which table r now
-      → packed_number r ≡ bad-digit → ShownAt m (packed_place r)
+      → packed_number r ≡ bad_digit → ShownAt m (packed_place r)
   pub tk_carrier_digits : (which row : ℕ) (room : List ℕ) (r : ℕ) (now : List ℕ) → TkCarrierDigitsPromise m which row room r now
-      → packed_number r ≡ bad-digit → ShownAt m (packed_place r)
-  pub tk_profile_read : (room : List ℕ) (r : ℕ) (now : List ℕ) → TkProfileReadPromise m room r now → packed_number r ≡ bad-digit
+      → packed_number r ≡ bad_digit → ShownAt m (packed_place r)
+  pub tk_profile_read : (room : List ℕ) (r : ℕ) (now : List ℕ) → TkProfileReadPromise m room r now → packed_number r ≡ bad_digit
       → ShownAt m (packed_place r)
-  pub tk_added_classes : (room : List ℕ) (r : ℕ) (now : List ℕ) → TkClassesPromise m room r now → packed_number r ≡ bad-digit
+  pub tk_added_classes : (room : List ℕ) (r : ℕ) (now : List ℕ) → TkClassesPromise m room r now → packed_number r ≡ bad_digit
       → ShownAt m (packed_place r)
   pub tk_edit : (e : Edit) (d : List ℕ) (n : ℕ) → take n d ≡ m → (r : ℕ) (now : List ℕ) → TkEditPromise e d n r now
-      → packed_number r ≡ bad-digit → (v : Answer) → VerdictPromise m v
+      → packed_number r ≡ bad_digit → (v : Answer) → VerdictPromise m v
       → (IsAccepted v → packed_place r ≡ 0) × ((k q : ℕ) → v ≡ Refused k q → ShownAt m (packed_place r))
 
 pub record Demand1 : Type 0 where
@@ -237,7 +237,7 @@ pub record Demand1 : Type 0 where
   pub tk_find_common : (m : List ℕ) (h : ℕ) → PackedAnswering (number_of (find_answer m (common_found h m))) (TkFindCommonPromise m h)
   pub tk_find_transfer : (m : List ℕ) (x which : ℕ)
       → PackedAnswering (number_of (find_answer m (transfer_found x which m))) (TkFindTransferPromise m x which)
-  pub tk_class : (h x : ℕ) → PackedAnswering (classNumberOf (class_of h x)) (TkClassPromise h x)
+  pub tk_class : (h x : ℕ) → PackedAnswering (class_number_of (class_of h x)) (TkClassPromise h x)
   pub tk_charging : (m room : List ℕ) → PackedLending room (octet_charging m (length room)) (TkChargingPromise m room)
   pub tk_order : (m table : List ℕ) → PackedLending table (octet_order m (length table)) (TkOrderPromise m table)
   pub tk_carriers : (m : List ℕ) (which : ℕ) (table : List ℕ)
@@ -390,7 +390,7 @@ pub record Demand2 : Type 0 where
   pub profile_passed : (m : List ℕ) (k p : ℕ) → VerdictPromise m (Refused k p) → (r : ProfileReading) → ProfileReadPromise m r
       → r.answer ≡ Refused k p
   pub profile_outside : (s : List Part) → Allowed s → (InProfile s → ⊥) → (r : ProfileReading) → ProfileReadPromise (layout s) r
-      → (p : ℕ) × (r.answer ≡ Refused outside-profile p) × (drop p (layout s) ≡ end_mark ∷ [])
+      → (p : ℕ) × (r.answer ≡ Refused outside_profile p) × (drop p (layout s) ≡ end_mark ∷ [])
   pub profile_none : (m : List ℕ) (r : ProfileReading) → ProfileReadPromise m r → (k p : ℕ) → r.answer ≡ Refused k p
       → (r.«record» ≡ pack []) × (r.profile ≡ profile_of [])
   -- The network told is the one that 7E says. D6's contents are pairs laid out, and the pairs told are the only ones that lay out to them.
@@ -424,7 +424,7 @@ pub record Demand2 : Type 0 where
       → ProfileWritePromise q room w now → w ≡ Refused k p
   pub profile_write_outside : (q : Record) → is_whole q ≡ true → Writable (view q) → (InProfile (view q) → ⊥)
       → (room : List ℕ) (w : Answer) (now : List ℕ) → ProfileWritePromise q room w now
-      → (p : ℕ) × (w ≡ Refused outside-profile p) × (drop p (layout (view q)) ≡ end_mark ∷ [])
+      → (p : ℕ) × (w ≡ Refused outside_profile p) × (drop p (layout (view q)) ≡ end_mark ∷ [])
   -- The pairs as octets are D6's contents, where the lent room suffices for them. 16 is answered exactly if there is no D6.
   pub classes_told : (s : List Part) → Allowed s → InProfile s → (front : List Item) (one : Item) (back : List Item)
       → items_in s ≡ front ++ (one ∷ back) → one.header ≡ added_class

@@ -2,7 +2,7 @@
 use Rattle.std.specs.Prelude.{ℕ, ◌+◌, ◌≤◌, ◌<◌, ◌≡◌, refl, true, List, [], ◌∷◌, ◌++◌, ◌↔◌, ◌⊎◌, ltb, length, get_or, take, drop}
 use Rattle.std.proofs.Common.{arith, sym, ap, ◌∙◌, inl, inr, ltb-true, ltb-false, le-ltb, lt-ltb, ne_eqb, take_at}
 use Rattle.std.proofs.Math.Seq.{take-append_seam}
-use Rattle.annex.specs.Answers.{bad-digit, absent, roomAfter, number_of, start_of, classNumberOf}
+use Rattle.annex.specs.Answers.{bad_digit, absent, room_after, number_of, start_of, class_number_of}
 use Rattle.annex.specs.Units.{name_of}
 use Rattle.annex.specs.Rates.{charges_of}
 use Rattle.annex.specs.Orders.{OpenedOrder, lay_order, order_right}
@@ -118,7 +118,7 @@ use Rattle.theorems.specs.Writings.{
   struct_written,
   struct_writes,
   with_room,
-  room_after,
+  room_after_lem,
   packed_writes,
   read_then_written,
   written_then_read,
@@ -202,7 +202,7 @@ use Rattle.demands.specs.ProvedProfile.{
 }
 
 -- an answer that refuses leaves the room
-after_refusal : {A : Type 0} (a : Answer) (written room : List A) → Kept a room (roomAfter a written room)
+after_refusal : {A : Type 0} (a : Answer) (written room : List A) → Kept a room (room_after a written room)
 after_refusal (Accepted n) written room k p e = absurd (let z : ◌≡◌ {A = ℕ} 0 1 = cc in omega arith)
 after_refusal (Refused j q) written room k p e = refl
 
@@ -231,7 +231,7 @@ length_number : (a : Answer) (len : ℕ) → packed_number (packed_length a len)
 length_number (Accepted s) len = omega arith
 length_number (Refused k p) len = omega arith
 
-class_number : (a : ClassAnswer) → packed_number (packed_class a) ≡ classNumberOf a
+class_number : (a : ClassAnswer) → packed_number (packed_class a) ≡ class_number_of a
 class_number a = omega arith
 
 packed_answering : {n k : ℕ} → packed_number n ≡ k → PackedAnswering k (λ r. r ≡ n)
@@ -259,34 +259,34 @@ read_verdict m r p = ap (λ (x : Reading). x.answer) p ∙ read_answer (verdict_
 -- ---- the place of a 13
 
 -- packed, a place of the message is whole
-packed_shown : (m : List ℕ) (k p : ℕ) → k ≡ bad-digit → verdict_of m ≡ Refused bad-digit p → ShownAt m (packed_place (one_number k p 0))
+packed_shown : (m : List ℕ) (k p : ℕ) → k ≡ bad_digit → verdict_of m ≡ Refused bad_digit p → ShownAt m (packed_place (one_number k p 0))
 packed_shown m k p e v =
-    let few = (verdict_place fault_of fault_within m).at bad-digit p v in
+    let few = (verdict_place fault_of fault_within m).at bad_digit p v in
     let same : p ≡ packed_place (one_number k p 0) = omega arith in
     rw same at (shown m p v)
 
 refused_shown : (m : List ℕ) (a : Answer) → Passes m a → (r : ℕ) → packed_number r ≡ number_of a
-    → ((k p : ℕ) → a ≡ Refused k p → r ≡ one_number k p 0) → packed_number r ≡ bad-digit → ShownAt m (packed_place r)
+    → ((k p : ℕ) → a ≡ Refused k p → r ≡ one_number k p 0) → packed_number r ≡ bad_digit → ShownAt m (packed_place r)
 refused_shown m (Accepted n) w r e h f = absurd (omega arith)
 refused_shown m (Refused k p) w r e h f =
-    let number : k ≡ bad-digit = sym e ∙ f in
+    let number : k ≡ bad_digit = sym e ∙ f in
     rw (h k p refl) (packed_shown m k p number (w p (rw number)))
 
-answer_shown : (m : List ℕ) (a : Answer) → Passes m a → (r : ℕ) → r ≡ packed_answer a → packed_number r ≡ bad-digit
+answer_shown : (m : List ℕ) (a : Answer) → Passes m a → (r : ℕ) → r ≡ packed_answer a → packed_number r ≡ bad_digit
     → ShownAt m (packed_place r)
 answer_shown m a w r e = refused_shown m a w r (rw e (packed_number_lem a)) (λ k p f. e ∙ rw f)
 
-find_shown : (m : List ℕ) (f : Found) (r : ℕ) → r ≡ packed_length (find_answer m f) (length (find_part m f)) → packed_number r ≡ bad-digit
+find_shown : (m : List ℕ) (f : Found) (r : ℕ) → r ≡ packed_length (find_answer m f) (length (find_part m f)) → packed_number r ≡ bad_digit
     → ShownAt m (packed_place r)
 find_shown m f r e = refused_shown m (find_answer m f) (find_passes m f) r (rw e (length_number (find_answer m f) _)) (λ k p g. e ∙ rw g)
 
 -- an edit: of the message, or of its own new parameter, by a place x that is p in both
-edit_shown : (e : Edit) (d : List ℕ) (n p x : ℕ) → editing_of e d n ≡ Refused bad-digit p
-    → (p ≡ 0 → x ≡ 0) → (verdict_of (take n d) ≡ Refused bad-digit p → ShownAt (take n d) x)
+edit_shown : (e : Edit) (d : List ℕ) (n p x : ℕ) → editing_of e d n ≡ Refused bad_digit p
+    → (p ≡ 0 → x ≡ 0) → (verdict_of (take n d) ≡ Refused bad_digit p → ShownAt (take n d) x)
     → (v : Answer) → v ≡ verdict_of (take n d) → (IsAccepted v → x ≡ 0) × ((k q : ℕ) → v ≡ Refused k q → ShownAt (take n d) x)
 edit_shown e d n p x f own passed v w = go (edit_passes e d n p f)
   where
-    go : (verdict_of (take n d) ≡ Refused bad-digit p) ⊎ (((q : ℕ) × (verdict_of (take n d) ≡ Accepted q)) × (p ≡ 0))
+    go : (verdict_of (take n d) ≡ Refused bad_digit p) ⊎ (((q : ℕ) × (verdict_of (take n d) ≡ Accepted q)) × (p ≡ 0))
         → (IsAccepted v → x ≡ 0) × ((k q : ℕ) → v ≡ Refused k q → ShownAt (take n d) x)
     go (inl g) = (
       λ a. absurd (let h = sym a.1 ∙ w ∙ g in let z : ◌≡◌ {A = ℕ} 0 1 = cc in omega arith),
@@ -297,7 +297,7 @@ edit_shown e d n p x f own passed v w = go (edit_passes e d n p f)
       λ k q h. absurd (let i = sym h ∙ w ∙ g.0.1 in let z : ◌≡◌ {A = ℕ} 0 1 = cc in omega arith),
     )
 
-edit_packed : (e : Edit) (d : List ℕ) (n r : ℕ) → r ≡ packed_answer (editing_of e d n) → packed_number r ≡ bad-digit
+edit_packed : (e : Edit) (d : List ℕ) (n r : ℕ) → r ≡ packed_answer (editing_of e d n) → packed_number r ≡ bad_digit
     → (v : Answer) → v ≡ verdict_of (take n d)
     → (IsAccepted v → packed_place r ≡ 0) × ((k q : ℕ) → v ≡ Refused k q → ShownAt (take n d) (packed_place r))
 edit_packed e d n r f g = go (editing_of e d n) refl f
@@ -306,7 +306,7 @@ edit_packed e d n r f g = go (editing_of e d n) refl f
         → (IsAccepted v → packed_place r ≡ 0) × ((k q : ℕ) → v ≡ Refused k q → ShownAt (take n d) (packed_place r))
     go (Accepted k) h s = absurd (let i = rw s at g in omega arith)
     go (Refused k p) h s =
-        let number : k ≡ bad-digit = sym (packed_number_lem (Refused k p)) ∙ rw s at g in
+        let number : k ≡ bad_digit = sym (packed_number_lem (Refused k p)) ∙ rw s at g in
         edit_shown e d n p (packed_place r) (h ∙ rw number) (λ z. rw (s, z) (omega arith))
         (λ i. rw s (packed_shown (take n d) k p number i))
 
@@ -462,7 +462,7 @@ message_so : (q : Record) → FitsStruct q → (room : List ℕ) (n : ℕ) (now 
     → (n ≡ length (layout (view q))) × (now ≡ layout (view q) ++ drop n room)
 message_so q f room n now p =
     let t = wrote q room n (sym p.0) in
-    ((struct_written q f n t.0).length-given, p.1 ∙ room_after q n t.0 room t.1)
+    ((struct_written q f n t.0).length-given, p.1 ∙ room_after_lem q n t.0 room t.1)
 
 reads_so : (q : Record) → FitsStruct q → (room : List ℕ) (n : ℕ) (now : List ℕ) → WritePromise q room (Accepted n) now
     → (r : Reading) → ReadPromise (take n now) r → r ≡ record { answer = Accepted n; «record» = pack (view q) }
@@ -594,7 +594,7 @@ allowed_so s a room l w now p =
     let n = length (layout s) in
     let e = packed_writes s a in
     let v : view (pack s) ≡ s = view_pack s (writable_allowed s a).held in
-    (p.0 ∙ with_room (pack s) n e (length room) l, p.1 ∙ rw v at (room_after (pack s) n e room l))
+    (p.0 ∙ with_room (pack s) n e (length room) l, p.1 ∙ rw v at (room_after_lem (pack s) n e room l))
 
 pub demand_2 : Demand2
 unfolding reading_of

@@ -6,7 +6,7 @@ use Rattle.std.proofs.Math.Bool.{true, and-true}
 use borrow.Author.Tests.{eqb-true, ltb-true, ltb-false, le-ltb}
 use Rattle.std.proofs.Math.ListN.{length}
 use Rattle.std.proofs.Math.Seq.{take-append_seam}
-use Rattle.annex.specs.Answers.{absent, no_room, outside-profile, refuse, number_of}
+use Rattle.annex.specs.Answers.{absent, no_room, outside_profile, refuse, number_of}
 use Rattle.annex.specs.Units.{name_of, extent_of}
 use Rattle.annex.specs.Heads.{end_mark, often_of, form_of}
 use Rattle.annex.specs.Items.{Item, Part, holding_of, contents_of}
@@ -93,7 +93,7 @@ unfolding profile_verdict
 profile_passed_so m k p v r q = profile_verdict_so m r q ∙ rw (sym v)
 
 pub profile_outside_so : (s : List Part) → Allowed s → (InProfile s → ⊥) → (r : ProfileReading) → ProfileReadPromise (layout s) r
-    → (p : ℕ) × (r.answer ≡ Refused outside-profile p) × (drop p (layout s) ≡ end_mark ∷ [])
+    → (p : ℕ) × (r.answer ≡ Refused outside_profile p) × (drop p (layout s) ≡ end_mark ∷ [])
 profile_outside_so s a f r p =
     let n = length (layout s) in
     let l = laid_then_read s a in
@@ -154,7 +154,7 @@ profile_write_passed_so q k p v room w now e = e.0 ∙ rw (sym v)
 
 pub profile_write_outside_so : (q : Record) → is_whole q ≡ true → Writable (view q) → (InProfile (view q) → ⊥)
     → (room : List ℕ) (w : Answer) (now : List ℕ) → ProfileWritePromise q room w now
-    → (p : ℕ) × (w ≡ Refused outside-profile p) × (drop p (layout (view q)) ≡ end_mark ∷ [])
+    → (p : ℕ) × (w ≡ Refused outside_profile p) × (drop p (layout (view q)) ≡ end_mark ∷ [])
 unfolding profile_writing profile_refusal
 profile_write_outside_so q h a f room w now e =
     let s = view q in

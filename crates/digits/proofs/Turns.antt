@@ -8,7 +8,7 @@ use mathlib.Core.List.{List, ◌∷◌}
 use lib.Dec.{eqb, ltb}
 use lib.ListN.{length, get_or, drop, drop_of_length-le}
 use lib.Seq.{drop-cons}
-use Rattle.annex.specs.Answers.{bad-digit}
+use Rattle.annex.specs.Answers.{bad_digit}
 use Rattle.annex.specs.Digits.{halves, is_code, halves_fault, digits_fault}
 use Rattle.annex.specs.declared.HalfOctets.{HalfOctets}
 use Rattle.annex.specs.declared.Alphabet.{Alphabet}
@@ -19,7 +19,7 @@ use Rattle.laws.specs.Halves.{first_left, half_turn}
 pub halves_turn : (z : Alphabet) (n i p : ℕ) (hs : List ℕ) → i < length hs
     → halves_fault z (n - i) p (drop i hs)
     ≡ cond (cond (ltb i n) (is_code z (get_or hs i 0)) (eqb (get_or hs i 0) 0)) (halves_fault z (n - (i + 1)) (p + 1) (drop (i + 1) hs))
-    (Bad bad-digit (p / 2))
+    (Bad bad_digit (p / 2))
 halves_turn z n i p hs l =
     ap (halves_fault z (n - i) p) (drop-cons hs i 0 l ∙ ap (λ (k : ℕ). get_or hs i 0 ∷ drop k hs) (sym (add-one i)))
     ∙ half_turn z (n - i) p (get_or hs i 0) (drop (i + 1) hs) (ltb i n) (n - (i + 1)) (first_left i n) (omega arith)

@@ -1,7 +1,7 @@
 -- Characters as the code goes over them: figures alone, or those of an ARE's parameters too.
 use Rattle.std.specs.Prelude.{ℕ, ◌+◌, ◌≤◌, ◌<◌, ◌≡◌, refl, Bool, true, false, cond, ◌&&◌, ◌||◌, List, eqb, length, get_or, drop}
 use Rattle.std.proofs.Common.{ap, drop_of_length-le}
-use Rattle.annex.specs.Answers.{bad-digit}
+use Rattle.annex.specs.Answers.{bad_digit}
 use Rattle.annex.specs.Orders.{is_figure, is_are_character, outside_fault}
 use Rattle.annex.specs.declared.Fault.{Fault}
 use Rattle.annex.specs.declared.Fault.TheVariants.{Sound, Bad}
@@ -25,7 +25,7 @@ known_so false x = or_never (is_figure x)
 
 -- one of them, and those behind it
 pub known_more : (are : Bool) (s : List ℕ) (i : ℕ) → i < length s
-    → known_fault are i (drop i s) ≡ cond (is_known are (get_or s i 0)) (known_fault are (i + 1) (drop (i + 1) s)) (Bad bad-digit i)
+    → known_fault are i (drop i s) ≡ cond (is_known are (get_or s i 0)) (known_fault are (i + 1) (drop (i + 1) s)) (Bad bad_digit i)
 unfolding outside_fault
 known_more are s i h = ap (known_fault are i) (octet_next s i h)
 

@@ -2,7 +2,7 @@
 -- edit, it keeps the edit's promise.
 use Rattle.std.specs.Prelude.{ℕ, ◌+◌, ◌-◌, ◌≤◌, ◌<◌, ◌≡◌, false, List, ◌++◌, ltb, length, take, drop, set}
 use Rattle.std.proofs.Common.{arith, sym, ap, ◌∙◌, leb-false, le-leb, length-append, take-take, length-take-le}
-use Rattle.annex.specs.Answers.{transfer-over, no_room, refuse}
+use Rattle.annex.specs.Answers.{transfer_over, no_room, refuse}
 use Rattle.annex.specs.Heads.{most_transfer_octets}
 use Rattle.annex.specs.Layout.{layout_items, layout}
 use Rattle.annex.specs.Allowed.{items_in}
@@ -34,7 +34,7 @@ message_length n old new = n - old + length new
 
 unfoldable pub splice_answer : List ℕ → ℕ → ℕ → ℕ → ℕ → List ℕ → Answer
 splice_answer d n start end old new =
-    refuse (ltb most_transfer_octets (data_length start end old new)) transfer-over 0
+    refuse (ltb most_transfer_octets (data_length start end old new)) transfer_over 0
     (refuse (ltb (length d) (message_length n old new)) no_room 0
     (Accepted (message_length n old new)))
 

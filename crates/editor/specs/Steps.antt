@@ -3,7 +3,7 @@ use Rattle.std.specs.Prelude.{ℕ, ◌-◌, ◌≤◌, ◌≡◌, Bool, true, fa
 use Rattle.std.proofs.Common.{arith, ◌∙◌, length-take, take-take, leb-true, leb-false, lt-ltb, le-ltb, ne_eqb}
 use Rattle.std.proofs.Math.Path.{refl, sym, ap}
 use Rattle.std.proofs.Math.ListN.{length}
-use Rattle.annex.specs.Answers.{repeated-name, transfer-over, no_room, absent, refuse, and_then}
+use Rattle.annex.specs.Answers.{repeated_name, transfer_over, no_room, absent, refuse, and_then}
 use Rattle.annex.specs.Units.{name_of}
 use Rattle.annex.specs.Heads.{among, transfer_data, most_transfer_octets, often_of}
 use Rattle.annex.specs.Layout.{layout_items, layout}
@@ -64,7 +64,7 @@ spot_in (kind.Removing x which) new t = whole_search x which t
 -- nowhere to make the edit: what is to be replaced or removed does not stand there, the last that may have the name of an addition does
 abbrev pub no_spot : Kind → ℕ
 no_spot (kind.Replacing which) = absent
-no_spot kind.Appending = repeated-name
+no_spot kind.Appending = repeated_name
 no_spot (kind.Removing x which) = absent
 
 abbrev pub spot_answer : Kind → Found → Answer → Answer
@@ -82,7 +82,7 @@ own_answer k new t = and_then (head_answer k new) (λ _. spot_answer k (spot_in 
 -- 14, then 15, or the message's new length
 abbrev pub room_answer : Edit → List ℕ → ℕ → Answer
 room_answer e d n =
-    refuse (ltb most_transfer_octets (length (layout_items (items_in (edited_in e d n))))) transfer-over 0
+    refuse (ltb most_transfer_octets (length (layout_items (items_in (edited_in e d n))))) transfer_over 0
     (refuse (ltb (length d) (length (layout (edited_in e d n)))) no_room 0
     (Accepted (length (layout (edited_in e d n)))))
 
@@ -105,7 +105,7 @@ found_refuse : (k : Kind) (f : Found) (a : Answer) → no_spot k ≡ absent → 
 found_refuse k (At s e) a h = refl
 found_refuse k Nowhere a h = rw h
 
-free_refuse : (l : ℕ) (f : Found) (a : Answer) → refuse (is_found f) repeated-name 0 a ≡ spot_answer kind.Appending (free_end l f) a
+free_refuse : (l : ℕ) (f : Found) (a : Answer) → refuse (is_found f) repeated_name 0 a ≡ spot_answer kind.Appending (free_end l f) a
 free_refuse l (At s e) a = refl
 free_refuse l Nowhere a = refl
 

@@ -9,7 +9,7 @@ use mathlib.Core.List.{List, [], ◌∷◌, ◌++◌, map}
 use borrow.Author.Tests.{eqb-true, eqb-false, eq-eqb, ne_eqb, leb-true, leb-false, ltb-true, ltb-false, lt-ltb, le-ltb, not-true}
 use Rattle.std.proofs.Math.Dec.{eqb}
 use Rattle.std.proofs.Math.ListN.{length-drop}
-use Rattle.annex.specs.Answers.{faultThen, start_of, stopOf}
+use Rattle.annex.specs.Answers.{fault_then, start_of, stop_of}
 use Rattle.annex.specs.Carriers.{
   most_direction,
   lowest_carrier,
@@ -85,7 +85,7 @@ formed_left s c =
 
 abbrev pub fault_left : List ℕ → Cursor → Fault
 fault_left s c =
-    faultThen (entries_fault dependent_fault (entries_in c.at (dependents_left s c)))
+    fault_then (entries_fault dependent_fault (entries_in c.at (dependents_left s c)))
     (entries_fault carrier_fault (entries_in c.end (carriers_left s c)))
 
 abbrev pub entries_left : List ℕ → Cursor → List Entry
@@ -251,7 +251,7 @@ carried : (a d r : Bool) → (a && d) && r ≡ (a && true) && (d && r)
 carried true d r = refl
 carried false d r = refl
 
-then_moved : (f g h : Fault) → faultThen (faultThen f g) h ≡ faultThen f (faultThen g h)
+then_moved : (f g h : Fault) → fault_then (fault_then f g) h ≡ fault_then f (fault_then g h)
 then_moved Sound g h = refl
 then_moved (Bad k i) g h = refl
 
@@ -262,9 +262,9 @@ entry_here s c = cond (in_carrier c) (entry 2 (here (take c.end s) c.at)) (entry
 -- what a turn gives, of what was found
 pub record Turn (s : List ℕ) (c : Cursor) (f : Found) : Type 0 where
   pub formed : formed_left s c ≡ formed_in s c f && formed_left s (entry_behind s c f)
-  pub fault : formed_in s c f ≡ true → fault_left s c ≡ faultThen (fault_in s c f) (fault_left s (entry_behind s c f))
+  pub fault : formed_in s c f ≡ true → fault_left s c ≡ fault_then (fault_in s c f) (fault_left s (entry_behind s c f))
   pub entries : formed_in s c f ≡ true → entries_left s c ≡ entry_here s c ∷ entries_left s (entry_behind s c f)
-  pub held : formed_in s c f ≡ true → inside_of (entry_here s c).par ≡ take (stopOf f - start_of f) (drop (start_of f) s)
+  pub held : formed_in s c f ≡ true → inside_of (entry_here s c).par ≡ take (stop_of f - start_of f) (drop (start_of f) s)
   pub lies : Lies s (entry_behind s c f)
   pub onward : c.at < (entry_behind s c f).at
 
@@ -335,7 +335,7 @@ module _ (s : List ℕ) (at end : ℕ) (l : at < end) (w : end ≤ length s) whe
     formed_here : entries_formed lowest_dependent dependent_formed at (drop at t) ≡ right_here && right_behind
     formed_here = formed_first t at inside m lowest_dependent dependent_formed ∙ rw (tag, part)
 
-    faulty_here : entries_fault dependent_fault (entries_in at (drop at t)) ≡ faultThen fault_here (entries_fault dependent_fault rest)
+    faulty_here : entries_fault dependent_fault (entries_in at (drop at t)) ≡ fault_then fault_here (entries_fault dependent_fault rest)
     unfolding entries_fault
     faulty_here = ap (entries_fault dependent_fault) (first_in t at inside m) ∙ rw (tag, part)
 
@@ -347,7 +347,7 @@ module _ (s : List ℕ) (at end : ℕ) (l : at < end) (w : end ≤ length s) whe
               (ap (λ (b : Bool). b && right_above) formed_here ∙ and_moved right_here right_behind right_above);
           fault = λ _.
               rw (lt-ltb at end l)
-              (ap (λ (f : Fault). faultThen f (entries_fault carrier_fault above)) faulty_here
+              (ap (λ (f : Fault). fault_then f (entries_fault carrier_fault above)) faulty_here
               ∙ then_moved fault_here (entries_fault dependent_fault rest) (entries_fault carrier_fault above));
           entries = λ _.
               rw (lt-ltb at end l) (ap (λ (qs : List Par). map (entry 2) qs ++ flat_entries above) (first_in t at inside m));
@@ -435,7 +435,7 @@ module _ (s : List ℕ) (c : Cursor) (i : Lies s c) (l : c.at < length s) where
   unfolding entry_next
   formed_turn = (turn s c i l).formed
 
-  pub fault_turn : entry_formed s c ≡ true → fault_left s c ≡ faultThen (entry_fault s c) (fault_left s (entry_next s c))
+  pub fault_turn : entry_formed s c ≡ true → fault_left s c ≡ fault_then (entry_fault s c) (fault_left s (entry_next s c))
   unfolding entry_next
   fault_turn = (turn s c i l).fault
 

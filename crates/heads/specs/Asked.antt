@@ -2,7 +2,7 @@
 use Rattle.std.specs.Prelude.{ℕ, zero, suc, ◌+◌, ◌<◌, ◌≡◌, refl, Bool, true, false, cond, not, ◌&&◌, ◌||◌, List, [], ◌∷◌, map, eqb, drop}
 use Rattle.std.proofs.Common.{◌∙◌, ne_eqb}
 use Rattle.annex.specs.Units.{pli_of, name_of}
-use Rattle.annex.specs.Answers.{refuse, unused-name, other-pli}
+use Rattle.annex.specs.Answers.{refuse, unused_name, other_pli}
 use Rattle.annex.specs.Heads.{Head, among, heads, is_free, name_used, pli_right, zeroes_of, form_of}
 use Rattle.annex.specs.Writing.{head_writing}
 use Rattle.annex.specs.declared.Answer.{Answer}
@@ -103,9 +103,9 @@ pub right_head : (p h : ℕ) (a : Answer) → pli_right h ≡ true → head_writ
 right_head p h a e = head_right p h a (right_used h e) e
 
 -- and any other is, by its name
-pub wrong_head : (p h : ℕ) (a : Answer) → pli_right h ≡ false → head_writing p h a ≡ Refused (cond (name_used h) other-pli unused-name) p
+pub wrong_head : (p h : ℕ) (a : Answer) → pli_right h ≡ false → head_writing p h a ≡ Refused (cond (name_used h) other_pli unused_name) p
 wrong_head p h a e = rw e (go (name_used h))
   where
-    go : (b : Bool) → refuse (not b) unused-name p (Refused other-pli p) ≡ Refused (cond b other-pli unused-name) p
+    go : (b : Bool) → refuse (not b) unused_name p (Refused other_pli p) ≡ Refused (cond b other_pli unused_name) p
     go true = refl
     go false = refl

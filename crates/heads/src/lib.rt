@@ -3,7 +3,7 @@
 
 ghost use Rattle.std.specs.Prelude.{◌≡◌, cond};
 ghost use Rattle.annex.specs.Promises.{Gives};
-ghost use Rattle.annex.specs.Answers.{unused-name, other-pli};
+ghost use Rattle.annex.specs.Answers.{unused_name, other_pli};
 ghost use Rattle.annex.specs.Heads.{among, heads, free_names, often_of, name_used, pli_right, zeroes_of, form_of};
 ghost use Rattle.annex.specs.Writing.{head_writing};
 ghost use Rattle.annex.specs.declared.Answer.TheVariants.{Accepted};
@@ -162,7 +162,7 @@ fn name_used(header: u8) -> bool
 
 // What refuses a header that is not right: 8 where its name is unused, else 9.
 pub fn head_number(header: u8) -> u8
-    ensures { Gives (cond (name_used header) other-pli unused-name) result }
+    ensures { Gives (cond (name_used header) other_pli unused_name) result }
 {
     if name_used(header) {
         Answer::OTHER_PLI

@@ -1,7 +1,7 @@
 -- What the walk over an image's parameters gave, told as writing's answer and as what the room then holds.
 use Rattle.std.specs.Prelude.{ℕ, ◌+◌, ◌≤◌, ◌<◌, ◌≡◌, refl, Bool, true, false, List, [], ◌∷◌, leb, length, get_or, take, drop}
 use Rattle.std.proofs.Common.{arith, sym, ap, ◌∙◌, eq-eqb, ne_eqb, lt-ltb, le-ltb, drop-cons}
-use Rattle.annex.specs.Answers.{over-limits, no_room}
+use Rattle.annex.specs.Answers.{over_the_limits, no_room}
 use Rattle.annex.specs.Items.{Part}
 use Rattle.annex.specs.Layout.{layout}
 use Rattle.annex.specs.Allowed.{every, is_octet}
@@ -40,9 +40,9 @@ parts_of m = parts_front (get_or m 0 0) (drop 1 m)
 abbrev pub Gave : List ℕ → Answer → ℕ → List ℕ → Type 0
 Gave m a end d = PartsServed unseen 0 0 [] (parts_of m) a end d
 
-over_refused : (m room : List ℕ) → image_over m ≡ true → ImageWritePromise m room (Refused over-limits 0) room
+over_refused : (m room : List ℕ) → image_over m ≡ true → ImageWritePromise m room (Refused over_the_limits 0) room
 over_refused m room e =
-    let w : image_writing m (length room) ≡ Refused over-limits 0 = rw (image_writing_lem m (length room), e) in
+    let w : image_writing m (length room) ≡ Refused over_the_limits 0 = rw (image_writing_lem m (length room), e) in
     (sym w, rw (image_written_lem m room, w))
 
 under_writing : (m : List ℕ) (room : ℕ) (a : Answer) → image_over m ≡ false → parts_writing unseen 0 (image_record m) ≡ a
@@ -50,7 +50,7 @@ under_writing : (m : List ℕ) (room : ℕ) (a : Answer) → image_over m ≡ fa
 under_writing m room a e w = rw (image_writing_lem m room, e, w)
 
 -- no octets
-pub none_written : (m room : List ℕ) → length m ≡ 0 → ImageWritePromise m room (Refused over-limits 0) room
+pub none_written : (m room : List ℕ) → length m ≡ 0 → ImageWritePromise m room (Refused over_the_limits 0) room
 none_written [] room h = over_refused [] room refl
 none_written (n ∷ s) room h = absurd (omega arith)
 
@@ -68,7 +68,7 @@ module _ (m room : List ℕ) (some : 0 < length m) where
   cut_is = ap (λ (l : List ℕ). image_cut l) octets_are
 
   -- 1 before all else
-  pub over_written : over_by (length (drop 1 m)) (parts_of m) ≡ true → ImageWritePromise m room (Refused over-limits 0) room
+  pub over_written : over_by (length (drop 1 m)) (parts_of m) ≡ true → ImageWritePromise m room (Refused over_the_limits 0) room
   over_written e = over_refused m room (over_is ∙ e)
 
   -- else the walk's refusal
@@ -87,7 +87,7 @@ module _ (m room : List ℕ) (some : 0 < length m) where
 
   module _ (n end : ℕ) (d : List ℕ) (gave : Gave m (Accepted n) end d) where
     -- octets are left over
-    pub left_written : (end ≡ length (drop 1 m) → ⊥) → ImageWritePromise m room (Refused over-limits 0) room
+    pub left_written : (end ≡ length (drop 1 m) → ⊥) → ImageWritePromise m room (Refused over_the_limits 0) room
     left_written u = over_refused m room (rw (cut_is ∙ go (parts_of m) gave))
       where
         go : (f : Front Part) → PartsServed unseen 0 0 [] f (Accepted n) end d → cut_by (length (drop 1 m)) f ≡ true

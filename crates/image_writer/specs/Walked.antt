@@ -8,7 +8,7 @@ use mathlib.Core.List.{List, [], ◌∷◌, append-nil}
 use borrow.Author.Tests.{lt-ltb, le-ltb, ne_eqb}
 use Rattle.std.proofs.Math.ListN.{length, get_or, drop, length-set}
 use Rattle.std.proofs.Math.Seq.{drop-drop}
-use Rattle.annex.specs.Answers.{transfer-over, missing, refuse}
+use Rattle.annex.specs.Answers.{transfer_over, missing, refuse}
 use Rattle.annex.specs.Heads.{end_mark, among, common_headers, most_transfer_octets, transfer_data}
 use Rattle.annex.specs.Items.{Item, Part, own_of}
 use Rattle.annex.specs.Layout.{layout_item, layout_items, layout_part, layout}
@@ -151,11 +151,11 @@ module _ (p : ℕ) (first : List ℕ) (end : ℕ) (d : List ℕ) where
   data_stops (Taken is j) k z g last after = serves_refused writes lays 0 (take p first) is j k z last after (rw (← g.told))
 
   pub data_over : (f : Front Item) (n : ℕ) → ItemsGave p first f (Accepted n) end d → most_transfer_octets < n - (p + 2)
-      → (last : ℕ) (after : List ℕ) → DataServed p (take p first) f (Refused transfer-over p) last after
+      → (last : ℕ) (after : List ℕ) → DataServed p (take p first) f (Refused transfer_over p) last after
   unfolding data_writing
   data_over Short n g h last after = tt
   data_over (Taken is j) n g h last after =
-      serves_refused writes lays 0 (take p first) is j transfer-over p last after
+      serves_refused writes lays 0 (take p first) is j transfer_over p last after
       (rw (← g.told, lt-ltb most_transfer_octets (n - (p + 2)) h))
 
   -- the place behind them
@@ -210,9 +210,9 @@ part_behind times p q n e =
     go true f =
         let t =
         then_passed (items_writing unseen (p + 2) q.items)
-        (λ m. refuse (ltb most_transfer_octets (m - (p + 2))) transfer-over p (Accepted m)) n f in
+        (λ m. refuse (ltb most_transfer_octets (m - (p + 2))) transfer_over p (Accepted m)) n f in
         let o : Accepted t.0 ≡ Accepted n =
-        (passed (ltb most_transfer_octets (t.0 - (p + 2))) transfer-over p n (Accepted t.0) t.2).1 in
+        (passed (ltb most_transfer_octets (t.0 - (p + 2))) transfer_over p n (Accepted t.0) t.2).1 in
         let same : t.0 ≡ n = cc in
         omega (arith, items_behind q.items unseen (p + 2) t.0 t.1)
     go false f = let same : p + length (layout_part q) ≡ n = cc in omega arith

@@ -10,7 +10,7 @@ use borrow.Author.Tests.{leb-true, ltb-true, ltb-false, eqb-true, eqb-false, lt-
 use Rattle.std.proofs.Math.Dec.{eqb, leb, ltb}
 use Rattle.std.proofs.Math.ListN.{length, length-drop}
 use Rattle.std.proofs.Math.Seq.{drop-drop}
-use Rattle.annex.specs.Answers.{bad-form, bad-digit, check-digit, wrong-order, formedThen, formed, faultThen}
+use Rattle.annex.specs.Answers.{bad_form, bad_digit, check_digit, wrong_order, formed_then, formed, fault_then}
 use Rattle.annex.specs.Units.{counted_by, whole_count}
 use Rattle.annex.specs.Heads.{among, clear, added_calling_number, withheld, zeroes_of, form_of}
 use Rattle.annex.specs.Digits.{halves, halves_fault, digits_fault, odd_of, count_of, number_fault_in, number_fault}
@@ -115,18 +115,18 @@ use Rattle.laws.specs.Orders.{after_some}
 
 -- 12 at the start of contents of so many octets, though there may be none, or at an octet
 abbrev pub LiesIn : ℕ → ℕ → ℕ → Type 0
-LiesIn size k i = ((k ≡ bad-form) × (i ≡ 0)) ⊎ (i < size)
+LiesIn size k i = ((k ≡ bad_form) × (i ≡ 0)) ⊎ (i < size)
 
 -- ---- octets that are good
 
 -- both halves of one octet
-both : (l h : Bool) (f : Fault) (a : ℕ) → cond l (cond h f (Bad bad-digit a)) (Bad bad-digit a) ≡ cond (l && h) f (Bad bad-digit a)
+both : (l h : Bool) (f : Fault) (a : ℕ) → cond l (cond h f (Bad bad_digit a)) (Bad bad_digit a) ≡ cond (l && h) f (Bad bad_digit a)
 both true h f a = refl
 both false h f a = refl
 
 digits_turn : (z : Alphabet) (n at x : ℕ) (s : List ℕ)
     → halves_fault z n (2 * at) (halves (x ∷ s))
-    ≡ cond (digits_good z (record { 0 = n }) 0 x) (halves_fault z (n - 2) (2 * (at + 1)) (halves s)) (Bad bad-digit at)
+    ≡ cond (digits_good z (record { 0 = n }) 0 x) (halves_fault z (n - 2) (2 * (at + 1)) (halves s)) (Bad bad_digit at)
 unfolding halves
 digits_turn z n at x s =
     let low : 2 * at / 2 ≡ at = omega arith in
@@ -183,8 +183,8 @@ AllGood good a b = (j : ℕ) → a ≤ j → j < b → good j ≡ true
 -- other number is 12 at the start, or stands at one of all the octets
 pub record Shows (good : ℕ → Bool) (size a b : ℕ) (f : Fault) : Type 0 where
   pub sound : f ≡ Sound → AllGood good a b
-  pub bad : (i : ℕ) → f ≡ Bad bad-digit i → (a ≤ i) × (i < b) × (good i ≡ false) × AllGood good a i
-  pub other : (k i : ℕ) → f ≡ Bad k i → (k ≡ bad-digit) ⊎ LiesIn size k i
+  pub bad : (i : ℕ) → f ≡ Bad bad_digit i → (a ≤ i) × (i < b) × (good i ≡ false) × AllGood good a i
+  pub other : (k i : ℕ) → f ≡ Bad k i → (k ≡ bad_digit) ⊎ LiesIn size k i
 
 module _ (good : ℕ → Bool) (size : ℕ) where
   all_good : (a b : ℕ) → AllGood good a b → Shows good size a b Sound
@@ -196,24 +196,24 @@ module _ (good : ℕ → Bool) (size : ℕ) where
       }
 
   -- another number shows nothing
-  other_shown : (a b k i : ℕ) → (k ≡ bad-digit → ⊥) → LiesIn size k i → Shows good size a b (Bad k i)
+  other_shown : (a b k i : ℕ) → (k ≡ bad_digit → ⊥) → LiesIn size k i → Shows good size a b (Bad k i)
   other_shown a b k i n p =
       record {
         sound = λ e. absurd (let z : ◌≡◌ {A = ℕ} 0 1 = cc in omega arith);
-        bad = λ j e. absurd (n (let same : k ≡ bad-digit = cc in same));
+        bad = λ j e. absurd (n (let same : k ≡ bad_digit = cc in same));
         other = λ l j e. inr (let same : k ≡ l = cc in let there : i ≡ j = cc in rw (same, there) at p);
       }
 
-  form_shown : (a b : ℕ) → Shows good size a b (Bad bad-form 0)
-  form_shown a b = other_shown a b bad-form 0 (λ e. omega arith) (inl (refl, refl))
+  form_shown : (a b : ℕ) → Shows good size a b (Bad bad_form 0)
+  form_shown a b = other_shown a b bad_form 0 (λ e. omega arith) (inl (refl, refl))
 
-  formed_shown : (a b : ℕ) (t : Bool) (f : Fault) → (t ≡ true → Shows good size a b f) → Shows good size a b (formedThen t f)
+  formed_shown : (a b : ℕ) (t : Bool) (f : Fault) → (t ≡ true → Shows good size a b f) → Shows good size a b (formed_then t f)
   formed_shown a b true f w = w refl
   formed_shown a b false f w = form_shown a b
 
   -- one stretch and then the next
   then_shown : (a b c : ℕ) → a ≤ b → b ≤ c → (f g : Fault) → Shows good size a b f → Shows good size b c g
-      → Shows good size a c (faultThen f g)
+      → Shows good size a c (fault_then f g)
   then_shown a b c l m Sound g v w =
       record { sound = λ e j p q. either j p q (λ r. w.sound e j r q); bad = λ i e. later i (w.bad i e); other = w.other }
     where
@@ -240,7 +240,7 @@ module _ (good : ℕ → Bool) (size : ℕ) where
 
   -- one octet, and those behind it
   tested_shown : (a c : ℕ) → a < c → (t : Bool) (f : Fault) → good a ≡ t → Shows good size (a + 1) c f
-      → Shows good size a c (cond t f (Bad bad-digit a))
+      → Shows good size a c (cond t f (Bad bad_digit a))
   tested_shown a c l true f e w =
       front_shown a (a + 1) c (omega arith) (omega arith) f
       (λ j p q. let same : j ≡ a = omega arith in ap good same ∙ e) w
@@ -250,7 +250,7 @@ module _ (good : ℕ → Bool) (size : ℕ) where
         bad = λ i n.
             let same : a ≡ i = cc in
             (omega arith, omega arith, ap good (sym same) ∙ e, λ j p q. absurd (omega arith));
-        other = λ k i n. inl (let same : bad-digit ≡ k = cc in sym same);
+        other = λ k i n. inl (let same : bad_digit ≡ k = cc in sym same);
       }
 
   -- ---- octets s that stand from the offset `at` on
@@ -370,13 +370,13 @@ module _ (good : ℕ → Bool) (size : ℕ) where
       (j : ℕ) → at + k ≤ j → j < at + length xs → good j ≡ pars_good parameter_good (pars order_size k at xs) j (get_or xs (j - at) 0)
 
   -- 12 and 19 show nothing, whatever follows
-  cut_shown : 0 < size → (a b : ℕ) (t : Bool) (g : Fault) → Shows good size a b (faultThen (faultThen (ordered t) (Bad bad-form 0)) g)
+  cut_shown : 0 < size → (a b : ℕ) (t : Bool) (g : Fault) → Shows good size a b (fault_then (fault_then (ordered t) (Bad bad_form 0)) g)
   cut_shown m a b true g = form_shown a b
-  cut_shown m a b false g = other_shown a b wrong-order 0 (λ e. omega arith) (inr m)
+  cut_shown m a b false g = other_shown a b wrong_order 0 (λ e. omega arith) (inr m)
 
   ordered_shown : 0 < size → (a b : ℕ) (t : Bool) → AllGood good a b → Shows good size a b (ordered t)
   ordered_shown m a b true g = all_good a b g
-  ordered_shown m a b false g = other_shown a b wrong-order 0 (λ e. omega arith) (inr m)
+  ordered_shown m a b false g = other_shown a b wrong_order 0 (λ e. omega arith) (inr m)
 
   parameters_shown : 0 < size → (form : ℕ) (before : List ℕ) (k at : ℕ) (xs : List ℕ) → InParameters k at xs
       → Shows good size (at + k) (at + length xs) (parameters_fault form before k at xs)
@@ -402,8 +402,8 @@ module _ (good : ℕ → Bool) (size : ℕ) where
           → ((before : List ℕ) → InParameters n (at + 1) xs
           → Shows good size (at + 1 + n) (at + 1 + length xs) (parameters_fault form before n (at + 1) xs))
           → Shows good size (at + 0) (at + suc (length xs))
-          (faultThen
-          (faultThen (ordered (may_stand form x && not (among x before))) (formedThen b (layout_fault (layout_of x) (at + 1) (take n xs))))
+          (fault_then
+          (fault_then (ordered (may_stand form x && not (among x before))) (formed_then b (layout_fault (layout_of x) (at + 1) (take n xs))))
           (parameters_fault form (x ∷ before) n (at + 1) xs))
       go false e g ih = cut_shown m _ _ (may_stand form x && not (among x before)) _
       go true e g ih =
@@ -624,9 +624,9 @@ module _ (good : ℕ → Bool) (size : ℕ) where
       (behind_shown 0 2 (λ j x. is_right (get_or (drawn_for k) j Whole) x) s _ two g (drawn_shown 2 (drawn_for k) (field_octets s)))
       (checked two n (check_right k (field_octets s))))
     where
-      checked : 2 ≤ length s → (n : ℕ) (t : Bool) → Shows good size n n (cond t Sound (Bad check-digit (length s - 1)))
+      checked : 2 ≤ length s → (n : ℕ) (t : Bool) → Shows good size n n (cond t Sound (Bad check_digit (length s - 1)))
       checked l n true = all_good n n (λ j p q. absurd (omega arith))
-      checked l n false = other_shown n n check-digit (length s - 1) (λ e. omega arith) (inr (omega arith))
+      checked l n false = other_shown n n check_digit (length s - 1) (λ e. omega arith) (inr (omega arith))
 
   check_shown : (c : Check) (s : List ℕ) → length s ≤ size → Agrees 0 (check_good c s) s → Shows good size 0 (0 + length s) (check_fault c s)
   unfolding two_fault
@@ -681,7 +681,7 @@ fault_shown h s =
     formed_shown good (length s) 0 (0 + length s) (clear (zeroes_of h) (get_or s 0 0)) _
     (λ t. by_shown good (length s) (form_of h) s (omega arith) (λ j l. let same : 0 + j ≡ j = omega arith in ap good same))
 
-pub first_bad : (h : ℕ) (s : List ℕ) (i : ℕ) → fault_of h s ≡ Bad bad-digit i → FirstBad h s i
+pub first_bad : (h : ℕ) (s : List ℕ) (i : ℕ) → fault_of h s ≡ Bad bad_digit i → FirstBad h s i
 unfolding bad_at
 first_bad h s i e =
     let b = (fault_shown h s).bad i e in

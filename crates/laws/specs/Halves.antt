@@ -3,7 +3,7 @@ use Rattle.std.specs.Prelude.{ℕ, zero, suc, ◌+◌, ◌-◌, ◌/◌, ◌%◌
 use Rattle.std.proofs.Common.{arith, sym, ap, ◌∙◌, lt-ltb, le-ltb, ltb-true, ltb-false, length-take, get_or-take}
 use Rattle.std.proofs.lemmas.List.{length-map}
 use Rattle.std.proofs.Math.ListN.{get_or-map}
-use Rattle.annex.specs.Answers.{bad-digit}
+use Rattle.annex.specs.Answers.{bad_digit}
 use Rattle.annex.specs.Units.{halves_in}
 use Rattle.annex.specs.Digits.{halves, is_code, digit_of, halves_fault, digits_of}
 use Rattle.annex.specs.declared.HalfOctets.{HalfOctets}
@@ -63,7 +63,7 @@ first_left i n = go (ltb i n) refl
 
 -- one half: a digit where one is left, and else filler
 pub half_turn : (z : Alphabet) (n p h : ℕ) (hs : List ℕ) (b : Bool) (m : ℕ) → ltb 0 n ≡ b → n - 1 ≡ m
-    → halves_fault z n p (h ∷ hs) ≡ cond (cond b (is_code z h) (eqb h 0)) (halves_fault z m (p + 1) hs) (Bad bad-digit (p / 2))
+    → halves_fault z n p (h ∷ hs) ≡ cond (cond b (is_code z h) (eqb h 0)) (halves_fault z m (p + 1) hs) (Bad bad_digit (p / 2))
 unfolding halves_fault
 half_turn z zero p h hs b m e f = rw (← e, ← f)
 half_turn z (suc n) p h hs b m e f =

@@ -28,11 +28,11 @@ counts_halves (Counted Octet) = false
 
 -- digits have a count octet, and its zero bits are those that the marks leave; a number has none; contents held as they are have any
 abbrev pub row_fits : Form → ℕ → Extent → Bool
-row_fits (Checked c) zeroes e = true
-row_fits (Digits m) zeroes e = counts_halves e && eqb zeroes (zeroes_for m)
-row_fits Number zeroes e = eqb zeroes 0
-row_fits Calling zeroes e = eqb zeroes 0
-row_fits Generic zeroes e = eqb zeroes 0
+row_fits (Checked c) bits e = true
+row_fits (Digits m) bits e = counts_halves e && eqb bits (zeroes_for m)
+row_fits Number bits e = eqb bits 0
+row_fits Calling bits e = eqb bits 0
+row_fits Generic bits e = eqb bits 0
 
 row_test : ℕ → Bool
 row_test h = not (pli_right h) || row_fits (form_of h) (zeroes_of h) (extent_of h)

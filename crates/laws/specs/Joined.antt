@@ -3,7 +3,7 @@
 use Rattle.std.specs.Prelude.{ℕ, zero, suc, ◌+◌, ◌*◌, ◌/◌, ◌%◌, ◌<◌, ◌≤◌, ◌≡◌, refl, List, [], ◌∷◌, map, Bool, true, cond, not, ◌&&◌, ◌||◌, eqb, leb, length}
 use Rattle.std.proofs.Common.{arith, ap, eqb-true, leb-true, lt-ltb}
 use Rattle.std.proofs.lemmas.List.{length-map}
-use Rattle.annex.specs.Answers.{bad-digit}
+use Rattle.annex.specs.Answers.{bad_digit}
 use Rattle.annex.specs.Units.{octets_of}
 use Rattle.annex.specs.Digits.{
   halves,
@@ -181,16 +181,16 @@ halves_back z zero i [] l g = record { back = refl; digits = refl }
 halves_back z zero i (x ∷ s) l g = absurd (omega arith)
 halves_back z (suc n) i [] l g = absurd (omega arith)
 halves_back z (suc zero) i (x ∷ []) l g =
-    let p = passed (is_code z (x % 16)) (cond (eqb (x / 16) 0) Sound (Bad bad-digit ((i + 1) / 2))) bad-digit (i / 2) g in
-    let q = passed (eqb (x / 16) 0) Sound bad-digit ((i + 1) / 2) p.1 in
+    let p = passed (is_code z (x % 16)) (cond (eqb (x / 16) 0) Sound (Bad bad_digit ((i + 1) / 2))) bad_digit (i / 2) g in
+    let q = passed (eqb (x / 16) 0) Sound bad_digit ((i + 1) / 2) p.1 in
     let d = decoded z (x % 16) p.0 in
     let e : x % 16 ≡ x = omega (arith, eqb-true (x / 16) 0 q.0) in
     record { back = rw (d.back, e); digits = rw d.digit }
 halves_back z (suc zero) i (x ∷ y ∷ s) l g = absurd (omega arith)
 halves_back z (suc (suc n)) i (x ∷ s) l g =
     let r = halves_fault z n (i + 1 + 1) (halves s) in
-    let p = passed (is_code z (x % 16)) (cond (is_code z (x / 16)) r (Bad bad-digit ((i + 1) / 2))) bad-digit (i / 2) g in
-    let q = passed (is_code z (x / 16)) r bad-digit ((i + 1) / 2) p.1 in
+    let p = passed (is_code z (x % 16)) (cond (is_code z (x / 16)) r (Bad bad_digit ((i + 1) / 2))) bad_digit (i / 2) g in
+    let q = passed (is_code z (x / 16)) r bad_digit ((i + 1) / 2) p.1 in
     let c = decoded z (x % 16) p.0 in
     let d = decoded z (x / 16) q.0 in
     let e : x % 16 + 16 * (x / 16) ≡ x = omega arith in

@@ -4,7 +4,7 @@ use Rattle.std.proofs.Common.{arith, ap, eqb-true, leb-true, le-leb, ltb-true, l
 use Rattle.std.proofs.lemmas.Bool.{eqb-false}
 use Rattle.annex.specs.Units.{octets_of}
 use Rattle.annex.specs.Digits.{is_digit, halves, halves_fault, digits_fault, digits_of, packed, halves_for, count_of, number_fault_in, number_fault}
-use Rattle.annex.specs.Answers.{formed, formedThen}
+use Rattle.annex.specs.Answers.{formed, formed_then}
 use Rattle.annex.specs.Contents.{presentation_of, calling_fault}
 use Rattle.annex.specs.Items.{Item, number_item, open_by, number_contents, own_fields}
 use Rattle.annex.specs.declared.Holding.TheVariants.{AsNumber}
@@ -83,7 +83,7 @@ number_open at (x ∷ y ∷ t) o f =
     let n = count_of (x ∷ y ∷ t) in
     let v = not (eqb (x / 128) 1 && eqb (suc (suc (length t))) 2) in
     let w = digits_fault Numbered n (at + 2) t in
-    let p = then_sound v w (then_sound (not (ltb (suc (suc (length t))) 2)) (formedThen v w) f).1 in
+    let p = then_sound v w (then_sound (not (ltb (suc (suc (length t))) 2)) (formed_then v w) f).1 in
     let m : x / 128 ≤ length t * 2 = some_digit x (length t) a p.0 in
     let k : length t ≡ (octets_of n).0 = omega arith in
     let u = unpacked Numbered n (at + 2) t k p.1 in

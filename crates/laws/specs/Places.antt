@@ -2,7 +2,7 @@
 -- at its header. What an edit itself is refused for is told at place 0.
 use Rattle.std.specs.Prelude.{ℕ, ◌+◌, ◌≤◌, ◌≡◌, refl, Bool, true, false, not, List, eqb, leb, ltb, length, get_or}
 use Rattle.std.proofs.Common.{arith, ap}
-use Rattle.annex.specs.Answers.{repeated-name, transfer-over, no_room, absent, refuse, soundThen, header_at}
+use Rattle.annex.specs.Answers.{repeated_name, transfer_over, no_room, absent, refuse, sound_then, header_at}
 use Rattle.annex.specs.Units.{name_of, after_of, extent_of, contents_in}
 use Rattle.annex.specs.Heads.{among, transfer_data, most_transfer_octets, often_of}
 use Rattle.annex.specs.Contents.{fault_of}
@@ -27,7 +27,7 @@ pub refuse_told : (s : ℕ) (b : Bool) (k : ℕ) (a c : Answer) → a ≡ told_a
 refuse_told s true k a c e = refl
 refuse_told s false k a c e = e
 
-sound_told : (s : ℕ) (f : Fault) (a c : Answer) → a ≡ told_at s c → soundThen (header_at s) f a ≡ told_at s (soundThen (header_at 0) f c)
+sound_told : (s : ℕ) (f : Fault) (a c : Answer) → a ≡ told_at s c → sound_then (header_at s) f a ≡ told_at s (sound_then (header_at 0) f c)
 sound_told s Sound a c e = e
 sound_told s (Bad k i) a c e = refl
 
@@ -74,7 +74,7 @@ unfolding edit_refusal
 edit_place (Replacing new which) is = new_place new (leb (times_in (name_of (new_header new)) (names_of is)) which) absent
 edit_place (Appending new) is =
     let x = name_of (new_header new) in
-    new_place new (leb (often_of x) (times_in x (names_of is))) repeated-name
+    new_place new (leb (often_of x) (times_in x (names_of is))) repeated_name
 edit_place (Removing x which) is =
     refuse_place 0 (leb (times_in x (names_of is)) which) absent 0 (Accepted 0) (omega arith) (accepted_place 0 0)
 
@@ -84,5 +84,5 @@ record_place e r room =
     let n = length (layout (edited e r)) in
     refuse_place 0 (not (among transfer_data (headers_of r))) absent 0 _ (omega arith)
     (then_place 0 (edit_refusal e (items_in r)) _ (edit_place e (items_in r))
-    (λ q. refuse_place 0 (ltb most_transfer_octets (length (layout_items (items_in (edited e r))))) transfer-over 0 _ (omega arith)
+    (λ q. refuse_place 0 (ltb most_transfer_octets (length (layout_items (items_in (edited e r))))) transfer_over 0 _ (omega arith)
     (refuse_place 0 (ltb room n) no_room 0 (Accepted n) (omega arith) (accepted_place 0 n))))

@@ -12,7 +12,7 @@ use native.Mathlib.Omega.{arith}
 use borrow.Author.Tests.{leb-true, le-leb, lt-leb}
 use Rattle.std.proofs.Math.Dec.{eqb, ltb}
 use Rattle.annex.specs.Units.{after_of, common_extent_of, contents_in}
-use Rattle.annex.specs.Answers.{over-limits}
+use Rattle.annex.specs.Answers.{over_the_limits}
 use Rattle.annex.specs.Contents.{Rule, fault_of}
 use Rattle.annex.specs.Heads.{end_mark, transfer_data, most_octets}
 use Rattle.annex.specs.Allowed.{Each}
@@ -229,7 +229,7 @@ module _ (rule : Rule) where
   pub commons_plain : (m : List ℕ) (q : ℕ) → verdict_by rule m ≡ Accepted q → commons_by rule m ≡ pars common_size 0 0 m
   unfolding verdict_by
   commons_plain m q e =
-      message_plain m q (passed (eqb (length m) 0 || ltb most_octets (length m)) over-limits 0 q (message_verdict_by rule m) e).1
+      message_plain m q (passed (eqb (length m) 0 || ltb most_octets (length m)) over_the_limits 0 q (message_verdict_by rule m) e).1
 
 -- the transfer data of an accepted message is accepted
 unfoldable pub InnerSound : Par → Type 0

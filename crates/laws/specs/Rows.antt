@@ -11,7 +11,7 @@ use borrow.Author.Tests.{leb-true}
 use Rattle.std.proofs.Math.Dec.{leb}
 use Rattle.std.proofs.Math.ListN.{length}
 use Rattle.annex.specs.Units.{lead_of, extent_of, common_extent_of}
-use Rattle.annex.specs.Answers.{over-limits}
+use Rattle.annex.specs.Answers.{over_the_limits}
 use Rattle.annex.specs.Heads.{most_octets}
 use Rattle.annex.specs.Walk.{
   Seen,
@@ -98,7 +98,7 @@ commons_sum m q e =
     omega (
       arith,
       listing_sum common_step common_close (λ seen h xs n. common_within fault_of _ _ h xs n) m unseen 0 0 q (omega arith)
-          (passed (eqb (length m) 0 || ltb most_octets (length m)) over-limits 0 q (message_verdict m) e).1,
+          (passed (eqb (length m) 0 || ltb most_octets (length m)) over_the_limits 0 q (message_verdict m) e).1,
     )
 
 -- those of transfer data add up to it

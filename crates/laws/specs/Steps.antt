@@ -14,23 +14,23 @@ use Rattle.laws.specs.Extents.{lead_within}
 use Rattle.laws.specs.Bools.{or_right}
 use Rattle.laws.specs.Offsets.{RuleWithin, reading_within}
 use Rattle.annex.specs.Answers.{
-  over-limits,
+  over_the_limits,
   unlisted,
   repeated,
   cut_short,
-  not-allowed,
+  not_allowed,
   missing,
   left_over,
-  unused-name,
-  other-pli,
-  repeated-name,
-  cut-contents,
+  unused_name,
+  other_pli,
+  repeated_name,
+  cut_contents,
   no_room,
   place_of,
   given_of,
   refuse,
-  soundThen,
-  readingAt,
+  sound_then,
+  reading_at,
   and_then,
   shifted,
 }
@@ -90,7 +90,7 @@ pub told_roomy : (a : Answer) (room count : ℕ) → ((q : ℕ) → a ≡ Accept
 told_roomy (Accepted q) room count f = rw (le-ltb room count (f q refl))
 told_roomy (Refused k p) room count f = refl
 
-pub sounded : (place : ℕ → ℕ → ℕ) (f : Fault) (n : ℕ) (a : Answer) → soundThen place f a ≡ Accepted n → (f ≡ Sound) × (a ≡ Accepted n)
+pub sounded : (place : ℕ → ℕ → ℕ) (f : Fault) (n : ℕ) (a : Answer) → sound_then place f a ≡ Accepted n → (f ≡ Sound) × (a ≡ Accepted n)
 sounded place Sound n a e = (refl, e)
 sounded place (Bad k i) n a e = absurd (let z : ◌≡◌ {A = ℕ} 0 1 = cc in omega arith)
 
@@ -99,9 +99,9 @@ pub head_refuse : (h : ℕ) → (b : Bool) × (k : ℕ) × ((p : ℕ) (a : Answe
 head_refuse h = go (name_used h) (pli_right h)
   where
     go : (u r : Bool)
-        → (b : Bool) × (k : ℕ) × ((p : ℕ) (a : Answer) → refuse (not u) unused-name p (refuse (not r) other-pli p a) ≡ refuse b k p a)
-    go false r = (true, unused-name, λ p a. refl)
-    go true r = (not r, other-pli, λ p a. refl)
+        → (b : Bool) × (k : ℕ) × ((p : ℕ) (a : Answer) → refuse (not u) unused_name p (refuse (not r) other_pli p a) ≡ refuse b k p a)
+    go false r = (true, unused_name, λ p a. refl)
+    go true r = (not r, other_pli, λ p a. refl)
 
 -- what is accepted has passed them
 pub record HeadTaken (h n : ℕ) (a : Answer) : Type 0 where
@@ -148,7 +148,7 @@ head_place l p h a i g = let o = head_refuse h in rw (o.2 p a) (refuse_place l o
 
 -- a fault is placed at most at l where its placing says so
 pub sound_place : (l : ℕ) (place : ℕ → ℕ → ℕ) (f : Fault) (a : Answer) → ((k i : ℕ) → f ≡ Bad k i → place k i ≤ l) → PlaceTo l a
-    → PlaceTo l (soundThen place f a)
+    → PlaceTo l (sound_then place f a)
 sound_place l place Sound a h g = g
 sound_place l place (Bad k i) a h g = refused_place l k (place k i) (h k i refl)
 
@@ -206,7 +206,7 @@ form_place : (times h : ℕ) (xs : List ℕ) → PlaceTo 0 (common_form times h 
 unfolding common_form
 form_place times h xs =
     let n = after_of (common_extent_of h) (get_or xs 0 0) in
-    let right = refuse_place 0 (not (octet_allowed h (get_or xs 0 0))) not-allowed 0 (Accepted n) (omega arith) (accepted_place 0 n) in
+    let right = refuse_place 0 (not (octet_allowed h (get_or xs 0 0))) not_allowed 0 (Accepted n) (omega arith) (accepted_place 0 n) in
     let whole = refuse_place 0 (ltb (length xs) n) cut_short 0 _ (omega arith) right in
     let once = refuse_place 0 (ltb 0 times) repeated 0 _ (omega arith) whole in
     refuse_place 0 (not (among h listed_headers)) unlisted 0 _ (omega arith) once
@@ -254,7 +254,7 @@ module _ (rule : Rule) where
       let e₂ = passed (not (pli_right h)) _ 0 n _ e₁.1 in
       let e₃ = passed (leb (often_of (name_of h)) times) _ 0 n _ e₂.1 in
       let e₄ = passed (ltb (length xs) l) _ 0 n _ e₃.1 in
-      let e₅ = sounded (readingAt (1 + lead_of (extent_of h))) (rule h (contents_in (extent_of h) (take l xs))) n (Accepted l) e₄.1 in
+      let e₅ = sounded (reading_at (1 + lead_of (extent_of h))) (rule h (contents_in (extent_of h) (take l xs))) n (Accepted l) e₄.1 in
       let same : l ≡ n = cc in
       record {
         used = not-false (name_used h) e₁.0;
@@ -336,19 +336,19 @@ module _ (rule : Rule) (inside : RuleWithin rule) where
       let l = length xs in
       let e = extent_of h in
       let n = after_of e (get_or xs 0 0) in
-      let whole = refuse_else l (ltb l n) cut-contents 0 _ (omega arith) (λ w. sound n (lead_within e (get_or xs 0 0)) (ltb-false l n w)) in
-      let once = refuse_place l (leb (often_of (name_of h)) times) repeated-name 0 _ (omega arith) whole in
-      let right = refuse_place l (not (pli_right h)) other-pli 0 _ (omega arith) once in
-      refuse_place l (not (name_used h)) unused-name 0 _ (omega arith) right
+      let whole = refuse_else l (ltb l n) cut_contents 0 _ (omega arith) (λ w. sound n (lead_within e (get_or xs 0 0)) (ltb-false l n w)) in
+      let once = refuse_place l (leb (often_of (name_of h)) times) repeated_name 0 _ (omega arith) whole in
+      let right = refuse_place l (not (pli_right h)) other_pli 0 _ (omega arith) once in
+      refuse_place l (not (name_used h)) unused_name 0 _ (omega arith) right
     where
       sound : (n : ℕ) → lead_of (extent_of h) ≤ n → n ≤ length xs
           → PlaceTo (length xs)
-          (soundThen (readingAt (1 + lead_of (extent_of h))) (rule h (contents_in (extent_of h) (take n xs))) (Accepted n))
+          (sound_then (reading_at (1 + lead_of (extent_of h))) (rule h (contents_in (extent_of h) (take n xs))) (Accepted n))
       sound n front whole =
           let c = contents_in (extent_of h) (take n xs) in
           let lead = lead_of (extent_of h) in
           let few : lead + length c ≤ length xs = omega (arith, length-drop lead (take n xs), length-take n xs) in
-          sound_place (length xs) (readingAt (1 + lead)) (rule h c) (Accepted n)
+          sound_place (length xs) (reading_at (1 + lead)) (rule h c) (Accepted n)
           (λ k i f. omega (arith, reading_within lead (length c) (rule h c) (inside h c) k i f)) (accepted_place (length xs) n)
 
   pub transfers_place : (t : List ℕ) → PlaceTo (length t) (transfers_verdict_by rule t)
@@ -386,7 +386,7 @@ module _ (rule : Rule) (inside : RuleWithin rule) where
   pub verdict_place : (m : List ℕ) → PlaceTo (most_octets + 2) (verdict_by rule m)
   unfolding verdict_by message_verdict_by
   verdict_place m =
-      refuse_else (most_octets + 2) (eqb (length m) 0 || ltb most_octets (length m)) over-limits 0 (message_verdict_by rule m) (omega arith)
+      refuse_else (most_octets + 2) (eqb (length m) 0 || ltb most_octets (length m)) over_the_limits 0 (message_verdict_by rule m) (omega arith)
       (λ e. place_up (0 + length m + 2) (most_octets + 2) _
       (omega (arith, ltb-false most_octets (length m) (or_right (eqb (length m) 0) _ e)))
       (walk_place (common_step_by rule) common_close 2

@@ -5,7 +5,7 @@
 ghost use Rattle.std.specs.Prelude.{◌≡◌, List, [], ℕ, ◌≤◌, leb, length, get_or};
 ghost use Rattle.annex.specs.Promises.{Gives, Keeps};
 ghost use Rattle.annex.specs.Units.{extent_of};
-ghost use Rattle.annex.specs.Answers.{formedThen};
+ghost use Rattle.annex.specs.Answers.{formed_then};
 ghost use Rattle.annex.specs.Items.{holding_by, holding_of, upper_marks, number_contents, contents_by, contents_of};
 ghost use Rattle.annex.specs.declared.Holding.TheVariants.{AsDigits, AsGeneric};
 ghost use Rattle.annex.specs.Layout.{layout_item};
@@ -157,7 +157,7 @@ fn number_right(withholdable: bool, t: Transfer, digits: &[u8]) -> bool
 
 // Digits and numbers: a mark or field too large for its bits, then a value that is no digit.
 fn fields_fault(good: bool, digits: &[u8]) -> Fault
-    ensures { result ≡ formedThen good (values_fault digits.now) }
+    ensures { result ≡ formed_then good (values_fault digits.now) }
 {
     if !good {
         return Fault::Bad(Answer::BAD_FORM, 0);

@@ -2,7 +2,7 @@
 use Rattle.std.specs.Prelude.{ℕ, suc, ◌+◌, ◌≤◌, ◌≡◌, refl, Bool, true, false, not, ◌&&◌, ◌||◌, List, [], ◌∷◌, leb, ltb, length, take, drop}
 use Rattle.std.proofs.Common.{arith, ap, leb-true, le-ltb, length-take, length-drop}
 use Rattle.std.proofs.lemmas.Bool.{not-false}
-use Rattle.annex.specs.Answers.{over-limits, refuse}
+use Rattle.annex.specs.Answers.{over_the_limits, refuse}
 use Rattle.annex.specs.Heads.{most_commons, most_transfers, most_transfer_octets, most_values}
 use Rattle.annex.specs.Items.{Item, held_as, contents_by, contents_of}
 use Rattle.annex.specs.declared.Holding.{Holding}
@@ -72,12 +72,12 @@ contents_most i = go (held_as i)
     go AsGeneric = omega (arith, length-packed Numbered (drop 1 i.values), length-drop 1 i.values)
 
 -- what is over is refused with 1, and what is not is refused by its parts
-pub over_refused : (q : Record) → is_over q ≡ true → struct_writing q ≡ Refused over-limits 0
+pub over_refused : (q : Record) → is_over q ≡ true → struct_writing q ≡ Refused over_the_limits 0
 unfolding struct_writing record_writing
 over_refused q e = go (is_whole q) (over_limits (view q)) e
   where
     go : (b o : Bool) → not b || o ≡ true
-        → refuse (not b) over-limits 0 (refuse o over-limits 0 (parts_writing unseen 0 (view q))) ≡ Refused over-limits 0
+        → refuse (not b) over_the_limits 0 (refuse o over_the_limits 0 (parts_writing unseen 0 (view q))) ≡ Refused over_the_limits 0
     go true true e = refl
     go true false e = absurd (let z : ◌≡◌ {A = ℕ} 0 1 = cc in omega arith)
     go false o e = refl

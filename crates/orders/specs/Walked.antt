@@ -2,7 +2,7 @@
 use Rattle.std.specs.Prelude.{ℕ, zero, suc, ◌+◌, ◌-◌, ◌≤◌, ◌<◌, ◌≡◌, refl, Bool, true, false, cond, not, ◌&&◌, ◌||◌, List, [], ◌∷◌, eqb, leb, ltb, length, get_or, set, take, drop, replicate}
 use Rattle.std.proofs.Common.{arith, sym, ap, ◌∙◌, le-leb, leb-true, leb-false, eqb-true, ltb-true, length-drop, length-set, drop_of_length-le, get_or-drop, drop-drop, get_or-set_same, get_or-set_other}
 use Rattle.std.proofs.lemmas.Bool.{lt-leb, eqb-false}
-use Rattle.annex.specs.Answers.{bad-form, wrong-order, formedThen, faultThen}
+use Rattle.annex.specs.Answers.{bad_form, wrong_order, formed_then, fault_then}
 use Rattle.annex.specs.Heads.{among}
 use Rattle.annex.specs.Orders.{
   order_forms,
@@ -43,7 +43,7 @@ there_so s at n h = go (leb (at + n) (length s)) refl
 
 -- those from an offset on that are the header's own
 pub own_so : (k : OrderLayout) (s : List ℕ) (at n : ℕ) → n ≡ order_after k (get_or s at 0)
-    → own_fault k at (drop at s) ≡ formedThen (leb (at + n) (length s)) (layout_fault k at (drop at (take (at + n) s)))
+    → own_fault k at (drop at s) ≡ formed_then (leb (at + n) (length s)) (layout_fault k at (drop at (take (at + n) s)))
 unfolding own_fault
 own_so k s at n e =
     let f : order_after k (get_or (drop at s) 0 0) ≡ n = ap (order_after k) (head_at s at) ∙ sym e in
@@ -68,7 +68,7 @@ left_fault form before at s = parameters_fault form before 0 at (drop at s)
 turn : (form : ℕ) (before : List ℕ) (at : ℕ) (s : List ℕ) → at < length s →
     let h = get_or s at 0 in
     left_fault form before at s
-    ≡ faultThen (parameter_fault form before (at + 1) h (drop (at + 1) s))
+    ≡ fault_then (parameter_fault form before (at + 1) h (drop (at + 1) s))
     (left_fault form (h ∷ before) (at + 1 + order_after (layout_of h) (get_or s (at + 1) 0)) s)
 unfolding parameters_fault
 turn form before at s l =
@@ -78,9 +78,9 @@ turn form before at s l =
     let e = parameters_skip form (h ∷ before) n (at + 1) xs in
     let d : drop n xs ≡ drop (at + 1 + n) s = drop-drop n (at + 1) s in
     ap (parameters_fault form before 0 at) (octet_next s at l)
-    ∙ ap (faultThen (parameter_fault form before (at + 1) h xs)) (e ∙ ap (parameters_fault form (h ∷ before) 0 (at + 1 + n)) d)
+    ∙ ap (fault_then (parameter_fault form before (at + 1) h xs)) (e ∙ ap (parameters_fault form (h ∷ before) 0 (at + 1 + n)) d)
     ∙ ap
-    (λ (x : ℕ). faultThen (parameter_fault form before (at + 1) h xs) (left_fault form (h ∷ before) (at + 1 + order_after (layout_of h) x) s))
+    (λ (x : ℕ). fault_then (parameter_fault form before (at + 1) h xs) (left_fault form (h ∷ before) (at + 1 + order_after (layout_of h) x) s))
     (head_at s (at + 1))
 
 -- past the last there is nothing
@@ -138,12 +138,12 @@ pub record Going (s : List ℕ) (seen : List Bool) (at : ℕ) : Type 0 where
   pub left : order_fault s ≡ left_fault (get_or s 0 0) before at s
   pub marks : Stood seen before
 
-pub no_form : (s : List ℕ) → length s ≡ 0 → order_fault s ≡ Bad bad-form 0
+pub no_form : (s : List ℕ) → length s ≡ 0 → order_fault s ≡ Bad bad_form 0
 unfolding order_fault
 no_form [] e = refl
 no_form (x ∷ xs) e = absurd (omega arith)
 
-pub other_form : (s : List ℕ) → (length s ≡ 0 → ⊥) → among (get_or s 0 0) order_forms ≡ false → order_fault s ≡ Bad wrong-order 0
+pub other_form : (s : List ℕ) → (length s ≡ 0 → ⊥) → among (get_or s 0 0) order_forms ≡ false → order_fault s ≡ Bad wrong_order 0
 unfolding order_fault
 other_form [] n e = absurd (n refl)
 other_form (x ∷ xs) n e = rw e
@@ -165,12 +165,12 @@ module _ (s : List ℕ) (seen : List Bool) (at : ℕ) (g : Going s seen at) (l :
   behind = at + 1 + order_after (layout_of h) (get_or s (at + 1) 0)
 
   here : order_fault s
-      ≡ faultThen (faultThen (ordered (may_stand form h && not (among h g.before))) (own_fault (layout_of h) (at + 1) (drop (at + 1) s)))
+      ≡ fault_then (fault_then (ordered (may_stand form h && not (among h g.before))) (own_fault (layout_of h) (at + 1) (drop (at + 1) s)))
       (left_fault form (h ∷ g.before) behind s)
   unfolding parameter_fault
   here = g.left ∙ turn form g.before at s l
 
-  pub may_not : may_stand form h ≡ false → order_fault s ≡ Bad wrong-order 0
+  pub may_not : may_stand form h ≡ false → order_fault s ≡ Bad wrong_order 0
   may_not e = here ∙ rw e
 
   -- one that may stand, by its mark
@@ -178,11 +178,11 @@ module _ (s : List ℕ) (seen : List Bool) (at : ℕ) (g : Going s seen at) (l :
     listed : among h order_headers ≡ true
     listed = stands_listed form h e
 
-    pub stood : get_or seen (row_place h) false ≡ true → order_fault s ≡ Bad wrong-order 0
+    pub stood : get_or seen (row_place h) false ≡ true → order_fault s ≡ Bad wrong_order 0
     stood f = here ∙ rw (e, sym (g.marks.told h listed) ∙ f)
 
     stands : get_or seen (row_place h) false ≡ false
-        → order_fault s ≡ faultThen (own_fault (layout_of h) (at + 1) (drop (at + 1) s)) (left_fault form (h ∷ g.before) behind s)
+        → order_fault s ≡ fault_then (own_fault (layout_of h) (at + 1) (drop (at + 1) s)) (left_fault form (h ∷ g.before) behind s)
     stands f = here ∙ rw (e, sym (g.marks.told h listed) ∙ f)
 
     pub own_bad : get_or seen (row_place h) false ≡ false → (k i : ℕ) → own_fault (layout_of h) (at + 1) (drop (at + 1) s) ≡ Bad k i

@@ -1,7 +1,7 @@
 // What is wrong with the contents of one transfer parameter: the refusal's number, and the offset of the octet in the contents.
 ghost use Rattle.std.specs.Prelude.{◌≡◌};
 ghost use Rattle.annex.specs.Promises.{Gives};
-ghost use Rattle.annex.specs.Answers.{soundThen, header_at};
+ghost use Rattle.annex.specs.Answers.{sound_then, header_at};
 ghost use Rattle.annex.specs.declared.Answer.TheVariants.{Accepted};
 ghost use Rattle.annex.specs.Contents.{calling_fault, generic_fault, dialled_fault, two_fault, check_fault, fault_by, fault_under, fault_of};
 
@@ -120,7 +120,7 @@ pub fn contents_fault(header: u8, s: &[u8]) -> Fault
 
 // A fault is refused at the header, whatever its offset; where there is none, n is accepted.
 pub fn at_header(f: Fault, n: usize) -> Answer
-    ensures { Gives (soundThen (header_at 0) f (Accepted n)) result }
+    ensures { Gives (sound_then (header_at 0) f (Accepted n)) result }
 {
     match f {
         Fault::Sound => Answer::Accepted(n),

@@ -2,7 +2,7 @@
 // its octet, every other number at the header.
 ghost use Rattle.std.specs.Prelude.{◌≡◌, ◌+◌, ◌^◌, ◌<◌};
 ghost use Rattle.annex.specs.Promises.{Gives};
-ghost use Rattle.annex.specs.Answers.{offset_of, soundThen, readingAt};
+ghost use Rattle.annex.specs.Answers.{offset_of, sound_then, reading_at};
 ghost use Rattle.annex.specs.declared.Answer.TheVariants.{Accepted};
 ghost use Rattle.annex.specs.Reading.{transfer_of};
 ghost use Rattle.heads.specs.Asked.{Asks};
@@ -17,7 +17,7 @@ use units::after_header;
 // is none, n is accepted.
 fn at_octet(f: Fault, start: usize, n: usize) -> Answer
     requires { start + offset_of f < 2 ^ 64 }
-    ensures { result ≡ soundThen (readingAt start) f (Accepted n) }
+    ensures { result ≡ sound_then (reading_at start) f (Accepted n) }
 {
     match f {
         Fault::Sound => Answer::Accepted(n),

@@ -7,7 +7,7 @@ use Rattle.std.proofs.Math.Bool.{true, false}
 use borrow.Author.Tests.{leb-true, leb-false, lt-ltb, le-ltb}
 use Rattle.std.proofs.Math.ListN.{length}
 use Rattle.std.proofs.Math.Seq.{take_at}
-use Rattle.annex.specs.Answers.{over-limits, outside-profile, no_room, given_of, refuse, and_then, roomAfter}
+use Rattle.annex.specs.Answers.{over_the_limits, outside_profile, no_room, given_of, refuse, and_then, room_after}
 use Rattle.annex.specs.Heads.{most_octets}
 use Rattle.annex.specs.Layout.{layout}
 use Rattle.annex.specs.Allowed.{every, is_octet, Held}
@@ -44,7 +44,7 @@ module _ (m : List ℕ) where
   verdict_refused k p e = rw e
 
   module _ (o : every is_octet m ≡ true) (n : ℕ) (e : verdict_of m ≡ Accepted n) where
-    pub verdict_outside : keeps_plain m ≡ false → ProfileVerdictPromise m (Refused outside-profile (n - 1))
+    pub verdict_outside : keeps_plain m ≡ false → ProfileVerdictPromise m (Refused outside_profile (n - 1))
     unfolding profile_verdict
     verdict_outside k = rw (e, ← keeps_so m o n e, k)
 
@@ -69,7 +69,7 @@ module _ (s room : List ℕ) (b : Bool) (now : List ℕ) (c : Keeps (copying roo
 -- a message handed out: 20 at its end mark, then 15
 abbrev pub handing : List ℕ → ℕ → Answer
 handing m room =
-    refuse (not (keeps_plain m)) outside-profile (length m - 1) (refuse (ltb room (length m)) no_room 0 (Accepted (length m)))
+    refuse (not (keeps_plain m)) outside_profile (length m - 1) (refuse (ltb room (length m)) no_room 0 (Accepted (length m)))
 
 -- what writing gave in a draft, handed out: refused, or the message at the draft's front
 abbrev pub handing_by : Answer → List ℕ → ℕ → Answer
@@ -83,7 +83,7 @@ Within (Refused k p) l = Unit {0}
 
 abbrev pub HandsOut : Answer → List ℕ → List ℕ → Answer → List ℕ → Type 0
 HandsOut a d room r now =
-    (r ≡ handing_by a d (length room)) × (now ≡ roomAfter (handing_by a d (length room)) (take (given_of a) d) room)
+    (r ≡ handing_by a d (length room)) × (now ≡ room_after (handing_by a d (length room)) (take (given_of a) d) room)
 
 -- accepted: the message at the draft's front
 module _ (a : Answer) (n : ℕ) (e : a ≡ Accepted n) (d room : List ℕ) (w : Within a (length d)) where
@@ -93,7 +93,7 @@ module _ (a : Answer) (n : ℕ) (e : a ≡ Accepted n) (d room : List ℕ) (w : 
   pub front_long : length (take n d) ≡ n
   front_long = length-take-le n d within.1
 
-  pub hands_outside : keeps_plain (take n d) ≡ false → HandsOut a d room (Refused outside-profile (n - 1)) room
+  pub hands_outside : keeps_plain (take n d) ≡ false → HandsOut a d room (Refused outside_profile (n - 1)) room
   hands_outside k = (rw (e, k, front_long), rw (e, k))
 
   module _ (k : keeps_plain (take n d) ≡ true) where
@@ -116,7 +116,7 @@ module _ (s : Record) (h : Held (view s)) where
   unfolding struct_writing
   drafted_so n e =
       let m = layout (view s) in
-      let w = writing_writable (view s) h n (passed (not (is_whole s)) over-limits 0 n (record_writing (view s)) e).1 in
+      let w = writing_writable (view s) h n (passed (not (is_whole s)) over_the_limits 0 n (record_writing (view s)) e).1 in
       let l = laid_then_read (view s) (writable_allowed (view s) w.0) in
       record {
         accepted = e;
@@ -140,8 +140,8 @@ module _ (s : Record) (h : Held (view s)) where
   drafted_handed n d room = rw (d.accepted, d.kept, d.length-given) (go (is_in_profile (view s)) (length (layout (view s))))
     where
       go : (b : Bool) (n : ℕ)
-          → and_then (refuse (not b) outside-profile (n - 1) (Accepted n)) (λ k. refuse (ltb room k) no_room 0 (Accepted k))
-          ≡ refuse (not b) outside-profile (n - 1) (refuse (ltb room n) no_room 0 (Accepted n))
+          → and_then (refuse (not b) outside_profile (n - 1) (Accepted n)) (λ k. refuse (ltb room k) no_room 0 (Accepted k))
+          ≡ refuse (not b) outside_profile (n - 1) (refuse (ltb room n) no_room 0 (Accepted n))
       go true n = refl
       go false n = refl
 
@@ -154,7 +154,7 @@ module _ (s : Record) (h : Held (view s)) where
       absurd (let z : ◌≡◌ {A = ℕ} 0 1 = cc in omega arith)
 
   draft_handed : (d room : List ℕ) (w : Answer) → writing_of s most_octets ≡ w
-      → HandsOut w (roomAfter w (layout (view s)) d) room (profile_writing s (length room)) (profile_written s room)
+      → HandsOut w (room_after w (layout (view s)) d) room (profile_writing s (length room)) (profile_written s room)
   unfolding writing_of profile_writing profile_refusal profile_written
   draft_handed d room (Accepted n) e =
       let g = drafted n e in
@@ -179,7 +179,7 @@ module _ (d : List ℕ) (l : length d ≡ most_octets) (a : Answer) (left : List
     unfolding written_of
     write_handed room r now q =
         let t = draft_handed s h d room (writing_of s most_octets) refl in
-        let g : HandsOut (writing_of s most_octets) (roomAfter (writing_of s most_octets) (layout (view s)) d) room r now =
+        let g : HandsOut (writing_of s most_octets) (room_after (writing_of s most_octets) (layout (view s)) d) room r now =
         rw (p.0, p.1, l) at q in
         (g.0 ∙ sym t.0, g.1 ∙ sym t.1)
 
@@ -198,8 +198,8 @@ module _ (d : List ℕ) (l : length d ≡ most_octets) (a : Answer) (left image 
   image_handed room r now q = go (imaged_of image).answer (rw (p.0, p.1) at q)
     where
       go : (b : Answer) → let w = and_then b (λ _. writing_of (imaged_of image).held (length d)) in
-          HandsOut w (roomAfter w (layout (view (imaged_of image).held)) d) room r now
+          HandsOut w (room_after w (layout (view (imaged_of image).held)) d) room r now
           → let g = and_then b (λ _. profile_writing (imaged_of image).held (length room)) in
-          (r ≡ g) × (now ≡ roomAfter g (layout (view (imaged_of image).held)) room)
+          (r ≡ g) × (now ≡ room_after g (layout (view (imaged_of image).held)) room)
       go (Accepted n) f = write_handed d l _ _ (imaged_of image).held (image_view_held image o) (refl, refl) room r now f
       go (Refused k j) f = f

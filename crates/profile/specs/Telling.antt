@@ -5,7 +5,7 @@ use Rattle.std.proofs.Math.Path.{refl}
 use Rattle.std.proofs.Math.Bool.{true, cond}
 use borrow.Author.Tests.{eqb-true, lt-ltb, le-ltb}
 use Rattle.std.proofs.Math.Dec.{eqb}
-use Rattle.annex.specs.Answers.{no_room, absent, and_then, roomAfter}
+use Rattle.annex.specs.Answers.{no_room, absent, and_then, room_after}
 use Rattle.annex.specs.Allowed.{every, is_octet}
 use Rattle.annex.specs.Reading.{verdict_of, record_of}
 use Rattle.annex.specs.Records.{pack, read_by, reading_of}
@@ -89,7 +89,7 @@ module _ (m : List ℕ) (o : every is_octet m ≡ true) where
   image_outside k room = go (profile_verdict m) (outside k)
     where
       go : (a : Answer) → ((n : ℕ) → a ≡ Accepted n → ⊥) → let b = and_then a (λ _. image_reading m (length room)) in
-          (a ≡ b) × (room ≡ roomAfter b (image_of (record_of m)) room)
+          (a ≡ b) × (room ≡ room_after b (image_of (record_of m)) room)
       go (Accepted n) f = absurd (f n refl)
       go (Refused j p) f = (refl, refl)
 

@@ -6,7 +6,7 @@ use Rattle.std.proofs.Common.{◌∙◌, length-drop, drop_of_length-le, drop-co
 use Rattle.std.proofs.Math.Bool.{true, false}
 use borrow.Author.Tests.{eq-eqb, ne_eqb}
 use Rattle.std.proofs.Math.ListN.{length}
-use Rattle.annex.specs.Answers.{bad-form, bad-digit, check-digit, faultThen}
+use Rattle.annex.specs.Answers.{bad_form, bad_digit, check_digit, fault_then}
 use Rattle.annex.specs.Rates.{
   is_kind,
   fields_of,
@@ -77,7 +77,7 @@ pub characters_known : (at : ℕ) (xs : List ℕ) → characters_fault at xs ≡
 unfolding drawn_fault outside_fault
 characters_known at [] = refl
 characters_known at (x ∷ xs) =
-    ap (λ (f : Fault). cond (is_right Character x) f (Bad bad-digit at)) (characters_known (at + 1) xs)
+    ap (λ (f : Fault). cond (is_right Character x) f (Bad bad_digit at)) (characters_known (at + 1) xs)
 
 -- one of them, and those behind it
 pub sum_more : (s : List ℕ) (i : ℕ) → i < length s → characters_sum (drop i s) ≡ get_or s i 0 % 16 + characters_sum (drop (i + 1) s)
@@ -111,7 +111,7 @@ module _ (d : Drawn) (s : List ℕ) where
 
   pub behind_fault : 2 < length s
       → drawn_fault 2 (behind d (length s - 2)) (drop 2 s)
-      ≡ cond (is_right d (get_or s 2 0)) (characters_fault 3 (drop 3 s)) (Bad bad-digit 2)
+      ≡ cond (is_right d (get_or s 2 0)) (characters_fault 3 (drop 3 s)) (Bad bad_digit 2)
   unfolding drawn_fault
   behind_fault h =
       let e = split h in
@@ -133,11 +133,11 @@ and_never true = refl
 and_never false = refl
 
 module _ (s : List ℕ) (l : kind_in s < 256) (r : Asked) (e : r ≡ asked_of (kind_in s)) where
-  pub not_listed : r.listed ≡ false → charging_fault s ≡ Bad bad-form 0
+  pub not_listed : r.listed ≡ false → charging_fault s ≡ Bad bad_form 0
   unfolding charging_fault
   not_listed h = let f : is_kind (kind_in s) ≡ false = sym (ap (λ (a : Asked). a.listed) e) ∙ h in rw f
 
-  pub not_so_long : (length s ≡ 2 + r.octets → ⊥) → charging_fault s ≡ Bad bad-form 0
+  pub not_so_long : (length s ≡ 2 + r.octets → ⊥) → charging_fault s ≡ Bad bad_form 0
   unfolding charging_fault
   not_so_long h =
       let o : r.octets ≡ length (drawn_for (kind_in s)) = ap (λ (a : Asked). a.octets) e in
@@ -149,9 +149,9 @@ module _ (s : List ℕ) (l : kind_in s < 256) (r : Asked) (e : r ≡ asked_of (k
 
   pub by_asked : r.listed ≡ true → length s ≡ 2 + r.octets
       → charging_fault s
-      ≡ faultThen (drawn_fault 2 as_drawn (field_octets s))
+      ≡ fault_then (drawn_fault 2 as_drawn (field_octets s))
       (cond (cond r.checked (eqb ((kind_in s + total (numbers_drawn as_drawn (field_octets s))) % 10) 9) true) Sound
-      (Bad check-digit (length s - 1)))
+      (Bad check_digit (length s - 1)))
   unfolding charging_fault check_right
   by_asked h n =
       let k = kind_in s in

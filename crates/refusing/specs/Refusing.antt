@@ -6,7 +6,7 @@ use Rattle.std.proofs.Math.Path.{refl, ap}
 use Rattle.std.proofs.Math.Bool.{true, false, cond}
 use borrow.Author.Tests.{ltb-false, eq-eqb, ne_eqb, eqb-true, eqb-false}
 use Rattle.std.proofs.Math.Dec.{eqb, leb}
-use Rattle.annex.specs.Answers.{unlisted, repeated, not-allowed, missing, bad-form, transfer-over, refuse, and_then}
+use Rattle.annex.specs.Answers.{unlisted, repeated, not_allowed, missing, bad_form, transfer_over, refuse, and_then}
 use Rattle.annex.specs.Heads.{
   among,
   common_headers,
@@ -96,8 +96,8 @@ abbrev pub head_then : ℕ → ℕ → Common → Answer → Answer
 head_then times p c a =
     refuse (not (among c.header common_headers)) unlisted p
     (refuse (ltb 0 times) repeated p
-    (refuse (not (value_allowed c.header c.value)) not-allowed p
-    (refuse (not (value_fits (raw_part c []))) bad-form p
+    (refuse (not (value_allowed c.header c.value)) not_allowed p
+    (refuse (not (value_fits (raw_part c []))) bad_form p
     a)))
 
 -- at the place 0, its transfer parameters aside: refused, or how many octets it takes
@@ -115,8 +115,8 @@ head_told : (times p n : ℕ) (c : Common) → head_then times p c (Accepted (p 
 head_told times p n c =
     refuse_told p (not (among c.header common_headers)) unlisted _ _
     (refuse_told p (ltb 0 times) repeated _ _
-    (refuse_told p (not (value_allowed c.header c.value)) not-allowed _ _
-    (refuse_told p (not (value_fits (raw_part c []))) bad-form _ (Accepted n)
+    (refuse_told p (not (value_allowed c.header c.value)) not_allowed _ _
+    (refuse_told p (not (value_fits (raw_part c []))) bad_form _ (Accepted n)
     refl)))
 
 part_checked : (times p : ℕ) (c : Common) (is : List Item)
@@ -163,8 +163,8 @@ unfolding data_writing
 data_passed p is n e =
     let t =
     then_passed (items_writing unseen (p + 2) is)
-    (λ q. refuse (ltb most_transfer_octets (q - (p + 2))) transfer-over p (Accepted q)) n e in
-    let o = passed (ltb most_transfer_octets (t.0 - (p + 2))) transfer-over p n (Accepted t.0) t.2 in
+    (λ q. refuse (ltb most_transfer_octets (q - (p + 2))) transfer_over p (Accepted q)) n e in
+    let o = passed (ltb most_transfer_octets (t.0 - (p + 2))) transfer_over p n (Accepted t.0) t.2 in
     let end : Accepted t.0 ≡ Accepted n = o.1 in
     let same : t.0 ≡ n = cc in
     omega (arith, ltb-false most_transfer_octets (t.0 - (p + 2)) o.0)

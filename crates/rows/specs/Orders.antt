@@ -5,7 +5,7 @@ use Rattle.std.proofs.Common.{zero-add, add-zero, add-one, arith, sym, ap, ◌�
 use Rattle.std.proofs.lemmas.Bool.{lt-leb}
 use Rattle.std.proofs.lemmas.List.{length-map}
 use Rattle.std.proofs.Math.Seq.{drop-nil}
-use Rattle.annex.specs.Answers.{start_of, stopOf, given_of, and_then}
+use Rattle.annex.specs.Answers.{start_of, stop_of, given_of, and_then}
 use Rattle.annex.specs.Finding.{found_answer, find_answer, find_part}
 use Rattle.annex.specs.Heads.{connection_order}
 use Rattle.annex.specs.Opened.{form_row, parameter_row, order_listing, order_found, order_rows_of, order_answer, order_table}
@@ -222,7 +222,7 @@ row_behind m k =
 -- ---- of a message
 
 -- E0's contents lie within it
-span_inside : (f : Found) (n : ℕ) → Inside n f → (start_of f ≤ stopOf f) × (stopOf f ≤ n)
+span_inside : (f : Found) (n : ℕ) → Inside n f → (start_of f ≤ stop_of f) × (stop_of f ≤ n)
 span_inside (At s e) n i = i.at s e refl
 span_inside Nowhere n i = (omega arith, omega arith)
 

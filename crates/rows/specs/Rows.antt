@@ -5,7 +5,7 @@ use Rattle.std.proofs.Math.Path.{refl}
 use Rattle.std.proofs.Math.Bool.{true, false}
 use Rattle.std.proofs.lemmas.List.{set_at}
 use Rattle.std.proofs.Math.Seq.{append_snoc}
-use Rattle.annex.specs.Answers.{no_room, given_of, refuse, and_then, roomAfter}
+use Rattle.annex.specs.Answers.{no_room, given_of, refuse, and_then, room_after}
 use Rattle.annex.specs.Reading.{verdict_of}
 use Rattle.annex.specs.Spans.{rows_of, spans_of, table_of, spans_by}
 use Rattle.annex.specs.Walking.{no_row, row_here, next_of}
@@ -82,7 +82,7 @@ module _ (rows : List Row) where
 
   -- with all rows stored that the answer gives, the table is what it has to be
   pub filled_all : (a : Answer) (short : Bool) (table : List Row)
-      → filled (rows_after a rows) table (given_of (answer_after a short rows)) ≡ roomAfter (answer_after a short rows) rows table
+      → filled (rows_after a rows) table (given_of (answer_after a short rows)) ≡ room_after (answer_after a short rows) rows table
   unfolding filled
   filled_all (Accepted q) true table = refl
   filled_all (Accepted q) false table = rw (take_all (length rows) rows (omega arith))

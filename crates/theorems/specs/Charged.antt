@@ -9,7 +9,7 @@ use mathlib.Core.List.{List, [], ◌∷◌, ◌++◌, map, append_assoc, append-
 use borrow.Author.Tests.{eqb-true, eqb-false, eq-eqb, ne_eqb, leb-true, le-leb, ltb-true, lt-ltb, not-true}
 use Rattle.std.proofs.Math.ListN.{length, length-replicate}
 use Rattle.std.proofs.Math.Seq.{take_at, drop_at}
-use Rattle.annex.specs.Answers.{bad-digit, check-digit}
+use Rattle.annex.specs.Answers.{bad_digit, check_digit}
 use Rattle.annex.specs.Digits.{zero_from, zero_to}
 use Rattle.annex.specs.Rates.{
   kinds,
@@ -77,7 +77,7 @@ sound_right at [] [] o l f = tt
 sound_right at [] (x ∷ xs) o l f = absurd (omega arith)
 sound_right at (d ∷ ds) [] o l f = absurd (omega arith)
 sound_right at (d ∷ ds) (x ∷ xs) o l f =
-    let p = passed (is_right d x) (drawn_fault (at + 1) ds xs) bad-digit at f in (
+    let p = passed (is_right d x) (drawn_fault (at + 1) ds xs) bad_digit at f in (
       p.0,
       ltb-true x 256 (and_left (is_octet x) (every is_octet xs) o),
       sound_right (at + 1) ds xs (and_right (is_octet x) (every is_octet xs) o) (omega arith) p.1,
@@ -335,7 +335,7 @@ kept s o e =
       two = omega arith;
       listed = and_left a b p.0;
       right = sound_right 2 (drawn_for k) (field_octets s) (every_drop is_octet 2 s o) n q.0;
-      check = (passed (check_right k (field_octets s)) Sound check-digit (length s - 1) q.1).0;
+      check = (passed (check_right k (field_octets s)) Sound check_digit (length s - 1) q.1).0;
     }
 
 kept_drawn : (s : List ℕ) → Kept s → octets_for (fields_of (kind_in s)) (charges_of s) ≡ field_octets s

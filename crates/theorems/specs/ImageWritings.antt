@@ -5,7 +5,7 @@ use Rattle.std.specs.Prelude.{ℕ, zero, suc, ◌+◌, ◌≤◌, ◌<◌, ◌�
 use Rattle.std.proofs.Common.{arith, sym, ap, subst, ◌∙◌, ltb-true, ltb-false}
 use Rattle.std.proofs.lemmas.List.{map-append, length-map}
 use Rattle.std.proofs.lemmas.Bool.{not-false}
-use Rattle.annex.specs.Answers.{over-limits, no_room, refuse, and_then, roomAfter}
+use Rattle.annex.specs.Answers.{over_the_limits, no_room, refuse, and_then, room_after}
 use Rattle.annex.specs.Heads.{transfer_data, most_commons, most_transfers, most_transfer_octets, most_octets}
 use Rattle.annex.specs.Items.{Item, Part, part, part_with, own_of, own_more_data}
 use Rattle.annex.specs.Layout.{layout}
@@ -201,18 +201,18 @@ abbrev pub room_then : ℕ → Answer → Answer
 room_then room a = and_then a (λ n. refuse (ltb room n) no_room 0 (Accepted n))
 
 record_writing_lem : (r : List Part) → Each OnlyData r → is_within r ≡ true → (room : ℕ)
-    → writing_of (pack r) room ≡ refuse (over_limits (own_parts r)) over-limits 0 (room_then room (parts_writing unseen 0 (own_parts r)))
+    → writing_of (pack r) room ≡ refuse (over_limits (own_parts r)) over_the_limits 0 (room_then room (parts_writing unseen 0 (own_parts r)))
 unfolding writing_of struct_writing record_writing
 record_writing_lem r h w room =
     rw (whole_within r h, w, view_own r h)
-    (refuse_then (over_limits (own_parts r)) over-limits 0 (parts_writing unseen 0 (own_parts r))
+    (refuse_then (over_limits (own_parts r)) over_the_limits 0 (parts_writing unseen 0 (own_parts r))
     (λ n. refuse (ltb room n) no_room 0 (Accepted n)))
 
 abbrev imaged_then : ℕ → Imaged → Answer
 imaged_then room g = and_then g.answer (λ _. writing_of g.held room)
 
 pub image_writing_lem : (m : List ℕ) (room : ℕ)
-    → image_writing m room ≡ refuse (image_over m) over-limits 0 (room_then room (parts_writing unseen 0 (image_record m)))
+    → image_writing m room ≡ refuse (image_over m) over_the_limits 0 (room_then room (parts_writing unseen 0 (image_record m)))
 unfolding image_writing imaged_of
 image_writing_lem [] room = refl
 image_writing_lem (n ∷ s) room = go (parts_front n s) (parts_only n s)
@@ -220,13 +220,13 @@ image_writing_lem (n ∷ s) room = go (parts_front n s) (parts_only n s)
     go : (f : Front Part) → EachFront OnlyData f →
         let r = own_parts (front_parts f) in
         imaged_then room (imaged_by (length s) f)
-        ≡ refuse (cut_by (length s) f || over_limits r) over-limits 0 (room_then room (parts_writing unseen 0 r))
+        ≡ refuse (cut_by (length s) f || over_limits r) over_the_limits 0 (room_then room (parts_writing unseen 0 r))
     go Short h = refl
     go (Taken r k) h = told (eqb k (length s)) (is_within r) refl (over_limits (own_parts r)) refl
       where
         told : (a w : Bool) → is_within r ≡ w → (o : Bool) → over_limits (own_parts r) ≡ o
             → imaged_then room (cond (a && w) (record { answer = Accepted (length r); held = pack r }) no_image)
-            ≡ refuse (not a || o) over-limits 0 (room_then room (parts_writing unseen 0 (own_parts r)))
+            ≡ refuse (not a || o) over_the_limits 0 (room_then room (parts_writing unseen 0 (own_parts r)))
         told false w e o f = refl
         told true true e o f = record_writing_lem r h e room ∙ rw f
         told true false e true f = refl
@@ -246,13 +246,13 @@ image_shown (n ∷ s) e = go (parts_front n s) (parts_only n s) e
         let w = under_within r h (or_right (not (eqb k (length s))) o e) in
         rw (not-false (eqb k (length s)) (or_left (not (eqb k (length s))) o e), w) (view_own r h)
 
-pub image_written_lem : (m room : List ℕ) → image_written m room ≡ roomAfter (image_writing m (length room)) (layout (image_record m)) room
+pub image_written_lem : (m room : List ℕ) → image_written m room ≡ room_after (image_writing m (length room)) (layout (image_record m)) room
 unfolding image_written
 image_written_lem m room = go (image_over m) refl
   where
     go : (o : Bool) → image_over m ≡ o
-        → roomAfter (image_writing m (length room)) (layout (view (imaged_of m).held)) room
-        ≡ roomAfter (image_writing m (length room)) (layout (image_record m)) room
+        → room_after (image_writing m (length room)) (layout (view (imaged_of m).held)) room
+        ≡ room_after (image_writing m (length room)) (layout (image_record m)) room
     go true e = rw (image_writing_lem m (length room), e)
     go false e = rw (image_shown m e)
 

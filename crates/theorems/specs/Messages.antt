@@ -3,7 +3,7 @@
 use Rattle.std.specs.Prelude.{ℕ, ◌+◌, ◌≤◌, ◌≡◌, refl, Bool, true, false, cond, not, ◌||◌, List, [], ◌∷◌, ◌++◌, map, eqb, ltb, length}
 use Rattle.std.proofs.Common.{arith, sym, ap, ◌∙◌, append_assoc, eqb-true, ltb-true, ltb-false, length-append}
 use Rattle.std.proofs.lemmas.Bool.{not-true, not-false}
-use Rattle.annex.specs.Answers.{over-limits, cut_short}
+use Rattle.annex.specs.Answers.{over_the_limits, cut_short}
 use Rattle.annex.specs.Units.{name_of}
 use Rattle.annex.specs.Heads.{among, end_mark, user_class, signal_kind, common_headers, most_octets}
 use Rattle.annex.specs.Layout.{layout}
@@ -117,7 +117,7 @@ pub record MessageRead (m : List ℕ) (n : ℕ) : Type 0 where
 pub message_read : (m : List ℕ) (n : ℕ) → verdict_of m ≡ Accepted n → MessageRead m n
 unfolding verdict_by message_verdict_by commons_by
 message_read m n e =
-    let v = passed (eqb (length m) 0 || ltb most_octets (length m)) over-limits 0 n (message_verdict m) e in
+    let v = passed (eqb (length m) 0 || ltb most_octets (length m)) over_the_limits 0 n (message_verdict m) e in
     let w =
     walked common_step common_close (λ seen h. common_within fault_of (times_seen seen h) (whole_in seen) h) m unseen 0 0 n (omega arith)
     v.1 in

@@ -5,7 +5,7 @@ use Rattle.std.specs.Prelude.{ℕ, zero, suc, ◌+◌, ◌-◌, ◌≤◌, ◌�
 use Rattle.std.proofs.Common.{arith, sym, ap, ◌∙◌, append_assoc, eqb-true, eq-eqb, leb-true, le-leb, length-append, take-append-drop, length-take-le, drop-drop, get_or-take}
 use Rattle.std.proofs.lemmas.List.{length-map}
 use Rattle.std.proofs.Math.Seq.{drop-nil, take-append_seam, drop-append_seam}
-use Rattle.annex.specs.Answers.{and_then, isSound, start_of, stopOf}
+use Rattle.annex.specs.Answers.{and_then, is_sound, start_of, stop_of}
 use Rattle.annex.specs.Heads.{among, connection_order, zeroes_of, form_of}
 use Rattle.annex.specs.Orders.{
   order_forms,
@@ -54,7 +54,7 @@ use Rattle.annex.specs.declared.Check.TheVariants.{Order}
 use Rattle.annex.specs.declared.Fault.TheVariants.{Sound}
 use Rattle.annex.specs.declared.Row.{Row}
 use Rattle.laws.specs.Bools.{and_left, and_right, and_both, same_turned}
-use Rattle.laws.specs.Faults.{then_sound, then_both, is_sound}
+use Rattle.laws.specs.Faults.{then_sound, then_both, is_sound_lem}
 use Rattle.laws.specs.Offsets.{layout_alike}
 use Rattle.laws.specs.Orders.{after_some, in_order, parameters_skip, size_own, stands_listed, few_stand}
 use Rattle.laws.specs.Headers.{none_asked}
@@ -152,7 +152,7 @@ stands form before at h xs e =
     let first : get_or own 0 0 ≡ get_or xs 0 0 = get_or-take n xs 0 0 (after_some l (get_or xs 0 0)) in
     let all : length own ≡ order_after l (get_or own 0 0) = rw first (length-take-le n xs w) in
     let long = eq-eqb (length own) (order_after l (get_or own 0 0)) all in
-    let sound : isSound (layout_fault l 0 own) ≡ true = layout_alike l 0 at own ∙ ap isSound q.1 in
+    let sound : is_sound (layout_fault l 0 own) ≡ true = layout_alike l 0 at own ∙ ap is_sound q.1 in
     record { whole = w; new = and_right (may_stand form h) new t; right = rw (and_left (may_stand form h) new t, long, sound) }
 
 -- the parameters behind k octets that still belong to another
@@ -197,12 +197,12 @@ fits form p e =
     let l = layout_of p.header in
     let n = order_after l (get_or p.own 0 0) in
     let long = eqb (length p.own) n in
-    let sound = isSound (layout_fault l 0 p.own) in
+    let sound = is_sound (layout_fault l 0 p.own) in
     let rest = and_right (may_stand form p.header) (long && sound) e in
     record {
       stands = and_left (may_stand form p.header) (long && sound) e;
       long = eqb-true (length p.own) n (and_left long sound rest);
-      sound = λ at. is_sound (layout_fault l at p.own) (layout_alike l at 0 p.own ∙ and_right long sound rest);
+      sound = λ at. is_sound_lem (layout_fault l at p.own) (layout_alike l at 0 p.own ∙ and_right long sound rest);
     }
 
 -- right parameters, laid out behind others, are sound, and are the parameters of their octets
@@ -459,10 +459,10 @@ rows_add_up m o room n e =
     let part = find_part m f in
     let t = said_there m o g.0 g.1 in
     let said = order_in m in
-    let there : part ≡ take (stopOf f - s) (drop s m) = rw v.1 in
-    let rest = drop (stopOf f - s) (drop s m) in
+    let there : part ≡ take (stop_of f - s) (drop s m) = rw v.1 in
+    let rest = drop (stop_of f - s) (drop s m) in
     let whole : drop s m ≡ lay_order said ++ rest =
-    sym (take-append-drop (stopOf f - s) (drop s m)) ∙ ap (λ (l : List ℕ). l ++ rest) (sym (t.laid ∙ there)) in
+    sym (take-append-drop (stop_of f - s) (drop s m)) ∙ ap (λ (l : List ℕ). l ++ rest) (sym (t.laid ∙ there)) in
     record {
       stretches = rw t.rows (order_stretches m s said rest whole ∙ t.laid);
       follow = rw t.rows (refl, parameters_follow (s + 1) (s + (1 + 0)) said.parameters (omega arith));

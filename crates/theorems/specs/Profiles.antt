@@ -7,7 +7,7 @@ use Rattle.std.proofs.Math.Path.{ap}
 use borrow.Author.Tests.{eqb-true, eq-eqb, ltb-false, le-ltb, not-false}
 use Rattle.std.proofs.lemmas.List.{length-map}
 use Rattle.std.proofs.Math.Seq.{drop-append_seam}
-use Rattle.annex.specs.Answers.{outside-profile, given_of}
+use Rattle.annex.specs.Answers.{outside_profile, given_of}
 use Rattle.annex.specs.Heads.{among, end_mark}
 use Rattle.annex.specs.Orders.{once}
 use Rattle.annex.specs.Items.{Item, Part}
@@ -192,7 +192,7 @@ module _ (m : List ℕ) (n : ℕ) where
 
   -- and else it is refused, by reading or with 20, which stands at the end mark, the message's last octet
   pub profile_refuses : verdict_of m ≡ Accepted n → (InProfile (record_of m) → ⊥)
-      → (profile_verdict m ≡ Refused outside-profile (n - 1)) × (drop (n - 1) m ≡ end_mark ∷ [])
+      → (profile_verdict m ≡ Refused outside_profile (n - 1)) × (drop (n - 1) m ≡ end_mark ∷ [])
   unfolding profile_verdict
   profile_refuses e f = (rw (e, outside_so (record_of m) f), (end_last m n e).1)
 

@@ -3,7 +3,7 @@
 use Rattle.std.specs.Prelude.{ℕ, ◌≤◌, ◌<◌, ◌≡◌, Bool, true, false, not, List, ◌↔◌, eqb, leb, ltb, length, get_or, take}
 use Rattle.std.proofs.Common.{arith, sym, ◌∙◌, eqb-true, eq-eqb, ne_eqb, leb-false, ltb-false, le-ltb, length-take-le}
 use Rattle.std.proofs.lemmas.Bool.{eqb-false, lt-leb, not-false}
-use Rattle.annex.specs.Answers.{repeated-name, transfer-over, no_room, absent, refuse, header_at}
+use Rattle.annex.specs.Answers.{repeated_name, transfer_over, no_room, absent, refuse, header_at}
 use Rattle.annex.specs.Units.{name_of, after_of, extent_of, contents_in}
 use Rattle.annex.specs.Heads.{among, transfer_data, most_transfer_octets, name_used, pli_right, often_of}
 use Rattle.annex.specs.Contents.{fault_of}
@@ -87,7 +87,7 @@ edit_passed (Replacing new which) is j a =
     (p.0, leb-false t which p.1)
 edit_passed (Appending new) is j a =
     let x = name_of (new_header new) in
-    let p = new_passed new (leb (often_of x) (times_in x (names_of is))) repeated-name j a in
+    let p = new_passed new (leb (often_of x) (times_in x (names_of is))) repeated_name j a in
     (p.0, leb-false (often_of x) (times_in x (names_of is)) p.1)
 edit_passed (Removing x which) is j a =
     let t = times_in x (names_of is) in
@@ -140,14 +140,14 @@ edit_right (Replacing new which) is r =
     rw (lt-leb (times_in (name_of (new_header new)) (names_of is)) which r.1) (new_accepts new absent r.0)
 edit_right (Appending new) is r =
     let x = name_of (new_header new) in
-    rw (lt-leb (often_of x) (times_in x (names_of is)) r.1) (new_accepts new repeated-name r.0)
+    rw (lt-leb (often_of x) (times_in x (names_of is)) r.1) (new_accepts new repeated_name r.0)
 edit_right (Removing x which) is r = rw (lt-leb (times_in x (names_of is)) which r)
 
 -- what is left with all but room right: 14, 15, or the new length
 pub edit_answer : (e : Edit) (d : List ℕ) (n j : ℕ) → n ≤ length d → verdict_of (take n d) ≡ Accepted j
     → among transfer_data (headers_of (record_of (take n d))) ≡ true → EditRight e (items_in (record_of (take n d)))
     → editing_of e d n
-    ≡ refuse (ltb most_transfer_octets (length (layout_items (items_in (edited_in e d n))))) transfer-over 0
+    ≡ refuse (ltb most_transfer_octets (length (layout_items (items_in (edited_in e d n))))) transfer_over 0
     (refuse (ltb (length d) (length (layout (edited_in e d n)))) no_room 0 (Accepted (length (layout (edited_in e d n)))))
 unfolding editing_of record_editing
 edit_answer e d n j l v t w = rw (le-ltb (length d) n l, v, t, edit_right e (items_in (record_of (take n d))) w)

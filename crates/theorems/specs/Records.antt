@@ -25,7 +25,7 @@ use Rattle.annex.specs.Heads.{
 }
 use Rattle.annex.specs.Items.{Item, Part, contents_of, contents_by, held_as, part, own_more_data}
 use Rattle.annex.specs.declared.Holding.{Holding}
-use Rattle.annex.specs.Answers.{isSound}
+use Rattle.annex.specs.Answers.{is_sound}
 use Rattle.annex.specs.declared.Holding.TheVariants.{AsContents, AsDigits, AsNumber, AsGeneric}
 use Rattle.annex.specs.Digits.{code_of, joined, packed}
 use Rattle.annex.specs.Layout.{layout_item, layout_items}
@@ -49,7 +49,7 @@ use Rattle.annex.specs.Allowed.{
 use Rattle.annex.specs.Records.{values_of}
 use Rattle.annex.specs.declared.Alphabet.{Alphabet}
 use Rattle.annex.specs.declared.Alphabet.TheVariants.{Dialled, Numbered}
-use Rattle.laws.specs.Faults.{is_sound}
+use Rattle.laws.specs.Faults.{is_sound_lem}
 use Rattle.laws.specs.Bools.{and_left, and_right, and_both}
 use Rattle.laws.specs.Members.{among_every, count}
 use Rattle.laws.specs.Often.{used_names, often_sum}
@@ -271,12 +271,12 @@ allowed r a o c k =
       plis_right = each_every AllowedItem (λ i. pli_right i.header) (λ i b. b.pli) is i.each;
       names_often = most_at often_of (names_of is) i.often;
       lengths_right = each_every AllowedItem length_right (λ i b. b.length_right_holds) is i.each;
-      faults_none = each_every AllowedItem (λ i. isSound (fault_in i)) (λ i b. ap isSound b.faultless) is i.each;
+      faults_none = each_every AllowedItem (λ i. is_sound (fault_in i)) (λ i b. ap is_sound b.faultless) is i.each;
     }
 
 -- the transfer parameters of a record, one by one
 items_each : (is : List Item) → Each HeldItem is → every (λ i. name_used i.header) is ≡ true → every (λ i. pli_right i.header) is ≡ true
-    → every length_right is ≡ true → every (λ i. isSound (fault_in i)) is ≡ true → Each AllowedItem is
+    → every length_right is ≡ true → every (λ i. is_sound (fault_in i)) is ≡ true → Each AllowedItem is
 items_each [] h u p l f = tt
 items_each (i ∷ is) h u p l f = (
   record {
@@ -284,10 +284,10 @@ items_each (i ∷ is) h u p l f = (
     used = and_left _ (every (λ i. name_used i.header) is) u;
     pli = and_left _ (every (λ i. pli_right i.header) is) p;
     length_right_holds = and_left _ (every length_right is) l;
-    faultless = is_sound (fault_in i) (and_left _ (every (λ i. isSound (fault_in i)) is) f);
+    faultless = is_sound_lem (fault_in i) (and_left _ (every (λ i. is_sound (fault_in i)) is) f);
   },
   items_each is h.1 (and_right (name_used i.header) _ u) (and_right (pli_right i.header) _ p) (and_right (length_right i) _ l)
-      (and_right (isSound (fault_in i)) _ f),
+      (and_right (is_sound (fault_in i)) _ f),
 )
 
 items_held : (r : List Part) → Each HeldPart r → Each HeldItem (items_in r)

@@ -9,25 +9,25 @@ use mathlib.Core.List.{List, [], ◌∷◌, ◌++◌}
 use borrow.Author.Tests.{ltb-true, ltb-false, le-leb, eqb-true}
 use Rattle.std.proofs.Math.ListN.{length-drop}
 use Rattle.annex.specs.Answers.{
-  over-limits,
+  over_the_limits,
   unlisted,
   repeated,
   cut_short,
-  not-allowed,
+  not_allowed,
   missing,
   left_over,
-  unused-name,
-  other-pli,
-  repeated-name,
-  cut-contents,
-  bad-digit,
+  unused_name,
+  other_pli,
+  repeated_name,
+  cut_contents,
+  bad_digit,
   no_room,
   refuse,
-  soundThen,
-  readingAt,
+  sound_then,
+  reading_at,
   and_then,
   shifted,
-  outside-profile,
+  outside_profile,
   absent,
 }
 use Rattle.annex.specs.Units.{name_of, lead_of, extent_of, common_extent_of, contents_in}
@@ -120,12 +120,12 @@ other true k p a j q n e = absurd (n (let same : k ≡ j = cc in same))
 other false k p a j q n e = (refl, e)
 
 -- 13 is placed at its octet
-placed : (s : ℕ) (f : Fault) (n q : ℕ) → soundThen (readingAt s) f (Accepted n) ≡ Refused bad-digit q
-    → (i : ℕ) × (f ≡ Bad bad-digit i) × (q ≡ s + i)
+placed : (s : ℕ) (f : Fault) (n q : ℕ) → sound_then (reading_at s) f (Accepted n) ≡ Refused bad_digit q
+    → (i : ℕ) × (f ≡ Bad bad_digit i) × (q ≡ s + i)
 placed s Sound n q e = absurd (let z : ◌≡◌ {A = ℕ} 0 1 = cc in omega arith)
 placed s (Bad k i) n q e =
-    let number : k ≡ bad-digit = cc in
-    let place : readingAt s k i ≡ q = cc in
+    let number : k ≡ bad_digit = cc in
+    let place : reading_at s k i ≡ q = cc in
     (i, rw number, sym place ∙ rw number)
 
 -- ---- a walk that is refused
@@ -210,45 +210,45 @@ listed_none t =
     (each_listed transfer_step SoundOf (λ seen p h xs n e. (transfer_taken fault_of _ h xs n e).sound) t unseen 0 0)
 
 -- 13 of a parameter: it is not cut, and its contents have that fault
-transfer_stops : (times h : ℕ) (xs : List ℕ) (q : ℕ) → transfer_of times h xs ≡ Refused bad-digit q →
+transfer_stops : (times h : ℕ) (xs : List ℕ) (q : ℕ) → transfer_of times h xs ≡ Refused bad_digit q →
     let n = transfer_size h xs in
-    (n ≤ length xs) × (i : ℕ) × (fault_of h (contents_in (extent_of h) (take n xs)) ≡ Bad bad-digit i) × (q ≡ 1 + lead_of (extent_of h) + i)
+    (n ≤ length xs) × (i : ℕ) × (fault_of h (contents_in (extent_of h) (take n xs)) ≡ Bad bad_digit i) × (q ≡ 1 + lead_of (extent_of h) + i)
 unfolding transfer_by
 transfer_stops times h xs q e =
     let n = transfer_size h xs in
-    let e₁ = other (not (name_used h)) unused-name 0 _ bad-digit q (λ z. omega arith) e in
-    let e₂ = other (not (pli_right h)) other-pli 0 _ bad-digit q (λ z. omega arith) e₁.1 in
-    let e₃ = other (leb (often_of (name_of h)) times) repeated-name 0 _ bad-digit q (λ z. omega arith) e₂.1 in
-    let e₄ = other (ltb (length xs) n) cut-contents 0 _ bad-digit q (λ z. omega arith) e₃.1 in
+    let e₁ = other (not (name_used h)) unused_name 0 _ bad_digit q (λ z. omega arith) e in
+    let e₂ = other (not (pli_right h)) other_pli 0 _ bad_digit q (λ z. omega arith) e₁.1 in
+    let e₃ = other (leb (often_of (name_of h)) times) repeated_name 0 _ bad_digit q (λ z. omega arith) e₂.1 in
+    let e₄ = other (ltb (length xs) n) cut_contents 0 _ bad_digit q (λ z. omega arith) e₃.1 in
     let w = placed (1 + lead_of (extent_of h)) _ n q e₄.1 in
     (ltb-false (length xs) n e₄.0, w.0, w.1, w.2)
 
 -- any other number is told at the header
 abbrev AtHeader : Answer → Type 0
-AtHeader a = (k q : ℕ) → a ≡ Refused k q → (k ≡ bad-digit) ⊎ (q ≡ 0)
+AtHeader a = (k q : ℕ) → a ≡ Refused k q → (k ≡ bad_digit) ⊎ (q ≡ 0)
 
 refuse_header : (b : Bool) (j : ℕ) (a : Answer) → AtHeader a → AtHeader (refuse b j 0 a)
 refuse_header true j a h k q e = inr (let there : 0 ≡ q = cc in sym there)
 refuse_header false j a h k q e = h k q e
 
-sound_header : (s : ℕ) (f : Fault) (n : ℕ) → AtHeader (soundThen (readingAt s) f (Accepted n))
+sound_header : (s : ℕ) (f : Fault) (n : ℕ) → AtHeader (sound_then (reading_at s) f (Accepted n))
 sound_header s Sound n k q e = absurd (let z : ◌≡◌ {A = ℕ} 0 1 = cc in omega arith)
 sound_header s (Bad j i) n k q e =
     let number : j ≡ k = cc in
-    let place : readingAt s j i ≡ q = cc in
-    go (eqb j bad-digit) refl (sym number) place
+    let place : reading_at s j i ≡ q = cc in
+    go (eqb j bad_digit) refl (sym number) place
   where
-    go : (b : Bool) → eqb j bad-digit ≡ b → k ≡ j → cond b (s + i) 0 ≡ q → (k ≡ bad-digit) ⊎ (q ≡ 0)
-    go true t number place = inl (number ∙ eqb-true j bad-digit t)
+    go : (b : Bool) → eqb j bad_digit ≡ b → k ≡ j → cond b (s + i) 0 ≡ q → (k ≡ bad_digit) ⊎ (q ≡ 0)
+    go true t number place = inl (number ∙ eqb-true j bad_digit t)
     go false t number place = inr (sym place)
 
 pub at_the_header : (times h : ℕ) (xs : List ℕ) → AtHeader (transfer_of times h xs)
 unfolding transfer_by
 at_the_header times h xs =
-    refuse_header (not (name_used h)) unused-name _
-    (refuse_header (not (pli_right h)) other-pli _
-    (refuse_header (leb (often_of (name_of h)) times) repeated-name _
-    (refuse_header (ltb (length xs) (transfer_size h xs)) cut-contents _
+    refuse_header (not (name_used h)) unused_name _
+    (refuse_header (not (pli_right h)) other_pli _
+    (refuse_header (leb (often_of (name_of h)) times) repeated_name _
+    (refuse_header (ltb (length xs) (transfer_size h xs)) cut_contents _
     (sound_header (1 + lead_of (extent_of h)) (fault_of h (contents_in (extent_of h) (take (transfer_size h xs) xs))) (transfer_size h xs)))))
 
 -- 13 of the transfer data t, at the place p counted from its start
@@ -262,11 +262,11 @@ record TransferShown (t : List ℕ) (p : ℕ) : Type 0 where
   pub first : FirstBad one.head (own_contents one) offset
   pub none_before : Each NoneBadOf front
 
-transfers_shown : (t : List ℕ) (p : ℕ) → transfers_verdict t ≡ Refused bad-digit p → TransferShown t p
+transfers_shown : (t : List ℕ) (p : ℕ) → transfers_verdict t ≡ Refused bad_digit p → TransferShown t p
 unfolding transfers_verdict_by transfers_by
 transfers_shown t p e =
     let s =
-    stops transfer_step (λ seen p. Accepted p) transfer_size (transfer_sized fault_of) bad-digit
+    stops transfer_step (λ seen p. Accepted p) transfer_size (transfer_sized fault_of) bad_digit
     (λ seen p q f. absurd (let z : ◌≡◌ {A = ℕ} 0 1 = cc in omega arith)) t unseen 0 0 p e in
     let w = transfer_stops _ s.x s.ys s.q s.refused in
     let n = transfer_size s.x s.ys in
@@ -283,52 +283,52 @@ transfers_shown t p e =
 
 -- ---- a common parameter
 
-form_stops : (times h : ℕ) (xs : List ℕ) (q : ℕ) → common_form times h xs ≡ Refused bad-digit q → ⊥
+form_stops : (times h : ℕ) (xs : List ℕ) (q : ℕ) → common_form times h xs ≡ Refused bad_digit q → ⊥
 unfolding common_form
 form_stops times h xs q e =
     let n = common_size h xs in
-    let e₁ = other (not (among h listed_headers)) unlisted 0 _ bad-digit q (λ z. omega arith) e in
-    let e₂ = other (ltb 0 times) repeated 0 _ bad-digit q (λ z. omega arith) e₁.1 in
-    let e₃ = other (ltb (length xs) n) cut_short 0 _ bad-digit q (λ z. omega arith) e₂.1 in
-    let e₄ = other (not (octet_allowed h (get_or xs 0 0))) not-allowed 0 (Accepted n) bad-digit q (λ z. omega arith) e₃.1 in
+    let e₁ = other (not (among h listed_headers)) unlisted 0 _ bad_digit q (λ z. omega arith) e in
+    let e₂ = other (ltb 0 times) repeated 0 _ bad_digit q (λ z. omega arith) e₁.1 in
+    let e₃ = other (ltb (length xs) n) cut_short 0 _ bad_digit q (λ z. omega arith) e₂.1 in
+    let e₄ = other (not (octet_allowed h (get_or xs 0 0))) not_allowed 0 (Accepted n) bad_digit q (λ z. omega arith) e₃.1 in
     absurd (let f = e₄.1 in let z : ◌≡◌ {A = ℕ} 0 1 = cc in omega arith)
 
-end_stops : (whole : Bool) (xs : List ℕ) (q : ℕ) → end_of whole xs ≡ Refused bad-digit q → ⊥
+end_stops : (whole : Bool) (xs : List ℕ) (q : ℕ) → end_of whole xs ≡ Refused bad_digit q → ⊥
 unfolding end_of
 end_stops whole xs q e =
-    let e₁ = other (not whole) missing 0 _ bad-digit q (λ z. omega arith) e in
-    let e₂ = other (ltb 0 (length xs)) left_over 1 (Accepted 0) bad-digit q (λ z. omega arith) e₁.1 in
+    let e₁ = other (not whole) missing 0 _ bad_digit q (λ z. omega arith) e in
+    let e₂ = other (ltb 0 (length xs)) left_over 1 (Accepted 0) bad_digit q (λ z. omega arith) e₁.1 in
     absurd (let f = e₂.1 in let z : ◌≡◌ {A = ℕ} 0 1 = cc in omega arith)
 
-data_stops : (n : ℕ) (xs : List ℕ) (q : ℕ) → data_of n xs ≡ Refused bad-digit q
-    → (p : ℕ) × (transfers_verdict (contents_in (common_extent_of transfer_data) (take n xs)) ≡ Refused bad-digit p) × (q ≡ 2 + p)
+data_stops : (n : ℕ) (xs : List ℕ) (q : ℕ) → data_of n xs ≡ Refused bad_digit q
+    → (p : ℕ) × (transfers_verdict (contents_in (common_extent_of transfer_data) (take n xs)) ≡ Refused bad_digit p) × (q ≡ 2 + p)
 unfolding data_by
 data_stops n xs q e = go (transfers_verdict (contents_in (common_extent_of transfer_data) (take n xs))) refl e
   where
     go : (a : Answer) → transfers_verdict (contents_in (common_extent_of transfer_data) (take n xs)) ≡ a
-        → and_then (shifted 2 a) (λ _. Accepted n) ≡ Refused bad-digit q
-        → (p : ℕ) × (transfers_verdict (contents_in (common_extent_of transfer_data) (take n xs)) ≡ Refused bad-digit p) × (q ≡ 2 + p)
+        → and_then (shifted 2 a) (λ _. Accepted n) ≡ Refused bad_digit q
+        → (p : ℕ) × (transfers_verdict (contents_in (common_extent_of transfer_data) (take n xs)) ≡ Refused bad_digit p) × (q ≡ 2 + p)
     go (Accepted k) f e = absurd (let z : ◌≡◌ {A = ℕ} 0 1 = cc in omega arith)
     go (Refused k p) f e =
-        let number : k ≡ bad-digit = cc in
+        let number : k ≡ bad_digit = cc in
         let place : 2 + p ≡ q = cc in
         (p, f ∙ rw number, sym place)
 
 -- 13 of a common parameter: it is C5, which is not cut, and its transfer data is refused so
-common_stops : (times : ℕ) (whole : Bool) (h : ℕ) (xs : List ℕ) (q : ℕ) → common_of times whole h xs ≡ Refused bad-digit q →
+common_stops : (times : ℕ) (whole : Bool) (h : ℕ) (xs : List ℕ) (q : ℕ) → common_of times whole h xs ≡ Refused bad_digit q →
     let n = common_size h xs in
     (h ≡ transfer_data) × (n ≤ length xs)
-    × (p : ℕ) × (transfers_verdict (contents_in (common_extent_of transfer_data) (take n xs)) ≡ Refused bad-digit p) × (q ≡ 2 + p)
+    × (p : ℕ) × (transfers_verdict (contents_in (common_extent_of transfer_data) (take n xs)) ≡ Refused bad_digit p) × (q ≡ 2 + p)
 common_stops times whole h xs q e = go (common_form times h xs) refl
   where
     Stop : Type 0
     Stop =
         (h ≡ transfer_data) × (common_size h xs ≤ length xs)
-        × (p : ℕ) × (transfers_verdict (contents_in (common_extent_of transfer_data) (take (common_size h xs) xs)) ≡ Refused bad-digit p)
+        × (p : ℕ) × (transfers_verdict (contents_in (common_extent_of transfer_data) (take (common_size h xs) xs)) ≡ Refused bad_digit p)
         × (q ≡ 2 + p)
 
     by_kind : (n : ℕ) → n ≡ common_size h xs → n ≤ length xs → (a b : Bool) → eqb h transfer_data ≡ b
-        → cond a (end_of whole xs) (cond b (data_of n xs) (Accepted n)) ≡ Refused bad-digit q → Stop
+        → cond a (end_of whole xs) (cond b (data_of n xs) (Accepted n)) ≡ Refused bad_digit q → Stop
     by_kind n s l true b t f = absurd (end_stops whole xs q f)
     by_kind n s l false true t f =
         let w = data_stops n xs q f in
@@ -343,9 +343,9 @@ common_stops times whole h xs q e = go (common_form times h xs) refl
         let g = sym (common_refused fault_of times whole h xs k p f) ∙ e in
         absurd (form_stops times h xs q (f ∙ g))
 
-common_closed : (seen : Seen) (p q : ℕ) → common_close seen p ≡ Refused bad-digit q → ⊥
+common_closed : (seen : Seen) (p q : ℕ) → common_close seen p ≡ Refused bad_digit q → ⊥
 common_closed seen p q e =
-    let f = (other (not (ltb 0 (times_seen seen end_mark))) cut_short p (Accepted p) bad-digit q (λ z. omega arith) e).1 in
+    let f = (other (not (ltb 0 (times_seen seen end_mark))) cut_short p (Accepted p) bad_digit q (λ z. omega arith) e).1 in
     absurd (let z : ◌≡◌ {A = ℕ} 0 1 = cc in omega arith)
 
 -- transfer data in which nothing is wrong has no bad octet
@@ -411,13 +411,13 @@ module _ (m : List ℕ) (c one : Par)
 
 -- ---- the message
 
-verdict_stops : (m : List ℕ) (p : ℕ) → verdict_of m ≡ Refused bad-digit p → Stops common_step common_size unseen 0 0 m bad-digit p
+verdict_stops : (m : List ℕ) (p : ℕ) → verdict_of m ≡ Refused bad_digit p → Stops common_step common_size unseen 0 0 m bad_digit p
 unfolding verdict_by message_verdict_by
 verdict_stops m p e =
-    stops common_step common_close common_size (common_sized fault_of) bad-digit common_closed m unseen 0 0 p
-    (other (eqb (length m) 0 || ltb most_octets (length m)) over-limits 0 _ bad-digit p (λ z. omega arith) e).1
+    stops common_step common_close common_size (common_sized fault_of) bad_digit common_closed m unseen 0 0 p
+    (other (eqb (length m) 0 || ltb most_octets (length m)) over_the_limits 0 _ bad_digit p (λ z. omega arith) e).1
 
-pub shown : (m : List ℕ) (p : ℕ) → verdict_of m ≡ Refused bad-digit p → ShownAt m p
+pub shown : (m : List ℕ) (p : ℕ) → verdict_of m ≡ Refused bad_digit p → ShownAt m p
 unfolding commons_by
 shown m p e =
     let s = verdict_stops m p e in
@@ -496,23 +496,23 @@ one_shown m p q v w =
 
 -- an answer that refuses with 13 only where reading does, and at the same place
 abbrev pub Passes : List ℕ → Answer → Type 0
-Passes m a = (p : ℕ) → a ≡ Refused bad-digit p → verdict_of m ≡ Refused bad-digit p
+Passes m a = (p : ℕ) → a ≡ Refused bad_digit p → verdict_of m ≡ Refused bad_digit p
 
-then_passes : (m : List ℕ) (a : Answer) (f : ℕ → Answer) → Passes m a → ((n p : ℕ) → f n ≡ Refused bad-digit p → ⊥) → Passes m (and_then a f)
+then_passes : (m : List ℕ) (a : Answer) (f : ℕ → Answer) → Passes m a → ((n p : ℕ) → f n ≡ Refused bad_digit p → ⊥) → Passes m (and_then a f)
 then_passes m (Accepted n) f g h p e = absurd (h n p e)
 then_passes m (Refused k q) f g h p e = g p e
 
 -- 16, and 15, are other numbers
-absent_other : (f : Found) (p : ℕ) → found_answer f ≡ Refused bad-digit p → ⊥
+absent_other : (f : Found) (p : ℕ) → found_answer f ≡ Refused bad_digit p → ⊥
 absent_other (At s e) p q = absurd (let z : ◌≡◌ {A = ℕ} 0 1 = cc in omega arith)
 absent_other Nowhere p q = let z : ◌≡◌ {A = ℕ} 16 13 = cc in omega arith
 
-number_other : (k : ℕ) → (k ≡ bad-digit → ⊥) → (b : Bool) (q n p : ℕ) → refuse b k q (Accepted n) ≡ Refused bad-digit p → ⊥
+number_other : (k : ℕ) → (k ≡ bad_digit → ⊥) → (b : Bool) (q n p : ℕ) → refuse b k q (Accepted n) ≡ Refused bad_digit p → ⊥
 number_other k o b q n p e =
-    let f = (other b k q (Accepted n) bad-digit p o e).1 in
+    let f = (other b k q (Accepted n) bad_digit p o e).1 in
     absurd (let z : ◌≡◌ {A = ℕ} 0 1 = cc in omega arith)
 
-room_other : (b : Bool) (n p : ℕ) → refuse b no_room 0 (Accepted n) ≡ Refused bad-digit p → ⊥
+room_other : (b : Bool) (n p : ℕ) → refuse b no_room 0 (Accepted n) ≡ Refused bad_digit p → ⊥
 room_other b n p e = number_other no_room (λ z. omega arith) b 0 n p e
 
 pub find_passes : (m : List ℕ) (f : Found) → Passes m (find_answer m f)
@@ -533,13 +533,13 @@ pub profile_passes : (m : List ℕ) → Passes m (profile_verdict m)
 unfolding profile_verdict
 profile_passes m =
     then_passes m (verdict_of m) _ (λ p e. e)
-    (λ n p. number_other outside-profile (λ z. omega arith) (not (is_in_profile (record_of m))) (n - 1) n p)
+    (λ n p. number_other outside_profile (λ z. omega arith) (not (is_in_profile (record_of m))) (n - 1) n p)
 
 pub profile_image_passes : (m : List ℕ) (room : ℕ) → Passes m (profile_image_reading m room)
 unfolding profile_image_reading
 profile_image_passes m room p e = go (profile_verdict m) (profile_passes m) e
   where
-    go : (a : Answer) → Passes m a → and_then a (λ _. image_reading m room) ≡ Refused bad-digit p → verdict_of m ≡ Refused bad-digit p
+    go : (a : Answer) → Passes m a → and_then a (λ _. image_reading m room) ≡ Refused bad_digit p → verdict_of m ≡ Refused bad_digit p
     go (Accepted n) w f = image_passes m room p f
     go (Refused k q) w f = w p f
 
@@ -557,7 +557,7 @@ classes_passes m room =
     let n = length (pair_octets (classes_of (record_of m))) in
     let none = not (some (is_headed added_class) (items_in (record_of m))) in
     then_passes m (profile_verdict m) _ (profile_passes m)
-    (λ _ p e. room_other (ltb room n) n p (other none absent 0 _ bad-digit p (λ z. omega arith) e).1)
+    (λ _ p e. room_other (ltb room n) n p (other none absent 0 _ bad_digit p (λ z. omega arith) e).1)
 
 pub order_passes : (m : List ℕ) (room : ℕ) → Passes m (order_answer m room)
 unfolding order_answer
@@ -577,39 +577,39 @@ carrier_digits_passes m which row room =
     let e = entry_found which row m in
     let n = length (digits_in e) in
     then_passes m (find_answer m (carriers_found which m)) _ (find_passes m (carriers_found which m))
-    (λ _ p f. room_other (ltb room n) n p (other (not (is_code_entry e)) absent 0 _ bad-digit p (λ z. omega arith) f).1)
+    (λ _ p f. room_other (ltb room n) n p (other (not (is_code_entry e)) absent 0 _ bad_digit p (λ z. omega arith) f).1)
 
-pub charging_passes : (m : List ℕ) (p : ℕ) → charging_of m ≡ chargings.Refused bad-digit p → verdict_of m ≡ Refused bad-digit p
+pub charging_passes : (m : List ℕ) (p : ℕ) → charging_of m ≡ chargings.Refused bad_digit p → verdict_of m ≡ Refused bad_digit p
 unfolding charging_of
 charging_passes m p e = go (find_answer m (charging_found m)) (find_passes m (charging_found m)) e
   where
-    go : (a : Answer) → Passes m a → charging_by a (find_part m (charging_found m)) ≡ chargings.Refused bad-digit p
-        → verdict_of m ≡ Refused bad-digit p
+    go : (a : Answer) → Passes m a → charging_by a (find_part m (charging_found m)) ≡ chargings.Refused bad_digit p
+        → verdict_of m ≡ Refused bad_digit p
     go (Accepted n) w e = absurd (let z : ◌≡◌ {A = ℕ} 0 1 = cc in omega arith)
     go (Refused k q) w e =
-        let number : k ≡ bad-digit = cc in
+        let number : k ≡ bad_digit = cc in
         w q (rw number) ∙ (let there : q ≡ p = cc in rw there)
 
 pub octet_charging_passes : (m : List ℕ) (room : ℕ) → Passes m (octet_charging m room)
 unfolding octet_charging
 octet_charging_passes m room p e = go (charging_of m) (charging_passes m) e
   where
-    go : (a : ChargingAnswer) → ((p : ℕ) → a ≡ chargings.Refused bad-digit p → verdict_of m ≡ Refused bad-digit p)
-        → octet_charging_by a room ≡ Refused bad-digit p → verdict_of m ≡ Refused bad-digit p
+    go : (a : ChargingAnswer) → ((p : ℕ) → a ≡ chargings.Refused bad_digit p → verdict_of m ≡ Refused bad_digit p)
+        → octet_charging_by a room ≡ Refused bad_digit p → verdict_of m ≡ Refused bad_digit p
     go (chargings.Is c) w e = absurd (room_other (ltb room charging_octets) charging_octets p e)
     go (chargings.Refused k q) w e =
-        let number : k ≡ bad-digit = cc in
+        let number : k ≡ bad_digit = cc in
         w q (rw number) ∙ (let there : q ≡ p = cc in rw there)
 
 -- an edit passes on what reading refuses, and tells its own 13 at 0
-pub edit_passes : (e : Edit) (d : List ℕ) (n p : ℕ) → editing_of e d n ≡ Refused bad-digit p
-    → (verdict_of (take n d) ≡ Refused bad-digit p) ⊎ (((q : ℕ) × (verdict_of (take n d) ≡ Accepted q)) × (p ≡ 0))
+pub edit_passes : (e : Edit) (d : List ℕ) (n p : ℕ) → editing_of e d n ≡ Refused bad_digit p
+    → (verdict_of (take n d) ≡ Refused bad_digit p) ⊎ (((q : ℕ) × (verdict_of (take n d) ≡ Accepted q)) × (p ≡ 0))
 unfolding editing_of
 edit_passes e d n p f =
-    go (verdict_of (take n d)) refl (other (ltb (length d) n) no_room 0 _ bad-digit p (λ z. omega arith) f).1
+    go (verdict_of (take n d)) refl (other (ltb (length d) n) no_room 0 _ bad_digit p (λ z. omega arith) f).1
   where
     go : (a : Answer) → verdict_of (take n d) ≡ a
-        → and_then a (λ _. record_editing e (record_of (take n d)) (length d)) ≡ Refused bad-digit p
-        → (verdict_of (take n d) ≡ Refused bad-digit p) ⊎ (((q : ℕ) × (verdict_of (take n d) ≡ Accepted q)) × (p ≡ 0))
-    go (Accepted q) v g = inr ((q, v), omega (arith, (record_place e (record_of (take n d)) (length d)).at bad-digit p g))
+        → and_then a (λ _. record_editing e (record_of (take n d)) (length d)) ≡ Refused bad_digit p
+        → (verdict_of (take n d) ≡ Refused bad_digit p) ⊎ (((q : ℕ) × (verdict_of (take n d) ≡ Accepted q)) × (p ≡ 0))
+    go (Accepted q) v g = inr ((q, v), omega (arith, (record_place e (record_of (take n d)) (length d)).at bad_digit p g))
     go (Refused k q) v g = inl (v ∙ g)

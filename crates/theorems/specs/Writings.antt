@@ -4,7 +4,7 @@
 use Rattle.std.specs.Prelude.{ℕ, suc, ◌+◌, ◌-◌, ◌≤◌, ◌<◌, ◌≡◌, refl, Bool, true, false, cond, not, List, [], ◌∷◌, ◌++◌, ◌↔◌, eqb, leb, ltb, length, drop}
 use Rattle.std.proofs.Common.{arith, sym, ap, ◌∙◌, length-append}
 use borrow.Author.Tests.{not-false, leb-false, lt-leb, ltb-true, ltb-false, le-ltb}
-use Rattle.annex.specs.Answers.{missing, transfer-over, over-limits, refuse, header_at}
+use Rattle.annex.specs.Answers.{missing, transfer_over, over_the_limits, refuse, header_at}
 use Rattle.annex.specs.Units.{name_of, extent_of}
 use Rattle.annex.specs.Heads.{
   among,
@@ -152,8 +152,8 @@ data_written : (p : ℕ) (is : List Item) (n : ℕ) → Each HeldItem is → dat
 unfolding data_writing
 data_written p is n h e =
     let over : ℕ → Bool = λ q. ltb most_transfer_octets (q - (p + 2)) in
-    let t = then_passed (items_writing unseen (p + 2) is) (λ q. refuse (over q) transfer-over p (Accepted q)) n e in
-    let c = passed (over t.0) transfer-over p n (Accepted t.0) t.2 in
+    let t = then_passed (items_writing unseen (p + 2) is) (λ q. refuse (over q) transfer_over p (Accepted q)) n e in
+    let c = passed (over t.0) transfer_over p n (Accepted t.0) t.2 in
     let w = items_written is unseen (p + 2) t.0 full_unseen none_often h t.1 in
     let few = ltb-false most_transfer_octets (t.0 - (p + 2)) c.0 in
     let end : Accepted t.0 ≡ Accepted n = c.1 in
@@ -299,7 +299,7 @@ parts_writable r h n e =
 
 pub writing_writable : (r : List Part) → Held r → (n : ℕ) → record_writing r ≡ Accepted n → Writable r × (n ≡ length (layout r))
 unfolding record_writing
-writing_writable r h n e = parts_writable r h n (passed (over_limits r) over-limits 0 n (parts_writing unseen 0 r) e).1
+writing_writable r h n e = parts_writable r h n (passed (over_limits r) over_the_limits 0 n (parts_writing unseen 0 r) e).1
 
 pub writable_writing : (r : List Part) → Writable r → record_writing r ≡ Accepted (length (layout r))
 unfolding record_writing
@@ -324,7 +324,7 @@ pub record StructWritten (s : Record) (n : ℕ) : Type 0 where
 pub struct_written : (s : Record) → FitsStruct s → (n : ℕ) → struct_writing s ≡ Accepted n → StructWritten s n
 unfolding struct_writing
 struct_written s f n e =
-    let t = passed (not (is_whole s)) over-limits 0 n (record_writing (view s)) e in
+    let t = passed (not (is_whole s)) over_the_limits 0 n (record_writing (view s)) e in
     let w = writing_writable (view s) (view_held s f) n t.1 in
     let l = laid_then_read (view s) (writable_allowed (view s) w.0) in
     record { whole = not-false _ t.0; writable = w.0; length-given = w.1; few = omega (arith, w.1, l.3); octets = l.2 }
@@ -340,9 +340,9 @@ module _ (s : Record) (n : ℕ) (e : struct_writing s ≡ Accepted n) where
   unfolding writing_of
   with_room room l = rw (e, le-ltb room n l)
 
-  pub room_after : (room : List ℕ) → n ≤ length room → written_of s room ≡ layout (view s) ++ drop n room
+  pub room_after_lem : (room : List ℕ) → n ≤ length room → written_of s room ≡ layout (view s) ++ drop n room
   unfolding written_of
-  room_after room l = rw (with_room (length room) l)
+  room_after_lem room l = rw (with_room (length room) l)
 
 -- a record that may be written, packed
 pub packed_writes : (r : List Part) → Writable r → struct_writing (pack r) ≡ Accepted (length (layout r))
@@ -377,7 +377,7 @@ read_then_written m o n e =
       laid = laid;
       accepted = accepted;
       answer = with_room (pack r) (length m) accepted;
-      written = λ room l. rw laid at (room_after (pack r) (length m) accepted room l);
+      written = λ room l. rw laid at (room_after_lem (pack r) (length m) accepted room l);
     })
 
 -- and a struct that was written is read as what it stands for

@@ -9,13 +9,13 @@ use Rattle.annex.specs.Answers.{
   number_of,
   place_of,
   given_of,
-  faultNumberOf,
-  stopOf,
-  soundThen,
+  fault_number_of,
+  stop_of,
+  sound_then,
   header_at,
   placed_at,
-  unused-name,
-  other-pli,
+  unused_name,
+  other_pli,
   formed,
 }
 use Rattle.annex.specs.Units.{counted_by, whole_count, octets_of, halves_in, after_of, lead_of, common_extent_of, extent_of}
@@ -213,10 +213,10 @@ abbrev answers : Answer → Answer → AtTwo
 answers = gives Answer number_of
 
 abbrev faults : Fault → Fault → AtTwo
-faults = gives Fault faultNumberOf
+faults = gives Fault fault_number_of
 
 abbrev finds : Found → Found → AtTwo
-finds = gives Found stopOf
+finds = gives Found stop_of
 
 abbrev lists : List ℕ → List ℕ → AtTwo
 lists = gives (List ℕ) first
@@ -273,7 +273,7 @@ rows =
     counts (after_of (extent_of 0x90) 4) (after_of (extent_of 0xCC) 4) ∷  -- after_header, octets
     counts (lead_of (extent_of 0x90)) (lead_of (extent_of 0xCC)) ∷  -- after_header, lead
     answers (head_writing 0 0x90 (Accepted 0)) (head_writing 0 0xD0 (Accepted 0)) ∷  -- head_writing
-    counts (cond (name_used 0x81) other-pli unused-name) (cond (name_used 0x08) other-pli unused-name) ∷  -- head_number
+    counts (cond (name_used 0x81) other_pli unused_name) (cond (name_used 0x08) other_pli unused_name) ∷  -- head_number
     tests (pli_right 0x41) (pli_right 0x81) ∷  -- head_of, right
     counts (zeroes_of 0x41) (zeroes_of 0x42) ∷  -- head_of, zeroes
     gives Form form_number (form_of 0x41) (form_of 0x90) ∷  -- head_of, form
@@ -311,7 +311,7 @@ rows =
     faults (carriers_fault coded) (carriers_fault (0x04 ∷ [])) ∷  -- carriers_fault, form
     faults (carriers_fault (coded_by 0x01)) (carriers_fault (coded_by 0x11)) ∷  -- carriers_fault, digits
     faults (formed true) (formed false) ∷  -- Fault::formed
-    answers (soundThen (header_at 0) Sound (Accepted 1)) (soundThen (header_at 0) (Bad 13 2) (Accepted 1)) ∷  -- at_header
+    answers (sound_then (header_at 0) Sound (Accepted 1)) (sound_then (header_at 0) (Bad 13 2) (Accepted 1)) ∷  -- at_header
     counts (get_or (0x21 ∷ 0x43 ∷ []) 0 0) (get_or (0x21 ∷ 0x43 ∷ []) 1 0) ∷  -- octet_at
     lists (drop 0 (0x21 ∷ [])) (drop 1 (0x21 ∷ [])) ∷  -- octets_from
     lists (take 1 (drop 0 (0x21 ∷ []))) (take 1 (drop 1 (0x21 ∷ []))) ∷  -- stretch_from

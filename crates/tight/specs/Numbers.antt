@@ -3,7 +3,7 @@
 -- number.
 use Rattle.std.specs.Prelude.{ℕ, ◌≡◌, refl, List, ◌∷◌, ◌↔◌, length, get_or, drop}
 use Rattle.std.proofs.Common.{arith, sym, ap, ◌∙◌}
-use Rattle.annex.specs.Answers.{number_of, place_of, given_of, classValueOf, classNumberOf, classPlaceOf, classGivenOf}
+use Rattle.annex.specs.Answers.{number_of, place_of, given_of, class_value_of, class_number_of, class_place_of, class_given_of}
 use Rattle.annex.specs.Items.{Part}
 use Rattle.annex.specs.Reading.{verdict_of, record_of}
 use Rattle.annex.specs.Records.{read_by, reading_of}
@@ -294,11 +294,11 @@ imaged_numbers image r =
 
 pub record RightClass (d r : ClassAnswer) : Type 0 where
   pub told : ClassHasNumber r
-  pub number : classNumberOf r ≡ classNumberOf d
-  pub place : classPlaceOf r ≡ classPlaceOf d
-  pub value : classGivenOf r ≡ classGivenOf d
+  pub number : class_number_of r ≡ class_number_of d
+  pub place : class_place_of r ≡ class_place_of d
+  pub value : class_given_of r ≡ class_given_of d
 
-same_class_lem : (c b : Class) → classValueOf c ≡ classValueOf b → c ≡ b
+same_class_lem : (c b : Class) → class_value_of c ≡ class_value_of b → c ≡ b
 same_class_lem Named Named e = refl
 same_class_lem Named HeldBack e = absurd (omega arith)
 same_class_lem Named Spare e = absurd (omega arith)
@@ -317,7 +317,7 @@ same_class_answer (classes.Refused j q) (classes.Refused k p) t e = rw (e.number
 
 pub class_numbers : (h x : ℕ) (r : ClassAnswer) → ClassPromise h x r ↔ RightClass (class_of h x) r
 class_numbers h x r = (
-  λ e. record { told = rw e (class_told h x); number = ap classNumberOf e; place = ap classPlaceOf e; value = ap classGivenOf e },
+  λ e. record { told = rw e (class_told h x); number = ap class_number_of e; place = ap class_place_of e; value = ap class_given_of e },
   same_class_answer (class_of h x) r (class_told h x),
 )
 

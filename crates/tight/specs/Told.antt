@@ -4,30 +4,30 @@ use Rattle.std.proofs.Common.{arith}
 use Rattle.std.specs.Prelude.{Bool, true, false, cond, not, ◌&&◌, ◌||◌, eqb, leb, ltb, length, get_or, take, drop}
 use mathlib.Core.List.{List, [], ◌∷◌}
 use Rattle.annex.specs.Answers.{
-  over-limits,
+  over_the_limits,
   unlisted,
   repeated,
   cut_short,
-  not-allowed,
+  not_allowed,
   missing,
   left_over,
-  unused-name,
-  other-pli,
-  repeated-name,
-  cut-contents,
-  bad-form,
-  transfer-over,
+  unused_name,
+  other_pli,
+  repeated_name,
+  cut_contents,
+  bad_form,
+  transfer_over,
   no_room,
   absent,
-  outside-profile,
+  outside_profile,
   refuse,
-  soundThen,
+  sound_then,
   header_at,
-  readingAt,
+  reading_at,
   and_then,
   shifted,
-  formedThen,
-  faultThen,
+  formed_then,
+  fault_then,
 }
 use Rattle.annex.specs.Units.{name_of, whole_count, after_of, lead_of, extent_of, common_extent_of, contents_in}
 use Rattle.annex.specs.Heads.{
@@ -227,7 +227,7 @@ followed : (a : Answer) (f : ℕ → Answer) → HasNumber a → ((n : ℕ) → 
 followed (Accepted n) f t g = g n
 followed (Refused k p) f t g = t
 
-sounded : (place : ℕ → ℕ → ℕ) (f : Fault) (a : Answer) → FaultHasNumber f → HasNumber a → HasNumber (soundThen place f a)
+sounded : (place : ℕ → ℕ → ℕ) (f : Fault) (a : Answer) → FaultHasNumber f → HasNumber a → HasNumber (sound_then place f a)
 sounded place Sound a h t = t
 sounded place (Bad k i) a h t = h
 
@@ -241,7 +241,7 @@ either false a c t u = u
 
 -- ---- faults of contents, and of what a record holds
 
-formed : (b : Bool) (f : Fault) → FaultHasNumber f → FaultHasNumber (formedThen b f)
+formed : (b : Bool) (f : Fault) → FaultHasNumber f → FaultHasNumber (formed_then b f)
 formed true f t = t
 formed false f t = omega arith
 
@@ -262,7 +262,7 @@ number_told z at s =
     (formed (not (eqb (odd_of s) 1 && eqb (length s) 2)) _
     (halves_told z (count_of s).0 _ (halves (drop 2 s))))
 
-faulted : (f g : Fault) → FaultHasNumber f → FaultHasNumber g → FaultHasNumber (faultThen f g)
+faulted : (f g : Fault) → FaultHasNumber f → FaultHasNumber g → FaultHasNumber (fault_then f g)
 faulted Sound g t u = u
 faulted (Bad k i) g t u = t
 
@@ -362,7 +362,7 @@ fault_told : (h : ℕ) (s : List ℕ) → FaultHasNumber (fault_of h s)
 unfolding fault_of
 fault_told h s = formed (clear (zeroes_of h) (get_or s 0 0)) (fault_by (form_of h) s) (form_told (form_of h) s)
 
-values_told : (b : Bool) (ds : List ℕ) → FaultHasNumber (formedThen b (cond (every is_digit ds) Sound (Bad 13 0)))
+values_told : (b : Bool) (ds : List ℕ) → FaultHasNumber (formed_then b (cond (every is_digit ds) Sound (Bad 13 0)))
 values_told b ds = formed b _ (one_of (every is_digit ds) Sound _ (record {}) (omega arith))
 
 held_told : (i : Item) → FaultHasNumber (fault_in i)
@@ -395,11 +395,11 @@ unfolding transfer_by
 transfer_told seen h xs =
     let n = after_of (extent_of h) (get_or xs 0 0) in
     let f = fault_of h (contents_in (extent_of h) (take n xs)) in
-    refused (not (name_used h)) unused-name 0 _ (omega arith)
-    (refused (not (pli_right h)) other-pli 0 _ (omega arith)
-    (refused (leb (often_of (name_of h)) (times_seen seen h)) repeated-name 0 _ (omega arith)
-    (refused (ltb (length xs) n) cut-contents 0 _ (omega arith)
-    (sounded (readingAt (1 + lead_of (extent_of h))) f (Accepted n) (fault_told h (contents_in (extent_of h) (take n xs))) (record {})))))
+    refused (not (name_used h)) unused_name 0 _ (omega arith)
+    (refused (not (pli_right h)) other_pli 0 _ (omega arith)
+    (refused (leb (often_of (name_of h)) (times_seen seen h)) repeated_name 0 _ (omega arith)
+    (refused (ltb (length xs) n) cut_contents 0 _ (omega arith)
+    (sounded (reading_at (1 + lead_of (extent_of h))) f (Accepted n) (fault_told h (contents_in (extent_of h) (take n xs))) (record {})))))
 
 data_told : (n : ℕ) (xs : List ℕ) → HasNumber (data_of n xs)
 unfolding data_by transfers_verdict_by
@@ -416,7 +416,7 @@ form_kept times h xs =
     refused (not (among h listed_headers)) unlisted 0 _ (omega arith)
     (refused (ltb 0 times) repeated 0 _ (omega arith)
     (refused (ltb (length xs) n) cut_short 0 _ (omega arith)
-    (refused (not (octet_allowed h (get_or xs 0 0))) not-allowed 0 (Accepted n) (omega arith) (record {}))))
+    (refused (not (octet_allowed h (get_or xs 0 0))) not_allowed 0 (Accepted n) (omega arith) (record {}))))
 
 end_told : (whole : Bool) (xs : List ℕ) → HasNumber (end_of whole xs)
 unfolding end_of
@@ -436,7 +436,7 @@ close_told seen p = refused (not (ltb 0 (times_seen seen end_mark))) cut_short p
 pub verdict_told : (m : List ℕ) → HasNumber (verdict_of m)
 unfolding verdict_by message_verdict_by
 verdict_told m =
-    refused (eqb (length m) 0 || ltb most_octets (length m)) over-limits 0 (message_verdict m) (omega arith)
+    refused (eqb (length m) 0 || ltb most_octets (length m)) over_the_limits 0 (message_verdict m) (omega arith)
     (walked common_step common_close common_told close_told m unseen 0 0)
 
 -- ---- finding and rows
@@ -458,14 +458,14 @@ spans_told m room =
 
 head_told : (p h : ℕ) (a : Answer) → HasNumber a → HasNumber (head_writing p h a)
 head_told p h a t =
-    refused (not (name_used h)) unused-name p _ (omega arith) (refused (not (pli_right h)) other-pli p a (omega arith) t)
+    refused (not (name_used h)) unused_name p _ (omega arith) (refused (not (pli_right h)) other_pli p a (omega arith) t)
 
 item_told : (times p : ℕ) (i : Item) → HasNumber (item_writing times p i)
 unfolding item_writing
 item_told times p i =
     head_told p i.header _
-    (refused (leb (often_of (name_of i.header)) times) repeated-name p _ (omega arith)
-    (refused (not (length_right i)) cut-contents p _ (omega arith)
+    (refused (leb (often_of (name_of i.header)) times) repeated_name p _ (omega arith)
+    (refused (not (length_right i)) cut_contents p _ (omega arith)
     (sounded (header_at p) (fault_in i) (Accepted (p + length (layout_item i))) (held_told i) (record {}))))
 
 items_told : (is : List Item) (seen : Seen) (p : ℕ) → HasNumber (items_writing seen p is)
@@ -480,11 +480,11 @@ unfolding part_writing data_writing
 part_told times p q =
     refused (not (among q.header common_headers)) unlisted p _ (omega arith)
     (refused (ltb 0 times) repeated p _ (omega arith)
-    (refused (not (value_right q)) not-allowed p _ (omega arith)
-    (refused (not (value_fits q)) bad-form p _ (omega arith)
+    (refused (not (value_right q)) not_allowed p _ (omega arith)
+    (refused (not (value_fits q)) bad_form p _ (omega arith)
     (either (eqb q.header transfer_data) (data_writing p q.items) (Accepted (p + length (layout_part q)))
     (followed (items_writing unseen (p + 2) q.items) _ (items_told q.items unseen (p + 2))
-    (λ e. refused (ltb most_transfer_octets (e - (p + 2))) transfer-over p (Accepted e) (omega arith) (record {})))
+    (λ e. refused (ltb most_transfer_octets (e - (p + 2))) transfer_over p (Accepted e) (omega arith) (record {})))
     (record {})))))
 
 parts_told : (r : List Part) (seen : Seen) (p : ℕ) → HasNumber (parts_writing seen p r)
@@ -497,8 +497,8 @@ parts_told (q ∷ qs) seen p =
 pub struct_told : (s : Record) → HasNumber (struct_writing s)
 unfolding struct_writing record_writing
 struct_told s =
-    refused (not (is_whole s)) over-limits 0 _ (omega arith)
-    (refused (over_limits (view s)) over-limits 0 _ (omega arith) (parts_told (view s) unseen 0))
+    refused (not (is_whole s)) over_the_limits 0 _ (omega arith)
+    (refused (over_limits (view s)) over_the_limits 0 _ (omega arith) (parts_told (view s) unseen 0))
 
 pub writing_told : (s : Record) (room : ℕ) → HasNumber (writing_of s room)
 unfolding writing_of
@@ -511,10 +511,10 @@ new_told : (new : List ℕ) (b : Bool) (k : ℕ) → 0 < k → HasNumber (new_he
 new_told new b k h =
     let x = new_header new in
     let xs = new_after new in
-    refused (eqb (length new) 0) cut-contents 0 _ (omega arith)
+    refused (eqb (length new) 0) cut_contents 0 _ (omega arith)
     (head_told 0 x _
     (refused b k 0 _ h
-    (refused (not (eqb (length xs) (after_of (extent_of x) (get_or xs 0 0)))) cut-contents 0 _ (omega arith)
+    (refused (not (eqb (length xs) (after_of (extent_of x) (get_or xs 0 0)))) cut_contents 0 _ (omega arith)
     (sounded (header_at 0) (fault_of x (contents_in (extent_of x) xs)) (Accepted 0) (fault_told x (contents_in (extent_of x) xs)) (record {})))))
 
 edit_told : (e : Edit) (is : List Item) → HasNumber (edit_refusal e is)
@@ -522,7 +522,7 @@ unfolding edit_refusal
 edit_told (Replacing new which) is = new_told new (leb (times_in (name_of (new_header new)) (names_of is)) which) absent (omega arith)
 edit_told (Appending new) is =
     let x = name_of (new_header new) in
-    new_told new (leb (often_of x) (times_in x (names_of is))) repeated-name (omega arith)
+    new_told new (leb (often_of x) (times_in x (names_of is))) repeated_name (omega arith)
 edit_told (Removing x which) is = refused (leb (times_in x (names_of is)) which) absent 0 (Accepted 0) (omega arith) (record {})
 
 pub editing_told : (e : Edit) (d : List ℕ) (n : ℕ) → HasNumber (editing_of e d n)
@@ -534,7 +534,7 @@ editing_told e d n =
     (followed (verdict_of (take n d)) _ (verdict_told (take n d))
     (λ _. refused (not (among transfer_data (headers_of r))) absent 0 _ (omega arith)
     (followed (edit_refusal e (items_in r)) _ (edit_told e (items_in r))
-    (λ _. refused (ltb most_transfer_octets (length (layout_items (items_in (edited e r))))) transfer-over 0 _ (omega arith)
+    (λ _. refused (ltb most_transfer_octets (length (layout_items (items_in (edited e r))))) transfer_over 0 _ (omega arith)
     (refused (ltb (length d) k) no_room 0 (Accepted k) (omega arith) (record {}))))))
 
 -- ---- a record's image
@@ -571,7 +571,7 @@ unfolding class_of
 class_told h x = among_told class_lists
   where
     one : (b c : Bool) (k : Class) (rest : ClassAnswer) → ClassHasNumber rest
-        → ClassHasNumber (cond b (cond c (classes.Is k) (classes.Refused bad-form 0)) rest)
+        → ClassHasNumber (cond b (cond c (classes.Is k) (classes.Refused bad_form 0)) rest)
     one true true k rest t = record {}
     one true false k rest t = omega arith
     one false c k rest t = t
@@ -629,7 +629,7 @@ carrier_digits_told m which row room =
 -- where what comes before has a number, so has what the profile adds
 profiled_told : (r : List Part) (a : Answer) → HasNumber a → HasNumber (profiled r a)
 profiled_told r a t =
-    followed a _ t (λ n. refused (not (is_in_profile r)) outside-profile (n - 1) (Accepted n) (omega arith) (record {}))
+    followed a _ t (λ n. refused (not (is_in_profile r)) outside_profile (n - 1) (Accepted n) (omega arith) (record {}))
 
 pub profile_verdict_told : (m : List ℕ) → HasNumber (profile_verdict m)
 unfolding profile_verdict

@@ -1,7 +1,7 @@
 -- Class functions that the promise shuts out, each with an input at which it breaks it.
 use Rattle.std.specs.Prelude.{ℕ, ◌≡◌}
 use Rattle.std.proofs.Common.{arith, ap}
-use Rattle.annex.specs.Answers.{classGivenOf}
+use Rattle.annex.specs.Answers.{class_given_of}
 use Rattle.annex.specs.Heads.{zeroes_of}
 use Rattle.annex.specs.Classes.{class_of}
 use Rattle.annex.specs.Promises.{ClassPromise}
@@ -16,7 +16,7 @@ always_named h x = Is Named
 -- 7 under 42 is spare
 pub always_named_breaks : ClassPromise 0x42 7 (always_named 0x42 7) → ⊥
 unfolding class_of zeroes_of
-always_named_breaks e = let z : ◌≡◌ {A = ℕ} 0 2 = ap classGivenOf e in omega arith
+always_named_breaks e = let z : ◌≡◌ {A = ℕ} 0 2 = ap class_given_of e in omega arith
 
 -- right but for what is held back, which it answers as spare
 abbrev pub released : ClassAnswer → ClassAnswer
@@ -31,4 +31,4 @@ never_held_back h x = released (class_of h x)
 -- number type 2 under D7 is held back
 pub never_held_back_breaks : ClassPromise 0xD7 2 (never_held_back 0xD7 2) → ⊥
 unfolding class_of zeroes_of
-never_held_back_breaks e = let z : ◌≡◌ {A = ℕ} 2 1 = ap classGivenOf e in omega arith
+never_held_back_breaks e = let z : ◌≡◌ {A = ℕ} 2 1 = ap class_given_of e in omega arith

@@ -9,7 +9,7 @@ use mathlib.Core.List.{List, [], ◌∷◌}
 use mathlib.Core.Logic.{◌⊎◌, inl, inr}
 use lib.Dec.{T}
 use borrow.Author.Rules.{rules}
-use Rattle.annex.specs.Answers.{no-class-list}
+use Rattle.annex.specs.Answers.{no_class_list}
 use Rattle.annex.specs.Heads.{among}
 use Rattle.annex.specs.Classes.{class_lists}
 use Rattle.classes.specs.Listed.{listed_class}
@@ -45,7 +45,7 @@ arms =
 
 -- a header of no arm
 none_of : (lo n h x : ℕ) → T (all (λ k. among_any k arms || not (among k (listed class_lists))) lo n) → None arms h → lo ≤ h → h < lo + n
-    → Refused no-class-list 0 ≡ listed_class h x
+    → Refused no_class_list 0 ≡ listed_class h x
 unfolding listed_class
 none_of lo n h x t r p q = unlisted class_lists h x (rest (λ k. not (among k (listed class_lists))) arms lo n t h r p q)
 

@@ -9,7 +9,7 @@ use borrow.Author.Rules.{rules}
 use borrow.Author.Tests.{le-leb, lt-leb, not-true, not-false}
 use lib.Dec.{leb}
 use lib.ListN.{length}
-use Rattle.annex.specs.Answers.{refuse, soundThen, header_at, repeated-name, cut-contents}
+use Rattle.annex.specs.Answers.{refuse, sound_then, header_at, repeated_name, cut_contents}
 use Rattle.annex.specs.Units.{name_of, lead_of}
 use Rattle.annex.specs.Heads.{often_of}
 use Rattle.annex.specs.Layout.{layout_item}
@@ -36,8 +36,8 @@ past-9 : (c : tie.Else1) →
     let a = c.before.before.before.args in
     let i = raw_item a.t a.values.now in
     item_writing a.times 0 i
-    ≡ refuse (leb (often_of (name_of a.t.header)) a.times) repeated-name 0
-    (refuse (not (length_right i)) cut-contents 0 (soundThen (header_at 0) (fault_in i) (Accepted (0 + length (layout_item i)))))
+    ≡ refuse (leb (often_of (name_of a.t.header)) a.times) repeated_name 0
+    (refuse (not (length_right i)) cut_contents 0 (sound_then (header_at 0) (fault_in i) (Accepted (0 + length (layout_item i)))))
 unfolding item_writing
 past-9 c =
     let st = c.before.before.before in
@@ -53,7 +53,7 @@ past-10 : (c : tie.Else2) →
     let a = c.before.before.before.before.before.args in
     let i = raw_item a.t a.values.now in
     item_writing a.times 0 i
-    ≡ refuse (not (length_right i)) cut-contents 0 (soundThen (header_at 0) (fault_in i) (Accepted (0 + length (layout_item i))))
+    ≡ refuse (not (length_right i)) cut_contents 0 (sound_then (header_at 0) (fault_in i) (Accepted (0 + length (layout_item i))))
 past-10 c =
     let o = c.before in
     rw (past-9 o.before, ← o.often-of.ensures, lt-leb _ _ c.if2.false)
@@ -93,7 +93,7 @@ returns-4 c =
     let e : m.len-as.result + (1 + n.lead.result) ≡ 0 + length (layout_item i) =
     omega (arith, length-layout i, m.len-as.ensures, n.lead.ensures, ap lead_of x.extent-of.ensures) in
     rw (past-10 l.before, ← l.length_right_holds.ensures, g.if3.false, ← k, ← v.values-fault.ensures)
-    (c.at-header.ensures ∙ ap (λ n. soundThen (header_at 0) v.values-fault.result (Accepted n)) (omega arith))
+    (c.at-header.ensures ∙ ap (λ n. sound_then (header_at 0) v.values-fault.result (Accepted n)) (omega arith))
 
 pub judged_spec : {M : Type 1} → statement M
 judged_spec =

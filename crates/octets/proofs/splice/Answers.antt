@@ -31,8 +31,8 @@ pub returns-else-lies_within : goal.returns-else-lies_within
 returns-else-lies_within c =
     let one = sym c.lies_within.ensures in (
       elim c.else-lies_within.branch [
-        else-lies_within-via-then-lies_within+then-n-d+else-lies_within-2 w ↦
-          rw (one ∙ w.if-lies_within.true, le-leb _ _ w.if-n-d.true, sym w.lies_within-then-n-d.ensures ∙ w.if-lies_within-2.false)
+        | else-lies_within-via-then-lies_within+then-n-d+else-lies_within-2 w ↦
+            rw (one ∙ w.if-lies_within.true, le-leb _ _ w.if-n-d.true, sym w.lies_within-then-n-d.ensures ∙ w.if-lies_within-2.false)
         | else-lies_within-via-then-lies_within+else-n-d w ↦ rw (one ∙ w.if-lies_within.true, lt-leb _ _ w.if-n-d.false)
         | else-lies_within-via-else-lies_within w ↦ rw (one ∙ w.if-lies_within.false)
       ],

@@ -4,7 +4,7 @@ use mathlib.Core.Bool.{true, not}
 use mathlib.Core.List.{[]}
 use borrow.Author.Rules.{rules}
 use borrow.Author.Tests.{ne_eqb, lt-ltb, le-ltb, not-true, not-false}
-use Rattle.annex.specs.Answers.{refuse, not-allowed, bad-form}
+use Rattle.annex.specs.Answers.{refuse, not_allowed, bad_form}
 use Rattle.annex.specs.Heads.{among, common_headers, value_allowed}
 use Rattle.annex.specs.Allowed.{value_fits}
 use Rattle.annex.specs.Records.{value_head, raw_part}
@@ -38,8 +38,8 @@ returns-3 c = rw (head_checked _ c.before.before.before.before.args.c, common c.
 past-3 : (c : tie.Else3) →
     let a = c.before.before.before.before.args in
     part_writing a.times 0 (raw_part a.c [])
-    ≡ refuse (not (value_allowed a.c.header a.c.value)) not-allowed 0
-    (refuse (not (value_fits (raw_part a.c []))) bad-form 0 (Accepted (head_length a.c.header)))
+    ≡ refuse (not (value_allowed a.c.header a.c.value)) not_allowed 0
+    (refuse (not (value_fits (raw_part a.c []))) bad_form 0 (Accepted (head_length a.c.header)))
 past-3 c =
     let a = c.before.before.before.before.args in
     rw (head_checked a.times a.c, common c.before, le-ltb _ _ c.if3.false)

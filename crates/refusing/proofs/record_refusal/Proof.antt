@@ -7,10 +7,10 @@ use Rattle.refusing.proofs.record_refusal.Statement.{statement}
 use Rattle.refusing.proofs.record_refusal.Tie as tie
 
 returns : tie.Need-returns
-returns c = sym (over_refused _ (sym c.before.over-limits.ensures ∙ c.if1.true))
+returns c = sym (over_refused _ (sym c.before.over_the_limits.ensures ∙ c.if1.true))
 
 under : (c : tie.Else1) → is_over c.before.before.args.held ≡ false
-under c = sym c.before.over-limits.ensures ∙ c.if1.false
+under c = sym c.before.over_the_limits.ensures ∙ c.if1.false
 
 parts-refusal-requires : tie.Need-parts-refusal-requires
 parts-refusal-requires c κs = under_whole _ (under c)

@@ -11,7 +11,7 @@ use Rattle.annex.specs.Writing.{struct_writing, writing_of, written_of}
 use Rattle.annex.specs.Memory.{at_front}
 use Rattle.annex.specs.declared.Answer.TheVariants.{Accepted}
 use Rattle.laws.specs.Written.{low_octets_lem}
-use Rattle.theorems.specs.Writings.{StructWritten, struct_written, with_room, room_after}
+use Rattle.theorems.specs.Writings.{StructWritten, struct_written, with_room, room_after_lem}
 use Rattle.limits.specs.Limits.{told_whole}
 use Rattle.limits.specs.Typed.{fits_struct}
 use Rattle.writer.proofs.write.Statement.{statement}
@@ -61,7 +61,7 @@ returns-3 c =
     let f : at_front laid room ≡ laid ++ drop t.before.a.given.0.0 room = rw (low_octets_lem laid w.octets, w.length-given) in (
       sym (with_room a.held _ e (length room) x.if1.false),
       p.put-parts.ensures ∙ f
-          ∙ sym (room_after a.held _ e room x.if1.false),
+          ∙ sym (room_after_lem a.held _ e room x.if1.false),
     )
 
 pub write_spec : {M : Type 1} → statement M

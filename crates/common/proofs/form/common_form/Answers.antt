@@ -5,7 +5,7 @@ use lib.Dec.{ltb}
 use lib.ListN.{length}
 use borrow.Author.Rules.{rules}
 use borrow.Author.Tests.{lt-ltb, le-ltb}
-use Rattle.annex.specs.Answers.{refuse, cut_short, not-allowed}
+use Rattle.annex.specs.Answers.{refuse, cut_short, not_allowed}
 use Rattle.annex.specs.Reading.{common_form, octet_allowed}
 use Rattle.annex.specs.declared.Answer.TheVariants.{Accepted}
 use Rattle.common.proofs.form.common_form.Goals as goal

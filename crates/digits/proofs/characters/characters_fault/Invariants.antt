@@ -5,7 +5,7 @@ use mathlib.Core.Bool.{cond}
 use borrow.Author.Rules.{rules}
 use borrow.Author.Tests.{not-true, not-false}
 use lib.ListN.{length, drop}
-use Rattle.annex.specs.Answers.{bad-digit}
+use Rattle.annex.specs.Answers.{bad_digit}
 use Rattle.annex.specs.declared.Fault.TheVariants.{Bad}
 use Rattle.digits.specs.Characters.{known_fault, known_more, known_none}
 use Rattle.digits.proofs.characters.characters_fault.Given as goal

@@ -6,7 +6,7 @@ use mathlib.Core.Bool.{true, ◌&&◌}
 use mathlib.Core.List.{List}
 use borrow.Author.Rules.{rules}
 use lib.ListN.{length}
-use Rattle.annex.specs.Answers.{faultThen}
+use Rattle.annex.specs.Answers.{fault_then}
 use Rattle.annex.specs.Carriers.{entries_fault, carrier_fault, carriers_in}
 use Rattle.annex.specs.Entering.{entry_next}
 use Rattle.annex.specs.declared.Cursor.{Cursor}
@@ -62,7 +62,7 @@ module _ (c : tie.After-entry-fault invariant-loop decreases-loop) where
 
   -- the fault of the entry, and that of those behind it
   abbrev behind : Fault → Fault
-  behind f = faultThen f (fault_left s (entry_next s cursor))
+  behind f = fault_then f (fault_left s (entry_next s cursor))
 
   turned : entries_fault carrier_fault (carriers_in s) ≡ behind c.entry-fault.result
   turned =

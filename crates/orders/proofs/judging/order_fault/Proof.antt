@@ -8,7 +8,7 @@ use mathlib.Core.List.{List}
 use borrow.Author.Rules.{rules}
 use borrow.Author.Tests.{not-true, not-false}
 use lib.ListN.{length, get_or, set, drop}
-use Rattle.annex.specs.Answers.{wrong-order}
+use Rattle.annex.specs.Answers.{wrong_order}
 use Rattle.annex.specs.Orders.{layout_of, may_stand, order_after, own_fault, order_fault}
 use Rattle.annex.specs.declared.Fault.TheVariants.{Sound, Bad}
 use Rattle.orders.specs.Asked.{has_bit, row_place, stand_bits}
@@ -118,7 +118,7 @@ module _ (c : tie.Else3 invariant-loop decreases-loop) where
   mark : (b : Bool) → get_or seen asked.asked_of.result.place false ≡ b → get_or seen (row_place (get_or s at 0)) false ≡ b
   mark b e = ap (λ (i : ℕ). get_or seen i false) (sym (place asked)) ∙ e
 
-  twice : get_or seen asked.asked_of.result.place false ≡ true → order_fault s ≡ Bad wrong-order 0
+  twice : get_or seen asked.asked_of.result.place false ≡ true → order_fault s ≡ Bad wrong_order 0
   twice e = stood s seen at inside.before.loop.inv inside.loop-test.taken (octet asked).0 stand (mark true e)
 
 returns-4 : tie.Need-returns-4 invariant-loop decreases-loop

@@ -8,7 +8,7 @@ use borrow.Author.Rules.{rules}
 use borrow.Author.Tests.{not-true, not-false, lt-ltb, le-ltb, lt-leb, le-leb}
 use lib.Dec.{ltb}
 use lib.ListN.{length, take, drop, length-take, length-drop}
-use Rattle.annex.specs.Answers.{offset_of, refuse, soundThen, readingAt, cut-contents}
+use Rattle.annex.specs.Answers.{offset_of, refuse, sound_then, reading_at, cut_contents}
 use Rattle.annex.specs.Units.{lead_of, extent_of, contents_in}
 use Rattle.annex.specs.Heads.{pli_right}
 use Rattle.annex.specs.Contents.{fault_of}
@@ -46,8 +46,8 @@ past-10 : (c : tie.After-after-header) →
     let n = c.after-header.result.octets in
     let xs = a.xs.now in
     transfer_of a.times a.header xs
-    ≡ refuse (ltb (length xs) n) cut-contents 0
-    (soundThen (readingAt (1 + lead_of (extent_of a.header))) (fault_of a.header (contents_in (extent_of a.header) (take n xs)))
+    ≡ refuse (ltb (length xs) n) cut_contents 0
+    (sound_then (reading_at (1 + lead_of (extent_of a.header))) (fault_of a.header (contents_in (extent_of a.header) (take n xs)))
     (Accepted n))
 unfolding transfer_by
 past-10 c =

@@ -7,7 +7,7 @@ use borrow.Author.Rules.{rules}
 use borrow.Author.Tests.{not-true, not-false, eq-eqb, ne_eqb}
 use lib.Dec.{eqb}
 use lib.ListN.{length}
-use Rattle.annex.specs.Answers.{check-digit, faultThen}
+use Rattle.annex.specs.Answers.{check_digit, fault_then}
 use Rattle.annex.specs.Contents.{charging_fault}
 use Rattle.annex.specs.Rates.{kind_in, field_octets, numbers_drawn, total}
 use Rattle.annex.specs.declared.Fault.TheVariants.{Sound, Bad}
@@ -38,9 +38,9 @@ past-form : (c : tie.After-drawn-fault) →
     let s = o.before.before.before.args.s.now in
     let r = o.asked_of.result in
     charging_fault s
-    ≡ faultThen c.drawn-fault.result
+    ≡ fault_then c.drawn-fault.result
     (cond (cond r.checked (eqb ((kind_in s + total (numbers_drawn (behind r.first (length s - 2)) (field_octets s))) % 10) 9) true) Sound
-    (Bad check-digit (length s - 1)))
+    (Bad check_digit (length s - 1)))
 past-form c =
     let e = c.before in
     let o = e.before.before.before.before in
@@ -62,7 +62,7 @@ returns-4 c =
 past-digits : (c : tie.After-check-sum) →
     let o = c.before.before.before.before.before.before.before.before.before.before in
     let s = o.before.before.before.args.s.now in
-    charging_fault s ≡ cond (eqb (c.check-sum.result % 10) 9) Sound (Bad check-digit (length s - 1))
+    charging_fault s ≡ cond (eqb (c.check-sum.result % 10) 9) Sound (Bad check_digit (length s - 1))
 past-digits c =
     let n = c.before.before.before in
     let d = n.before.before in
@@ -73,7 +73,7 @@ past-digits c =
     let m : kind_in s + all ≡ c.check-sum.result = omega (arith, o.before.octet-at.ensures, c.check-sum.ensures) in
     past-form d
     ∙ rw (n.enum_told.given.1, not-false r.checked c.before.if3.false)
-    (ap (λ k. cond (eqb (k % 10) 9) Sound (Bad check-digit (length s - 1))) m)
+    (ap (λ k. cond (eqb (k % 10) 9) Sound (Bad check_digit (length s - 1))) m)
 
 returns-5 : tie.Need-returns-5
 returns-5 c = sym (past-digits c.before ∙ rw (eq-eqb _ _ c.if4.true))

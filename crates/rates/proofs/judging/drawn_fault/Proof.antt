@@ -5,7 +5,7 @@ use mathlib.Core.Bool.{cond}
 use borrow.Author.Rules.{rules}
 use borrow.Author.Tests.{not-true, not-false}
 use lib.ListN.{length, drop}
-use Rattle.annex.specs.Answers.{bad-digit}
+use Rattle.annex.specs.Answers.{bad_digit}
 use Rattle.annex.specs.Rates.{drawn_fault}
 use Rattle.annex.specs.declared.Fault.TheVariants.{Bad}
 use Rattle.rates.specs.Asked.{behind, characters_fault, characters_known, behind_none, behind_fault}
@@ -21,7 +21,7 @@ returns c =
 first_so : (c : tie.After-is-right) →
     let a = c.before.before.before.before.args in
     let s = a.s.now in
-    drawn_fault 2 (behind a.first (length s - 2)) (drop 2 s) ≡ cond c.is_right.result (characters_fault 3 (drop 3 s)) (Bad bad-digit 2)
+    drawn_fault 2 (behind a.first (length s - 2)) (drop 2 s) ≡ cond c.is_right.result (characters_fault 3 (drop 3 s)) (Bad bad_digit 2)
 first_so c =
     let f = c.before.before in
     let a = f.before.before.args in
