@@ -17,6 +17,25 @@ unfolding digits_fault
 loop-i-init c =
     (omega arith, ap (λ (n : HalfOctets). n.0) c.of-halves.ensures, simp (sub-zero, add-zero))
 
+pub returns-then-not-half_right : goal.returns-then-not-half_right
+returns-then-not-half_right c =
+    let a = c.args in
+    let i = c.loop-i.i in
+    let s = a.s.now in
+    let e : (2 * a.at + i) / 2 ≡ a.at + i / 2 = omega arith in
+    sym
+    (c.loop-i.invariant.2 ∙ halves_turn _ _ i _ (halves s) (omega (arith, length-halves s))
+    ∙ rw (← c.half_at-h.ensures, ← c.half_right.ensures, c.if-not-half_right.true, e))
+
+pub loop-i-preserved : goal.loop-i-preserved
+loop-i-preserved c =
+    let s = c.args.s.now in (
+      omega arith,
+      c.loop-i.invariant.1,
+      c.loop-i.invariant.2 ∙ halves_turn _ _ c.loop-i.i _ (halves s) (omega (arith, length-halves s))
+          ∙ rw (← c.half_at-h.ensures, ← c.half_right.ensures, c.if-not-half_right.false, add_assoc),
+    )
+
 pub returns : goal.returns
 returns c =
     let s = c.args.s.now in
