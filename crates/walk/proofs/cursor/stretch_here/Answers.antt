@@ -1,5 +1,4 @@
 -- `stretch_here` meets its contract.
-use borrow.Author.Rules.{rules}
 use borrow.Author.Tests.{lt-ltb, le-ltb}
 use Rattle.annex.specs.Walking.{stretch_here}
 use Rattle.walk.proofs.cursor.stretch_here.Goals as goal

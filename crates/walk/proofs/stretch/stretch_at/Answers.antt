@@ -1,6 +1,5 @@
 -- `stretch_at` meets its contract.
 use native.Mathlib.Omega.{arith}
-use borrow.Author.Rules.{rules}
 use borrow.Author.Tests.{lt-ltb, le-ltb, le-leb, lt-leb}
 use Rattle.annex.specs.Walking.{stretch_at}
 use Rattle.laws.specs.Extents.{lead_within}
