@@ -1,0 +1,18 @@
+-- `number_in` meets its contract: each arm is a case of the definition.
+use native.Mathlib.Omega.{arith}
+use borrow.Author.Rules.{rules}
+use Rattle.annex.specs.Rates.{decimal}
+use Rattle.rates.proofs.drawing.number_in.Goals as goal
+
+pub returns-in-Whole : goal.returns-in-Whole
+unfolding decimal
+returns-in-Whole c = rw c.in-Whole.is (omega arith)
+
+pub returns-in-Halves : goal.returns-in-Halves
+unfolding decimal
+returns-in-Halves c =
+    rw (c.in-Halves.is, ← c.mbi_digit.ensures, ← c.mbi_digit-in-Halves.ensures) (omega arith)
+
+pub returns-in-Character : goal.returns-in-Character
+unfolding decimal
+returns-in-Character c = rw c.in-Character.is (omega arith)
