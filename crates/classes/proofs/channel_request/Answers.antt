@@ -26,3 +26,7 @@ returns-in-0-2 c = in_range 0x6E (Is Named) [] 2 2 tt c.args.octet tt (omega ari
 pub returns-in-0-3 : goal.returns-in-0-3
 unfolding listed_class
 returns-in-0-3 c = in_range 0x6E (Is Named) [] 8 3 tt c.args.octet tt (omega arith) (omega arith)
+
+pub returns-in-0 : goal.returns-in-0
+unfolding listed_class
+returns-in-0 c = at_keys 0x6E (Is Named) (0 ∷ []) tt _ c.in-0.in-0-own.keys1

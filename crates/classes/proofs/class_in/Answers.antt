@@ -8,7 +8,6 @@ use mathlib.Core.Bool.{not, ◌||◌}
 use mathlib.Core.List.{List, [], ◌∷◌}
 use mathlib.Core.Logic.{◌⊎◌, inl, inr}
 use lib.Dec.{T}
-use borrow.Author.Rules.{rules}
 use Rattle.annex.specs.Answers.{no_class_list}
 use Rattle.annex.specs.Heads.{among}
 use Rattle.annex.specs.Classes.{class_lists}
@@ -81,3 +80,13 @@ returns-in-126 c = rw c.in-126.is c.adjacent_network.ensures
 
 pub returns-in-215 : goal.returns-in-215
 returns-in-215 c = c.number_type.ensures ∙ one_of_two 0xD7 0xDC number-types c.in-215.is _
+
+pub returns-in-121 : goal.returns-in-121
+returns-in-121 c =
+    c.result_event.ensures ∙ one_of_two 0x79 0x7A result-events (next-or-it 0x79 (omega arith) (omega arith)) _
+
+pub returns-in_default : goal.returns-in_default
+returns-in_default c = none_of 0 0x79 _ _ tt c.in_default.in_default-own.rest (omega arith) (omega arith)
+
+pub returns-in_default-2 : goal.returns-in_default-2
+returns-in_default-2 c = none_of 0x7B 0x85 _ _ tt c.in_default.in_default-own.rest (omega arith) (omega arith)

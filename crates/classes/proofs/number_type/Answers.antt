@@ -32,3 +32,29 @@ unfolding listed_class
 returns-in-2-2 c =
     let x = c.args.octet in
     in_range 0xD7 (Is HeldBack) [] 112 14 tt (x % 128) tt (omega arith) (omega arith) ∙ low x (omega arith)
+
+pub returns-in_default-3 : goal.returns-in_default-3
+unfolding listed_class
+returns-in_default-3 c =
+    let x = c.args.octet in
+    in_range 0xD7 (Is Spare) ((2 ∷ []) ∷ (1 ∷ 126 ∷ []) ∷ []) 126 2 tt _ c.in_default.in_default-own.rest (omega arith) (omega arith)
+    ∙ low x (omega arith)
+
+pub returns-in-2 : goal.returns-in-2
+unfolding listed_class
+returns-in-2 c =
+    let x = c.args.octet in
+    at_keys 0xD7 (Is HeldBack) (2 ∷ []) tt _ c.in-2.in-2-own.keys2 ∙ low x (omega arith)
+
+pub returns-in-1 : goal.returns-in-1
+unfolding listed_class
+returns-in-1 c =
+    let x = c.args.octet in
+    at_keys 0xD7 (Is Named) (1 ∷ 126 ∷ []) tt _ c.in-1.in-1-own.keys1 ∙ low x (omega arith)
+
+pub returns-in-1-2 : goal.returns-in-1-2
+unfolding listed_class
+returns-in-1-2 c =
+    let x = c.args.octet in
+    in_range 0xD7 (Is Named) ((2 ∷ []) ∷ (1 ∷ 126 ∷ []) ∷ []) 1 4 tt _ c.in-1.in_default-own.rest (omega arith) (omega arith)
+    ∙ low x (omega arith)

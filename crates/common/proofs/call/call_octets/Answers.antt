@@ -1,6 +1,5 @@
 -- `call_octets` meets its contract: the least octet is the first.
 use mathlib.Core.Path.{refl}
-use borrow.Author.Rules.{rules}
 use Rattle.common.proofs.call.call_octets.Goals as goal
 
 pub returns : goal.returns

@@ -4,7 +4,6 @@ use native.Mathlib.Omega.{arith}
 use mathlib.Core.Path.{◌≡◌, refl, sym}
 use mathlib.Core.Bool.{true, false}
 use mathlib.Core.List.{List, [], ◌∷◌}
-use borrow.Author.Rules.{rules}
 use borrow.Author.Tests.{ltb-true, ne_eqb}
 use Rattle.annex.specs.Heads.{among, signal_kinds}
 use Rattle.annex.specs.Allowed.{every, is_octet}

@@ -1,5 +1,4 @@
 -- `octet_allowed` meets its contract: what the octet says is judged.
-use borrow.Author.Rules.{rules}
 use Rattle.common.proofs.form.octet_allowed.Goals as goal
 
 pub returns : goal.returns

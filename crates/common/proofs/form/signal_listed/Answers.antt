@@ -1,10 +1,9 @@
 -- `signal_listed` meets its contract: each arm's numbers are tested one after the other.
-use native.Mathlib.Omega.{arith}
-use mathlib.Core.Bool.{Bool, true, false}
+use mathlib.Core.Bool.{Bool, true}
 use mathlib.Core.List.{List, [], ◌∷◌}
 use Prim.Native.Nat.{ℕ}
 use Rattle.annex.specs.Heads.{among, signal_kinds}
-use Rattle.laws.specs.Octet.{span, one_of}
+use Rattle.laws.specs.Octet.{one_of}
 use Rattle.common.proofs.form.signal_listed.Goals as goal
 
 abbrev is_kind : ℕ → Bool

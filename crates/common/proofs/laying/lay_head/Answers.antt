@@ -4,7 +4,6 @@ use native.Mathlib.Omega.{arith}
 use mathlib.Core.Path.{◌≡◌, sym, ◌∙◌}
 use mathlib.Core.Bool.{Bool, true, false}
 use mathlib.Core.List.{List, [], ◌∷◌}
-use borrow.Author.Rules.{rules}
 use borrow.Author.Tests.{ne_eqb}
 use Rattle.annex.specs.Heads.{transfer_data, is_call}
 use Rattle.annex.specs.Layout.{layout_items, call_octets, octet_of, layout_part}
@@ -42,3 +41,22 @@ module _ (c : Common) (octet : c.header < 256) where
 laid : (c : Common) (room now s : List ℕ) (at : ℕ) (r : Bool) → s ≡ low_octets (layout_part (raw_part c [])) → Keeps (copying room at s) r now
     → Keeps (laying_head c room at) r now
 laid c room now s at r e k = rw (← length_low (layout_part (raw_part c [])), ← e) k
+
+pub returns-then-header : goal.returns-then-header
+returns-then-header c =
+    let a = c.args in
+    laid a.c a.room.now _ _ a.at _ (low-data a.c (omega arith) c.if-header.true) c.copy_in.ensures
+
+pub returns-then-is_call : goal.returns-then-is_call
+returns-then-is_call c =
+    let a = c.args in
+    laid a.c a.room.now _ _ a.at _
+    (rw c.call_octets-own.ensures (low-call a.c (omega arith) c.if-header.false (sym c.is_call.ensures ∙ c.if-is_call.true)))
+    c.copy_in-then-is_call.ensures
+
+pub returns : goal.returns
+returns c =
+    let a = c.args in
+    laid a.c a.room.now _ _ a.at _
+    (rw c.octet_of.ensures (low-plain a.c (omega arith) c.if-header.false (sym c.is_call.ensures ∙ c.if-is_call.false)))
+    c.copy_in-2.ensures

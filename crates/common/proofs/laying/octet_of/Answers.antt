@@ -1,6 +1,5 @@
 -- `octet_of` meets its contract: its two arms are the two cases of the definition.
 use native.Mathlib.Omega.{arith}
-use borrow.Author.Rules.{rules}
 use borrow.Author.Tests.{eq-eqb, ne_eqb}
 use Rattle.common.proofs.laying.octet_of.Goals as goal
 
