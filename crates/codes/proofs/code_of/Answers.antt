@@ -1,5 +1,4 @@
 -- `code_of` meets its contract: its tests are those of the definition, in their order, and only a zero has a code of its own.
-use borrow.Author.Rules.{rules}
 use borrow.Author.Tests.{eq-eqb, ne_eqb}
 use Rattle.annex.specs.Digits.{code_of}
 use Rattle.codes.proofs.Zeroes.{other_to}

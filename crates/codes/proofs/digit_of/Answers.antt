@@ -1,6 +1,5 @@
 -- `digit_of` meets its contract: its tests are those of the definition, in their order, and only a zero has a code of its own.
 use mathlib.Core.Path.{sym, ◌∙◌}
-use borrow.Author.Rules.{rules}
 use borrow.Author.Tests.{eq-eqb, ne_eqb}
 use Rattle.annex.specs.Digits.{digit_of}
 use Rattle.codes.proofs.Zeroes.{zero_from_lem, other_from}

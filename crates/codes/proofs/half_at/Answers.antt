@@ -4,7 +4,6 @@ use native.Mathlib.Omega.{arith}
 use mathlib.Core.Path.{sym}
 use lib.ListN.{get_or-eq_default}
 use Rattle.laws.specs.Halves.{length-halves, halves_even, halves_odd}
-use borrow.Author.Rules.{rules}
 use Rattle.codes.proofs.half_at.Goals as goal
 
 pub returns-then-octets-k : goal.returns-then-octets-k

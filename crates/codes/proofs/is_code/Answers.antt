@@ -1,5 +1,4 @@
 -- `is_code` meets its contract: its tests are those of the definition.
-use borrow.Author.Rules.{rules}
 use Rattle.annex.specs.Digits.{is_code}
 use Rattle.codes.proofs.is_code.Goals as goal
 

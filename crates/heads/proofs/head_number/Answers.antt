@@ -1,5 +1,4 @@
 -- `head_number` meets its contract: each arm is a case of it.
-use borrow.Author.Rules.{rules}
 use Rattle.heads.proofs.head_number.Goals as goal
 
 pub returns-then-name_used : goal.returns-then-name_used

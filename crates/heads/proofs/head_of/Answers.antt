@@ -1,6 +1,5 @@
 -- `head_of` meets its contract: the lists ask what the definitions ask.
 use native.Mathlib.Omega.{arith}
-use borrow.Author.Rules.{rules}
 use Rattle.heads.specs.Asked.{asks}
 use Rattle.heads.proofs.head_of.Goals as goal
 

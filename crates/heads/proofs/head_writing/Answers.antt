@@ -1,6 +1,5 @@
 -- `head_writing` meets its contract: a header that is right is not refused, and any other is by its name.
 use mathlib.Core.Path.{sym, ◌∙◌}
-use borrow.Author.Rules.{rules}
 use borrow.Author.Tests.{not-true, not-false}
 use Rattle.heads.specs.Asked.{right_head, wrong_head}
 use Rattle.heads.proofs.head_writing.Goals as goal

@@ -1,6 +1,5 @@
 -- `name_used` meets its contract: a name is used where one of its headers is right.
 use native.Mathlib.Omega.{arith}
-use borrow.Author.Rules.{rules}
 use Rattle.heads.specs.Asked.{used_under}
 use Rattle.heads.proofs.name_used.Goals as goal
 

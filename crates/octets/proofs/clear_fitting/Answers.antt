@@ -1,7 +1,7 @@
-use Prim.Native.Nat.{ℕ, ◌-◌}
+use Prim.Native.Nat.{ℕ}
 use native.Mathlib.Omega.{arith}
 use lib.ListN.{replicate, length-replicate, get_or-replicate}
-use Rattle.octets.proofs.Turns.{Forward, forward_start, forward_turn, forward_end}
+use Rattle.octets.proofs.Turns.{forward_start, forward_turn, forward_end}
 use Rattle.octets.proofs.clear_fitting.Goals as goal
 
 pub loop-i-init : goal.loop-i-init

@@ -1,8 +1,7 @@
 -- `clear_fitting` meets its contract: each turn sets one octet more to 0.
-use Prim.Native.Nat.{ℕ, ◌-◌}
-use native.Mathlib.Omega.{arith}
-use lib.ListN.{replicate, length-replicate, get_or-replicate}
-use Rattle.octets.proofs.Turns.{Forward, forward_start, forward_turn, forward_end}
+use Prim.Native.Nat.{◌-◌}
+use lib.ListN.{replicate}
+use Rattle.octets.proofs.Turns.{Forward}
 use Rattle.octets.proofs.clear_fitting.Given as goal
 
 abbrev pub invariant-loop-i : goal.invariant-loop-i

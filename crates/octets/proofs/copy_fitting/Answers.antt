@@ -1,8 +1,7 @@
 use mathlib.Core.Path.{refl}
-use Prim.Native.Nat.{◌-◌}
 use native.Mathlib.Omega.{arith}
 use lib.ListN.{length}
-use Rattle.octets.proofs.Turns.{Forward, forward_start, forward_turn, forward_end}
+use Rattle.octets.proofs.Turns.{forward_start, forward_turn, forward_end}
 use Rattle.octets.proofs.copy_fitting.Goals as goal
 
 pub loop-i-init : goal.loop-i-init

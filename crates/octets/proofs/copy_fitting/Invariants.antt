@@ -1,9 +1,7 @@
 -- `copy_fitting` meets its contract: each turn writes one octet of s more.
-use mathlib.Core.Path.{refl}
 use Prim.Native.Nat.{◌-◌}
-use native.Mathlib.Omega.{arith}
 use lib.ListN.{length}
-use Rattle.octets.proofs.Turns.{Forward, forward_start, forward_turn, forward_end}
+use Rattle.octets.proofs.Turns.{Forward}
 use Rattle.octets.proofs.copy_fitting.Given as goal
 
 abbrev pub invariant-loop-i : goal.invariant-loop-i

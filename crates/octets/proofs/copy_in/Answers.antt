@@ -1,7 +1,6 @@
 -- `copy_in` meets its contract: what it tests is what `copy_fitting` requires.
 use mathlib.Core.Path.{refl}
 use borrow.Author.Tests.{leb-true}
-use borrow.Author.Rules.{rules}
 use Rattle.octets.proofs.copy_in.Goals as goal
 
 pub copy_fitting-requires : goal.copy_fitting-requires

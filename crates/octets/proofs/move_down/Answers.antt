@@ -1,11 +1,11 @@
 use mathlib.Core.Path.{◌≡◌, sym, ap, ◌∙◌}
 use mathlib.Core.List.{List}
-use Prim.Native.Nat.{ℕ, ◌+◌, ◌-◌}
+use Prim.Native.Nat.{ℕ, ◌+◌}
 use native.Mathlib.Omega.{arith}
 use lib.ListN.{length, take, get_or}
 use lib.Seq.{length-take-le}
 use Rattle.octets.specs.Put.{part, length_part, get_d_part, get_d_after}
-use Rattle.octets.proofs.Turns.{Forward, forward_start, forward_turn, forward_end}
+use Rattle.octets.proofs.Turns.{forward_start, forward_turn, forward_end}
 use Rattle.octets.proofs.move_down.Goals as goal
 
 pub loop-i-init : goal.loop-i-init

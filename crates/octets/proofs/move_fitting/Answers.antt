@@ -1,7 +1,6 @@
 -- `move_fitting` meets its contract: octets that stay are as they were, and each direction is taken where it loses nothing.
 use mathlib.Core.Path.{sym}
 use native.Mathlib.Omega.{arith}
-use borrow.Author.Rules.{rules}
 use Rattle.octets.specs.Put.{put_part}
 use Rattle.octets.proofs.move_fitting.Goals as goal
 

@@ -4,7 +4,7 @@ use Prim.Native.Nat.{ℕ, ◌+◌, ◌-◌}
 use native.Mathlib.Omega.{arith}
 use lib.ListN.{length, drop, get_or, length-drop}
 use Rattle.octets.specs.Put.{part, length_part, get_d_part, get_d_before}
-use Rattle.octets.proofs.Turns.{Backward, backward_start, backward_turn, backward_end}
+use Rattle.octets.proofs.Turns.{backward_start, backward_turn, backward_end}
 use Rattle.octets.proofs.move_up.Goals as goal
 
 pub loop-i-init : goal.loop-i-init

@@ -1,11 +1,6 @@
 -- `move_up` meets its contract: an octet is read from before all that is written, so it is still the one that was there.
-use mathlib.Core.Path.{◌≡◌, sym, ap, ◌∙◌}
-use mathlib.Core.List.{List}
-use Prim.Native.Nat.{ℕ, ◌+◌, ◌-◌}
-use native.Mathlib.Omega.{arith}
-use lib.ListN.{length, drop, get_or, length-drop}
-use Rattle.octets.specs.Put.{part, length_part, get_d_part, get_d_before}
-use Rattle.octets.proofs.Turns.{Backward, backward_start, backward_turn, backward_end}
+use Rattle.octets.specs.Put.{part}
+use Rattle.octets.proofs.Turns.{Backward}
 use Rattle.octets.proofs.move_up.Given as goal
 
 abbrev pub invariant-loop-i : goal.invariant-loop-i

@@ -4,7 +4,6 @@ use mathlib.Core.Path.{sym}
 use Prim.Native.Nat.{◌-◌}
 use lib.ListN.{length, drop, drop_of_length-le, length-drop}
 use lib.Seq.{take_all}
-use borrow.Author.Rules.{rules}
 use Rattle.octets.proofs.octets_from.Goals as goal
 
 pub returns-then-s-i : goal.returns-then-s-i

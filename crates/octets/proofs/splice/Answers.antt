@@ -4,7 +4,6 @@ use Prim.Native.Nat.{◌+◌}
 use native.Mathlib.Omega.{arith}
 use borrow.Author.Tests.{leb-true, le-leb, lt-leb}
 use Rattle.laws.specs.Bools.{and_both}
-use borrow.Author.Rules.{rules}
 use Rattle.octets.proofs.splice.Goals as goal
 use Rattle.octets.proofs.splice.Goals.{
   else-lies_within-via-then-lies_within+then-n-d+else-lies_within-2,

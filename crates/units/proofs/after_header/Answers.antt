@@ -2,7 +2,6 @@
 use Prim.Native.Nat.{◌+◌, ◌/◌}
 use native.Mathlib.Omega.{arith}
 use mathlib.Core.Path.{◌≡◌, refl, ap}
-use borrow.Author.Rules.{rules}
 use Rattle.annex.specs.Units.{counted_by, octets_of, after_of, lead_of, extent_of}
 use Rattle.annex.specs.declared.Octets.{Octets}
 use Rattle.units.proofs.after_header.Goals as goal

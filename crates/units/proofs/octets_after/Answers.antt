@@ -2,7 +2,6 @@
 use Prim.Native.Nat.{ℕ, ◌+◌, ◌≤◌}
 use native.Mathlib.Omega.{arith}
 use mathlib.Core.Path.{ap}
-use borrow.Author.Rules.{rules}
 use Rattle.annex.specs.Units.{octets_counted, after_of}
 use Rattle.annex.specs.declared.Octets.{Octets}
 use Rattle.annex.specs.declared.CountingUnit.{CountingUnit}

@@ -1,10 +1,5 @@
-use Prim.Native.Nat.{◌-◌, ◌≤◌}
 use native.Mathlib.Omega.{arith}
-use mathlib.Core.Path.{◌≡◌, refl}
-use mathlib.Core.Bool.{◌&&◌}
-use borrow.Author.Rules.{rules}
-use lib.ListN.{length, drop}
-use Rattle.annex.specs.Allowed.{every}
+use mathlib.Core.Path.{refl}
 use Rattle.digits.specs.Pairs.{is_pair}
 use Rattle.digits.proofs.Flat.{every_turn, every_end}
 use Rattle.digits.proofs.judging.are_pairs.Goals as goal

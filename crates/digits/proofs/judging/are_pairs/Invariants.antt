@@ -1,13 +1,10 @@
 -- `are_pairs` meets its contract. The invariant: what was met so far and what is left of the octets decide together.
 use Prim.Native.Nat.{◌-◌, ◌≤◌}
-use native.Mathlib.Omega.{arith}
-use mathlib.Core.Path.{◌≡◌, refl}
+use mathlib.Core.Path.{◌≡◌}
 use mathlib.Core.Bool.{◌&&◌}
-use borrow.Author.Rules.{rules}
 use lib.ListN.{length, drop}
 use Rattle.annex.specs.Allowed.{every}
 use Rattle.digits.specs.Pairs.{is_pair}
-use Rattle.digits.proofs.Flat.{every_turn, every_end}
 use Rattle.digits.proofs.judging.are_pairs.Given as goal
 
 abbrev pub invariant-loop-i : goal.invariant-loop-i

@@ -1,7 +1,6 @@
 -- `digits_fault` meets its contract: past the end there is no half-octet, where the quick test passes nothing is wrong, and else the slow
 -- walk finds the place.
 use mathlib.Core.Path.{sym}
-use borrow.Author.Rules.{rules}
 use Rattle.laws.specs.Parts.{to_end}
 use Rattle.digits.proofs.Turns.{digits_none}
 use Rattle.digits.proofs.judging.digits_fault.Goals as goal

@@ -1,12 +1,8 @@
-use Prim.Native.Nat.{◌+◌, ◌-◌, ◌*◌, ◌/◌, ◌≤◌}
+use Prim.Native.Nat.{◌+◌, ◌*◌, ◌/◌}
 use native.Mathlib.Nat.{sub-zero, add-zero, add_assoc}
 use native.Mathlib.Omega.{arith}
 use mathlib.Core.Path.{◌≡◌, sym, ap, ◌∙◌}
-use borrow.Author.Rules.{rules}
-use borrow.Author.Tests.{not-true, not-false}
-use lib.ListN.{drop}
-use Rattle.annex.specs.Units.{halves_in}
-use Rattle.annex.specs.Digits.{halves, halves_fault, digits_fault}
+use Rattle.annex.specs.Digits.{halves, digits_fault}
 use Rattle.annex.specs.declared.HalfOctets.{HalfOctets}
 use Rattle.laws.specs.Halves.{length-halves}
 use Rattle.digits.proofs.Turns.{halves_turn, halves_end}

@@ -1,16 +1,9 @@
 -- `first_fault` meets its contract. The invariant: the fault of all the halves is that of the halves from i on.
-use Prim.Native.Nat.{◌+◌, ◌-◌, ◌*◌, ◌/◌, ◌≤◌}
-use native.Mathlib.Nat.{sub-zero, add-zero, add_assoc}
-use native.Mathlib.Omega.{arith}
-use mathlib.Core.Path.{◌≡◌, sym, ap, ◌∙◌}
-use borrow.Author.Rules.{rules}
-use borrow.Author.Tests.{not-true, not-false}
+use Prim.Native.Nat.{◌+◌, ◌-◌, ◌*◌, ◌≤◌}
+use mathlib.Core.Path.{◌≡◌}
 use lib.ListN.{drop}
 use Rattle.annex.specs.Units.{halves_in}
 use Rattle.annex.specs.Digits.{halves, halves_fault, digits_fault}
-use Rattle.annex.specs.declared.HalfOctets.{HalfOctets}
-use Rattle.laws.specs.Halves.{length-halves}
-use Rattle.digits.proofs.Turns.{halves_turn, halves_end}
 use Rattle.digits.proofs.judging.first_fault.Given as goal
 
 abbrev pub invariant-loop-i : goal.invariant-loop-i

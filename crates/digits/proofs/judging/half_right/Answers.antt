@@ -1,5 +1,4 @@
 -- `half_right` meets its contract: each arm is a case of the test.
-use borrow.Author.Rules.{rules}
 use Rattle.digits.proofs.judging.half_right.Goals as goal
 
 pub returns-then-digit : goal.returns-then-digit

@@ -1,5 +1,4 @@
 -- `pair_right` meets its contract: its two tests are those of the definition.
-use borrow.Author.Rules.{rules}
 use Rattle.digits.proofs.judging.pair_right.Goals as goal
 
 pub returns : goal.returns

@@ -1,10 +1,6 @@
-use Prim.Native.Nat.{◌-◌, ◌≤◌}
 use native.Mathlib.Omega.{arith}
-use mathlib.Core.Path.{◌≡◌, refl}
-use mathlib.Core.Bool.{◌&&◌}
-use lib.ListN.{length, drop}
+use mathlib.Core.Path.{refl}
 use Rattle.annex.specs.Digits.{is_digit}
-use Rattle.annex.specs.Allowed.{every}
 use Rattle.digits.proofs.Flat.{every_turn, every_end}
 use Rattle.digits.proofs.packing.are_digits.Goals as goal
 

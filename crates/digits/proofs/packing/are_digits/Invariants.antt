@@ -1,12 +1,10 @@
 -- `are_digits` meets its contract. The invariant: what was met so far and what is left of the values decide together.
 use Prim.Native.Nat.{◌-◌, ◌≤◌}
-use native.Mathlib.Omega.{arith}
-use mathlib.Core.Path.{◌≡◌, refl}
+use mathlib.Core.Path.{◌≡◌}
 use mathlib.Core.Bool.{◌&&◌}
 use lib.ListN.{length, drop}
 use Rattle.annex.specs.Digits.{is_digit}
 use Rattle.annex.specs.Allowed.{every}
-use Rattle.digits.proofs.Flat.{every_turn, every_end}
 use Rattle.digits.proofs.packing.are_digits.Given as goal
 
 abbrev pub invariant-loop-i : goal.invariant-loop-i

@@ -1,7 +1,6 @@
 -- `digits_in` meets its contract: the smaller of the two counts, the octets' own being what they hold.
 use native.Mathlib.Omega.{arith}
 use mathlib.Core.Path.{ap}
-use borrow.Author.Rules.{rules}
 use Rattle.annex.specs.declared.HalfOctets.{HalfOctets}
 use Rattle.digits.proofs.packing.digits_in.Goals as goal
 

@@ -1,7 +1,6 @@
 -- `pack_digits` meets its contract: as many octets are asked for as the digits take.
 use native.Mathlib.Omega.{arith}
 use mathlib.Core.Path.{◌≡◌, refl, sym, ap}
-use borrow.Author.Rules.{rules}
 use borrow.Author.Tests.{le-leb, lt-leb}
 use lib.ListN.{length}
 use Rattle.annex.specs.Units.{octets_of}
@@ -13,7 +12,7 @@ use Rattle.digits.proofs.packing.pack_digits.Goals as goal
 pub returns-then-room-octets : goal.returns-then-room-octets
 returns-then-room-octets c =
     let asked : c.packed_len-octets.result.0 ≡ (octets_of (halves_for c.args.digits.now)).0 =
-      ap (λ (n : Octets). n.0) c.packed_len-octets.ensures in
+    ap (λ (n : Octets). n.0) c.packed_len-octets.ensures in
     let a = c.args in
     let n = length (packed a.z a.digits.now) in
     (sym (lt-leb n (length a.room.now) (omega (arith, length-packed a.z a.digits.now, asked))), refl)
@@ -21,15 +20,15 @@ returns-then-room-octets c =
 pub pack_fitting-requires : goal.pack_fitting-requires
 pack_fitting-requires c =
     let asked : c.packed_len-octets.result.0 ≡ (octets_of (halves_for c.args.digits.now)).0 =
-      ap (λ (n : Octets). n.0) c.packed_len-octets.ensures in
+    ap (λ (n : Octets). n.0) c.packed_len-octets.ensures in
     omega (arith, asked)
 
 pub returns : goal.returns
 returns c =
     let asked : c.packed_len-octets.result.0 ≡ (octets_of (halves_for c.args.digits.now)).0 =
-      ap (λ (n : Octets). n.0) c.packed_len-octets.ensures in
+    ap (λ (n : Octets). n.0) c.packed_len-octets.ensures in
     let a = c.args in
     let n = length (packed a.z a.digits.now) in (
-    sym (le-leb n (length a.room.now) (omega (arith, length-packed a.z a.digits.now, asked))),
-    c.pack_fitting.ensures,
+      sym (le-leb n (length a.room.now) (omega (arith, length-packed a.z a.digits.now, asked))),
+      c.pack_fitting.ensures,
     )

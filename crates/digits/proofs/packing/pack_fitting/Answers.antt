@@ -1,11 +1,8 @@
-use Prim.Native.Nat.{◌+◌, ◌-◌, ◌*◌, ◌/◌, ◌≤◌}
+use Prim.Native.Nat.{◌+◌, ◌*◌, ◌/◌}
 use native.Mathlib.Omega.{arith}
 use mathlib.Core.Path.{◌≡◌, refl, ◌∙◌}
-use borrow.Author.Rules.{rules}
-use lib.ListN.{length, get_or, take, length-set}
-use lib.Seq.{sets}
+use lib.ListN.{length, get_or, length-set}
 use Rattle.annex.specs.Digits.{packed}
-use Rattle.annex.specs.Memory.{low_octets}
 use Rattle.laws.specs.Written.{written_turn, written_end}
 use Rattle.laws.specs.Joined.{length-packed}
 use Rattle.digits.proofs.Pairs.{pair_octet, last_octet}

@@ -1,16 +1,11 @@
 -- `pack_fitting` meets its contract: before each turn the octets of the first 2 i digits stand at the front of the room; an odd last digit
 -- follows at the end.
-use Prim.Native.Nat.{◌+◌, ◌-◌, ◌*◌, ◌/◌, ◌≤◌}
-use native.Mathlib.Omega.{arith}
-use mathlib.Core.Path.{◌≡◌, refl, ◌∙◌}
-use borrow.Author.Rules.{rules}
-use lib.ListN.{length, get_or, take, length-set}
+use Prim.Native.Nat.{◌-◌, ◌≤◌}
+use mathlib.Core.Path.{◌≡◌}
+use lib.ListN.{length, take}
 use lib.Seq.{sets}
 use Rattle.annex.specs.Digits.{packed}
 use Rattle.annex.specs.Memory.{low_octets}
-use Rattle.laws.specs.Written.{written_turn, written_end}
-use Rattle.laws.specs.Joined.{length-packed}
-use Rattle.digits.proofs.Pairs.{pair_octet, last_octet}
 use Rattle.digits.proofs.packing.pack_fitting.Given as goal
 
 abbrev pub invariant-loop-i : goal.invariant-loop-i

@@ -2,8 +2,6 @@
 use native.Mathlib.Omega.{arith}
 use mathlib.Core.Path.{◌≡◌, refl, sym, ◌∙◌}
 use lib.ListN.{length}
-use borrow.Author.Rules.{rules}
-use borrow.Author.Tests.{not-true, not-false}
 use Rattle.annex.specs.Digits.{digits_of}
 use Rattle.annex.specs.Memory.{values_fit}
 use Rattle.laws.specs.Stores.{told_fits}
@@ -13,9 +11,9 @@ use Rattle.digits.proofs.packing.unpack_digits.Goals as goal
 pub returns-then-not-has_room : goal.returns-then-not-has_room
 returns-then-not-has_room c =
     let asked : (let a = c.args in
-      c.has_room.result ≡ values_fit (length a.values.now) a.used (length (digits_of a.z a.n a.octets.now))) =
-      let a = c.args in
-      rw (length_there a.z a.n a.octets.now, ← c.digits_in-count.ensures) c.has_room.ensures in
+    c.has_room.result ≡ values_fit (length a.values.now) a.used (length (digits_of a.z a.n a.octets.now))) =
+    let a = c.args in
+    rw (length_there a.z a.n a.octets.now, ← c.digits_in-count.ensures) c.has_room.ensures in
     (sym c.if-not-has_room.true ∙ asked, refl)
 
 pub unpack_fitting-requires : goal.unpack_fitting-requires
@@ -30,11 +28,11 @@ unpack_fitting-requires c =
 pub returns : goal.returns
 returns c =
     let asked : (let a = c.args in
-      c.has_room.result ≡ values_fit (length a.values.now) a.used (length (digits_of a.z a.n a.octets.now))) =
-      let a = c.args in
-      rw (length_there a.z a.n a.octets.now, ← c.digits_in-count.ensures) c.has_room.ensures in
+    c.has_room.result ≡ values_fit (length a.values.now) a.used (length (digits_of a.z a.n a.octets.now))) =
+    let a = c.args in
+    rw (length_there a.z a.n a.octets.now, ← c.digits_in-count.ensures) c.has_room.ensures in
     let a = c.args in (
-    sym c.if-not-has_room.false
-    ∙ asked,
-    rw (← there a.z a.n a.octets.now, ← c.digits_in-count.ensures) c.unpack_fitting.ensures,
+      sym c.if-not-has_room.false
+          ∙ asked,
+      rw (← there a.z a.n a.octets.now, ← c.digits_in-count.ensures) c.unpack_fitting.ensures,
     )

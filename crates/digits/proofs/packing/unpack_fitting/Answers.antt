@@ -1,9 +1,8 @@
 use native.Mathlib.Omega.{arith}
 use mathlib.Core.Path.{◌≡◌, refl, ◌∙◌}
-use Prim.Native.Nat.{◌+◌, ◌*◌, ◌-◌, ◌/◌, ◌≤◌}
-use lib.ListN.{length, take, length-set}
-use lib.Seq.{sets, take_all}
-use borrow.Author.Rules.{rules}
+use Prim.Native.Nat.{◌+◌, ◌*◌, ◌/◌}
+use lib.ListN.{take, length-set}
+use lib.Seq.{take_all}
 use Rattle.annex.specs.Digits.{digits_of}
 use Rattle.laws.specs.Halves.{length-digits_of}
 use Rattle.laws.specs.Stores.{sets-turn}

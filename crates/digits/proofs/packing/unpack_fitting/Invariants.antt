@@ -1,14 +1,9 @@
 -- `unpack_fitting` meets its contract: before each turn the digits of the first i octets are stored; an odd last one is stored at the end.
-use native.Mathlib.Omega.{arith}
-use mathlib.Core.Path.{◌≡◌, refl, ◌∙◌}
-use Prim.Native.Nat.{◌+◌, ◌*◌, ◌-◌, ◌/◌, ◌≤◌}
-use lib.ListN.{length, take, length-set}
-use lib.Seq.{sets, take_all}
-use borrow.Author.Rules.{rules}
+use mathlib.Core.Path.{◌≡◌}
+use Prim.Native.Nat.{◌*◌, ◌-◌, ◌≤◌}
+use lib.ListN.{length, take}
+use lib.Seq.{sets}
 use Rattle.annex.specs.Digits.{digits_of}
-use Rattle.laws.specs.Halves.{length-digits_of}
-use Rattle.laws.specs.Stores.{sets-turn}
-use Rattle.digits.proofs.Pairs.{sets-two, low_digit, high_digit}
 use Rattle.digits.proofs.packing.unpack_fitting.Given as goal
 
 abbrev pub invariant-loop-i : goal.invariant-loop-i

@@ -1,5 +1,4 @@
 -- `code_formed` meets its contract.
-use borrow.Author.Rules.{rules}
 use borrow.Author.Tests.{eq-eqb, ne_eqb}
 use Rattle.annex.specs.Carriers.{code_formed}
 use Rattle.entries.proofs.code.code_formed.Goals as goal

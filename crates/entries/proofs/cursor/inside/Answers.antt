@@ -1,6 +1,5 @@
 -- `inside` meets its contract: between carrier entries up to the end of the octets, in one up to its end.
 use mathlib.Core.Path.{sym}
-use borrow.Author.Rules.{rules}
 use borrow.Author.Tests.{lt-ltb, le-ltb}
 use lib.Seq.{length-take-le}
 use Rattle.annex.specs.Entering.{entry_stretch}

@@ -1,5 +1,4 @@
 -- `is_code` meets its contract.
-use borrow.Author.Rules.{rules}
 use borrow.Author.Tests.{lt-ltb, le-ltb}
 use Rattle.entries.proofs.cursor.is_code.Goals as goal
 

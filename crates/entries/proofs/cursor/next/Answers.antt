@@ -1,5 +1,4 @@
 -- `next` meets its contract.
-use borrow.Author.Rules.{rules}
 use borrow.Author.Tests.{lt-ltb, le-ltb}
 use Rattle.annex.specs.Entering.{entry_next}
 use Rattle.entries.proofs.cursor.next.Goals as goal

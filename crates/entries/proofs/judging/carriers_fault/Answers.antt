@@ -1,7 +1,5 @@
 -- `carriers_fault` meets its contract: the form first, then the digits.
 use mathlib.Core.Path.{sym, ◌∙◌}
-use borrow.Author.Rules.{rules}
-use borrow.Author.Tests.{not-true, not-false}
 use Rattle.annex.specs.Carriers.{carriers_fault}
 use Rattle.entries.proofs.judging.carriers_fault.Goals as goal
 

@@ -1,9 +1,8 @@
-use Prim.Native.Nat.{ℕ, ◌-◌, ◌<◌}
+use Prim.Native.Nat.{ℕ, ◌<◌}
 use native.Mathlib.Omega.{arith}
 use mathlib.Core.Path.{◌≡◌, sym, ap, ◌∙◌}
 use mathlib.Core.Bool.{true, ◌&&◌}
 use mathlib.Core.List.{List}
-use borrow.Author.Rules.{rules}
 use lib.ListN.{length}
 use Rattle.annex.specs.Answers.{fault_then}
 use Rattle.annex.specs.Carriers.{entries_fault, carrier_fault, carriers_in}
@@ -15,6 +14,7 @@ use Rattle.entries.specs.Left.{
   formed_left,
   fault_left,
   entry_formed,
+  entry_fault,
   Lies,
   formed_turn,
   fault_turn,
@@ -32,33 +32,46 @@ loop-c-init c =
     let f = formed_start s c.requires in
     rw c.first-c.ensures (f.0, f.1, sym (fault_first_left s))
 
--- at an entry
-module _ (c : goal.After-entry_fault-f) where
-  abbrev loop : goal.At-loop-c
-  loop = c.before.before.before
+-- at an entry: it has its form, as those behind it have
+both : (s : List ℕ) (k : Cursor) → Lies s k → k.at < length s → formed_left s k ≡ true
+    → entry_formed s k && formed_left s (entry_next s k) ≡ true
+both s k lies inside formed = sym (formed_turn s k lies inside) ∙ formed
 
-  abbrev s : List ℕ
-  s = loop.before.before.before.args.s.now
+-- the fault of the entry, and that of those behind it
+turned : (s : List ℕ) (k : Cursor) (f : Fault) → Lies s k → k.at < length s → formed_left s k ≡ true
+    → entries_fault carrier_fault (carriers_in s) ≡ fault_left s k → f ≡ entry_fault s k
+    → entries_fault carrier_fault (carriers_in s) ≡ fault_then f (fault_left s (entry_next s k))
+turned s k f lies inside formed all here =
+    all ∙ fault_turn s k lies inside (and_left _ _ (both s k lies inside formed))
+    ∙ ap (λ (g : Fault). fault_then g (fault_left s (entry_next s k))) (sym here)
 
-  abbrev cursor : Cursor
-  cursor = loop.loop.c
+pub loop-c-smaller : goal.loop-c-smaller
+loop-c-smaller c =
+    let s = c.args.s.now in
+    let n = ap (λ (d : Cursor). d.at) c.next-c.ensures in
+    omega (arith, n, goes_on s c.loop-c.c c.loop-c.invariant.0 c.loop-c-test.true, c.loop-c-test.true)
 
-  abbrev inside : cursor.at < length s
-  inside = c.loop-c-test.true
+pub loop-c-preserved : goal.loop-c-preserved
+loop-c-preserved c =
+    let s = c.args.s.now in
+    let l = c.loop-c in
+    let i = l.invariant in
+    rw c.next-c.ensures (
+      lies_next s l.c i.0 c.loop-c-test.true,
+      and_right (entry_formed s l.c) _ (both s l.c i.0 c.loop-c-test.true i.1),
+      turned s l.c c.entry_fault-f.result i.0 c.loop-c-test.true i.1 i.2 c.entry_fault-f.ensures
+          ∙ ap (λ (g : Fault). fault_then g (fault_left s (entry_next s l.c))) c.in-Sound.is,
+    )
 
-  abbrev lies : Lies s cursor
-  lies = loop.loop.inv.0
-
-  both : entry_formed s cursor && formed_left s (entry_next s cursor) ≡ true
-  both = sym (formed_turn s cursor lies inside) ∙ loop.loop.inv.1
-
-  -- the fault of the entry, and that of those behind it
-  abbrev behind : Fault → Fault
-  behind f = fault_then f (fault_left s (entry_next s cursor))
-
-  turned : entries_fault carrier_fault (carriers_in s) ≡ behind c.entry_fault-f.result
-  turned =
-      loop.loop.inv.2 ∙ fault_turn s cursor lies inside (and_left _ _ both) ∙ ap behind (sym c.entry_fault-f.ensures)
+pub returns-in_default : goal.returns-in_default
+returns-in_default c =
+    let s = c.args.s.now in
+    let l = c.loop-c in
+    let i = l.invariant in
+    let bad = c.in_default.is in
+    sym
+    (turned s l.c c.entry_fault-f.result i.0 c.loop-c-test.true i.1 i.2 c.entry_fault-f.ensures
+    ∙ ap (λ (g : Fault). fault_then g (fault_left s (entry_next s l.c))) bad ∙ sym bad)
 
 pub returns : goal.returns
 returns c = sym (c.loop-c.invariant.2 ∙ fault_past _ _ c.loop-c.invariant.0 c.loop-c-test.false)

@@ -3,8 +3,6 @@ use Prim.Native.Nat.{ℕ, ◌+◌, ◌-◌}
 use native.Mathlib.Omega.{arith}
 use mathlib.Core.Path.{◌≡◌, sym, ap, ◌∙◌}
 use mathlib.Core.List.{List}
-use borrow.Author.Rules.{rules}
-use borrow.Author.Tests.{not-true, not-false}
 use lib.ListN.{length, take, drop}
 use lib.Seq.{drop-drop, length-take-le}
 use Rattle.annex.specs.Carriers.{code_fault}
@@ -20,8 +18,8 @@ returns-in_default c = rw (← c.inside.ensures, c.in_default.is)
 pub returns-then-not-is_code : goal.returns-then-not-is_code
 returns-then-not-is_code c =
     let found : (let a = c.args in
-      entry_stretch a.s.now a.c ≡ At c.in-At.from c.in-At.to) =
-      sym c.inside.ensures ∙ c.in-At.is in
+    entry_stretch a.s.now a.c ≡ At c.in-At.from c.in-At.to) =
+    sym c.inside.ensures ∙ c.in-At.is in
     rw (found, sym c.is_code.ensures ∙ c.if-not-is_code.true)
 
 -- behind the first octet of what the entry holds
@@ -32,63 +30,63 @@ pub returns : goal.returns
 unfolding code_fault
 returns c =
     let found : (let a = c.args in
-      entry_stretch a.s.now a.c ≡ At c.in-At.from c.in-At.to) =
-      sym c.inside.ensures ∙ c.in-At.is in
+    entry_stretch a.s.now a.c ≡ At c.in-At.from c.in-At.to) =
+    sym c.inside.ensures ∙ c.in-At.is in
     let s = c.args.s.now in
     rw (
-    found,
-    sym c.is_code.ensures ∙ c.if-not-is_code.false,
-    ← c.code_count-count.ensures,
-    ← behind s c.in-At.from c.in-At.to,
+      found,
+      sym c.is_code.ensures ∙ c.if-not-is_code.false,
+      ← c.code_count-count.ensures,
+      ← behind s c.in-At.from c.in-At.to,
     )
     c.digits_fault.ensures
 
 pub slice_bounds-code_count-count : goal.slice_bounds-code_count-count
 slice_bounds-code_count-count c =
     let found : (let a = c.args in
-      entry_stretch a.s.now a.c ≡ At c.in-At.from c.in-At.to) =
-      sym c.inside.ensures ∙ c.in-At.is in
+    entry_stretch a.s.now a.c ≡ At c.in-At.from c.in-At.to) =
+    sym c.inside.ensures ∙ c.in-At.is in
     let stands : (let a = c.args in
-      Stands (length a.s.now) a.c.at c.in-At.from c.in-At.to) =
-      entry_stands _ _ _ _ (found) in
+    Stands (length a.s.now) a.c.at c.in-At.from c.in-At.to) =
+    entry_stands _ _ _ _ (found) in
     (stands).order
 
 pub slice_bounds-code_count-start : goal.slice_bounds-code_count-start
 slice_bounds-code_count-start c =
     let found : (let a = c.args in
-      entry_stretch a.s.now a.c ≡ At c.in-At.from c.in-At.to) =
-      sym c.inside.ensures ∙ c.in-At.is in
+    entry_stretch a.s.now a.c ≡ At c.in-At.from c.in-At.to) =
+    sym c.inside.ensures ∙ c.in-At.is in
     let stands : (let a = c.args in
-      Stands (length a.s.now) a.c.at c.in-At.from c.in-At.to) =
-      entry_stands _ _ _ _ (found) in
+    Stands (length a.s.now) a.c.at c.in-At.from c.in-At.to) =
+    entry_stands _ _ _ _ (found) in
     (stands).order
 
 pub slice_bounds-code_count-end : goal.slice_bounds-code_count-end
 slice_bounds-code_count-end c =
     let found : (let a = c.args in
-      entry_stretch a.s.now a.c ≡ At c.in-At.from c.in-At.to) =
-      sym c.inside.ensures ∙ c.in-At.is in
+    entry_stretch a.s.now a.c ≡ At c.in-At.from c.in-At.to) =
+    sym c.inside.ensures ∙ c.in-At.is in
     let stands : (let a = c.args in
-      Stands (length a.s.now) a.c.at c.in-At.from c.in-At.to) =
-      entry_stands _ _ _ _ (found) in
+    Stands (length a.s.now) a.c.at c.in-At.from c.in-At.to) =
+    entry_stands _ _ _ _ (found) in
     (stands).within
 
 pub slice_bounds-digits_fault-end : goal.slice_bounds-digits_fault-end
 slice_bounds-digits_fault-end c =
     let found : (let a = c.args in
-      entry_stretch a.s.now a.c ≡ At c.in-At.from c.in-At.to) =
-      sym c.inside.ensures ∙ c.in-At.is in
+    entry_stretch a.s.now a.c ≡ At c.in-At.from c.in-At.to) =
+    sym c.inside.ensures ∙ c.in-At.is in
     let stands : (let a = c.args in
-      Stands (length a.s.now) a.c.at c.in-At.from c.in-At.to) =
-      entry_stands _ _ _ _ (found) in
+    Stands (length a.s.now) a.c.at c.in-At.from c.in-At.to) =
+    entry_stands _ _ _ _ (found) in
     sym (length-take-le _ _ (stands).within)
 
 pub overflow_add-from : goal.overflow_add-from
 overflow_add-from c =
     let found : (let a = c.args in
-      entry_stretch a.s.now a.c ≡ At c.in-At.from c.in-At.to) =
-      sym c.inside.ensures ∙ c.in-At.is in
+    entry_stretch a.s.now a.c ≡ At c.in-At.from c.in-At.to) =
+    sym c.inside.ensures ∙ c.in-At.is in
     let stands : (let a = c.args in
-      Stands (length a.s.now) a.c.at c.in-At.from c.in-At.to) =
-      entry_stands _ _ _ _ (found) in
+    Stands (length a.s.now) a.c.at c.in-At.from c.in-At.to) =
+    entry_stands _ _ _ _ (found) in
     let t = stands in omega (arith, t.order, t.within, t.tag)
