@@ -1,5 +1,4 @@
 -- `logic_fault` meets its contract: its tests are those of the definition, in their order.
-use borrow.Author.Rules.{rules}
 use borrow.Author.Tests.{lt-leb, le-leb}
 use Rattle.annex.specs.Orders.{logic_fault}
 use Rattle.orders.proofs.judging.logic_fault.Goals as goal

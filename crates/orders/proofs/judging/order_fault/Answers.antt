@@ -1,29 +1,13 @@
-use Prim.Native.Nat.{ℕ, ◌+◌, ◌-◌, ◌≤◌, ◌<◌}
+-- `order_fault` meets its contract: what is wrong with the whole is what is wrong from here on, and a mark tells whether a header has
+-- stood.
+use Prim.Native.Nat.{ℕ, ◌+◌}
 use native.Mathlib.Omega.{arith}
-use mathlib.Core.Path.{◌≡◌, refl, sym, ap, subst, ◌∙◌}
-use mathlib.Core.Bool.{Bool, true, false}
-use mathlib.Core.List.{List}
-use borrow.Author.Rules.{rules}
-use borrow.Author.Tests.{not-true, not-false}
-use lib.ListN.{length, get_or, set, drop}
-use Rattle.annex.specs.Answers.{wrong_order}
-use Rattle.annex.specs.Orders.{layout_of, may_stand, order_after, own_fault, order_fault}
-use Rattle.annex.specs.declared.Fault.TheVariants.{Sound, Bad}
-use Rattle.orders.specs.Asked.{has_bit, row_place, stand_bits}
-use Rattle.orders.specs.declared.table.Asked.{Asked}
-use Rattle.orders.specs.Walked.{
-  own_there,
-  left_none,
-  place_below,
-  Going,
-  no_form,
-  other_form,
-  going_first,
-  may_not,
-  stood,
-  own_bad,
-  going_on,
-}
+use mathlib.Core.Path.{refl, sym, ap, subst, ◌∙◌}
+use mathlib.Core.Bool.{true}
+use lib.ListN.{set}
+use Rattle.annex.specs.Orders.{order_after}
+use Rattle.orders.specs.Walked.{own_there, left_none, Going, no_form, other_form, going_first}
+use Rattle.orders.proofs.Turn.{marked, unlisted, twice, bad, sound}
 use Rattle.orders.proofs.judging.order_fault.Goals as goal
 
 pub returns-then-s-eq0 : goal.returns-then-s-eq0
@@ -39,59 +23,59 @@ loop-at-init c =
 
 pub returns-then-not-has_form : goal.returns-then-not-has_form
 returns-then-not-has_form c =
-    let octet : (let s = c.args.s.now in
-      (get_or s c.loop-at.at 0 < 256) × (get_or s 0 0 < 256)) =
-      (
-      omega (arith, c.shared_slice_known-in-loop-at-1.given c.loop-at.at),
-      omega (arith, c.shared_slice_known-in-loop-at-1.given 0),
-      ) in
-    let may : (let s = c.args.s.now in
-      c.has_form.result ≡ may_stand (get_or s 0 0) (get_or s c.loop-at.at 0)) =
-      let s = c.args.s.now in
-      c.has_form.ensures
-      ∙ ap (λ (r : Asked). has_bit r.forms (get_or s 0 0)) c.asked_of-asked.ensures
-      ∙ stand_bits (get_or s c.loop-at.at 0) (get_or s 0 0) (octet).0 (octet).1 in
-    sym (may_not _ _ _ c.loop-at.invariant c.loop-at-test.true (octet).0 (sym (may) ∙ c.if-not-has_form.true))
+    let s = c.args.s.now in
+    let at = c.loop-at.at in
+    let asked = c.asked_of-asked in
+    sym
+    (unlisted s at asked.result asked.ensures (omega (arith, c.type_inv.s at)) c.loop-at.seen c.loop-at.invariant c.loop-at-test.true
+    (omega (arith, c.type_inv.s 0)) (sym c.has_form.ensures ∙ c.if-not-has_form.true))
 
 pub bounds-seen-place : goal.bounds-seen-place
 bounds-seen-place c =
-    let octet : (let s = c.args.s.now in
-      (get_or s c.loop-at.at 0 < 256) × (get_or s 0 0 < 256)) =
-      (
-      omega (arith, c.shared_slice_known-in-loop-at-1.given c.loop-at.at),
-      omega (arith, c.shared_slice_known-in-loop-at-1.given 0),
-      ) in
-    let place : c.asked_of-asked.result.place ≡ row_place (get_or c.args.s.now c.loop-at.at 0) =
-      ap (λ (r : Asked). r.place) c.asked_of-asked.ensures in
-    let marked : c.asked_of-asked.result.place < 13 =
-      omega (arith, place, place_below _ (octet).0) in
-    marked
+    let at = c.loop-at.at in
+    let asked = c.asked_of-asked in
+    marked c.args.s.now at asked.result asked.ensures (omega (arith, c.type_inv.s at))
 
--- the header may stand, and its mark tells whether it has stood
-module _ (c : goal.Else-not-has_form) where
-  abbrev asked : goal.After-asked_of-asked
-  asked = c.before.before
+pub returns-then-seen-place : goal.returns-then-seen-place
+returns-then-seen-place c =
+    let s = c.args.s.now in
+    let at = c.loop-at.at in
+    let asked = c.asked_of-asked in
+    sym
+    (twice s at asked.result asked.ensures (omega (arith, c.type_inv.s at)) c.loop-at.seen c.loop-at.invariant c.loop-at-test.true
+    (omega (arith, c.type_inv.s 0)) (sym c.has_form.ensures ∙ c.if-not-has_form.false) c.if-seen-place.true)
 
-  abbrev inside : goal.In-loop-at
-  inside = asked.before.before
+pub returns-in_default : goal.returns-in_default
+returns-in_default c =
+    let s = c.args.s.now in
+    let at = c.loop-at.at in
+    let asked = c.asked_of-asked in
+    let is = c.in_default.is in
+    is
+    ∙ sym
+    (bad s at asked.result asked.ensures (omega (arith, c.type_inv.s at)) c.loop-at.seen c.loop-at.invariant c.loop-at-test.true
+    (omega (arith, c.type_inv.s 0)) (sym c.has_form.ensures ∙ c.if-not-has_form.false) c.if-seen-place.false _ _
+    (sym c.own_fault-f.ensures ∙ is))
 
-  abbrev s : List ℕ
-  s = inside.before.before.before.before.before.before.before.args.s.now
+-- the offset behind a header's octets
+pub overflow_add-at-in-loop-at : goal.overflow_add-at-in-loop-at
+overflow_add-at-in-loop-at c =
+    let s = c.args.s.now in
+    let at = c.loop-at.at in
+    let layout = c.asked_of-asked.result.layout in
+    let n = c.order_after-at.ensures ∙ ap (order_after layout) c.octet_at.ensures in
+    omega (arith, n, own_there layout s (at + 1) _ refl (sym c.own_fault-f.ensures ∙ c.in-Sound.is))
 
-  abbrev at : ℕ
-  at = inside.before.loop.at
-
-  abbrev seen : List Bool
-  seen = inside.before.loop.seen
-
-  stand : may_stand (get_or s 0 0) (get_or s at 0) ≡ true
-  stand = sym (may c.before) ∙ c.if-not-has_form.false
-
-  mark : (b : Bool) → get_or seen asked.asked_of.result.place false ≡ b → get_or seen (row_place (get_or s at 0)) false ≡ b
-  mark b e = ap (λ (i : ℕ). get_or seen i false) (sym (place asked)) ∙ e
-
-  twice : get_or seen asked.asked_of.result.place false ≡ true → order_fault s ≡ Bad wrong_order 0
-  twice e = stood s seen at inside.before.loop.inv inside.loop-test.taken (octet asked).0 stand (mark true e)
+pub loop-at-preserved : goal.loop-at-preserved
+loop-at-preserved c =
+    let s = c.args.s.now in
+    let at = c.loop-at.at in
+    let asked = c.asked_of-asked in
+    let n = c.order_after-at.ensures ∙ ap (order_after asked.result.layout) c.octet_at.ensures in
+    subst (λ (k : ℕ). Going s (set c.loop-at.seen asked.result.place true) (at + 1 + k)) (sym n)
+    (sound s at asked.result asked.ensures (omega (arith, c.type_inv.s at)) c.loop-at.seen c.loop-at.invariant c.loop-at-test.true
+    (omega (arith, c.type_inv.s 0)) (sym c.has_form.ensures ∙ c.if-not-has_form.false) c.if-seen-place.false
+    (sym c.own_fault-f.ensures ∙ c.in-Sound.is))
 
 pub returns : goal.returns
 returns c =

@@ -1,7 +1,6 @@
 -- `order_after` meets its contract: each arm is a case of the definition, and the digits of 91 are counted in half-octets.
 use native.Mathlib.Omega.{arith}
 use mathlib.Core.Path.{◌≡◌, ap, ◌∙◌}
-use borrow.Author.Rules.{rules}
 use Rattle.annex.specs.Units.{whole_count, octets_of}
 use Rattle.annex.specs.Orders.{order_after}
 use Rattle.annex.specs.declared.HalfOctets.{HalfOctets}
@@ -43,17 +42,17 @@ returns-in-Guidance c = rw c.in-Guidance.is
 pub overflow_add-result : goal.overflow_add-result
 overflow_add-result c =
     let counts : (let first = c.args.first in
-      (c.counted_whole-digits.result.0 ≡ first) × (c.octets-octets.result.0 ≡ (octets_of (whole_count first)).0)) =
-      let w = c.counted_whole-digits.ensures in
-      (ap (λ (n : HalfOctets). n.0) w, ap (λ (n : Octets). n.0) (c.octets-octets.ensures ∙ ap octets_of w)) in
+    (c.counted_whole-digits.result.0 ≡ first) × (c.octets-octets.result.0 ≡ (octets_of (whole_count first)).0)) =
+    let w = c.counted_whole-digits.ensures in
+    (ap (λ (n : HalfOctets). n.0) w, ap (λ (n : Octets). n.0) (c.octets-octets.ensures ∙ ap octets_of w)) in
     let e = counts in record { fits = omega (arith, e.0, e.1) }
 
 pub returns-in-SentDigits : goal.returns-in-SentDigits
 unfolding order_after
 returns-in-SentDigits c =
     let counts : (let first = c.args.first in
-      (c.counted_whole-digits.result.0 ≡ first) × (c.octets-octets.result.0 ≡ (octets_of (whole_count first)).0)) =
-      let w = c.counted_whole-digits.ensures in
-      (ap (λ (n : HalfOctets). n.0) w, ap (λ (n : Octets). n.0) (c.octets-octets.ensures ∙ ap octets_of w)) in
+    (c.counted_whole-digits.result.0 ≡ first) × (c.octets-octets.result.0 ≡ (octets_of (whole_count first)).0)) =
+    let w = c.counted_whole-digits.ensures in
+    (ap (λ (n : HalfOctets). n.0) w, ap (λ (n : Octets). n.0) (c.octets-octets.ensures ∙ ap octets_of w)) in
     let e = counts in
     rw c.in-SentDigits.is (omega (arith, e.0, e.1))

@@ -1,6 +1,5 @@
 -- `order_size` meets its contract: the table says the layout.
 use mathlib.Core.Path.{ap, ◌∙◌}
-use borrow.Author.Rules.{rules}
 use Rattle.annex.specs.Orders.{order_after}
 use Rattle.orders.specs.declared.table.Asked.{Asked}
 use Rattle.orders.proofs.lengths.order_size.Goals as goal

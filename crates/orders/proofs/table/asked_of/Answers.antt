@@ -3,7 +3,6 @@ use Prim.Native.Nat.{ℕ}
 use native.Mathlib.Omega.{arith}
 use mathlib.Core.Path.{refl, ◌∙◌}
 use mathlib.Core.List.{List, [], ◌∷◌}
-use borrow.Author.Rules.{rules}
 use Rattle.annex.specs.Orders.{forms_of, layout_of}
 use Rattle.annex.specs.declared.OrderLayout.TheVariants.{Guidance}
 use Rattle.laws.specs.Below.{at_rest}

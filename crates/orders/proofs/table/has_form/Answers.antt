@@ -1,5 +1,4 @@
 -- `has_form` meets its contract: its tests are those of the definition, in their order.
-use borrow.Author.Rules.{rules}
 use borrow.Author.Tests.{lt-ltb, le-ltb, le-leb, lt-leb}
 use Rattle.orders.proofs.table.has_form.Goals as goal
 

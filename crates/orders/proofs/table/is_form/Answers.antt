@@ -1,7 +1,6 @@
 -- `is_form` meets its contract: the bits are those of the list.
 use native.Mathlib.Omega.{arith}
 use mathlib.Core.Path.{◌∙◌}
-use borrow.Author.Rules.{rules}
 use Rattle.orders.specs.Asked.{form_bits}
 use Rattle.orders.proofs.table.is_form.Goals as goal
 
