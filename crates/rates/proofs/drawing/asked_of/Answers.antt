@@ -3,7 +3,6 @@ use Prim.Native.Nat.{ℕ}
 use native.Mathlib.Omega.{arith}
 use mathlib.Core.Path.{refl}
 use mathlib.Core.List.{List, [], ◌∷◌}
-use borrow.Author.Rules.{rules}
 use Rattle.annex.specs.Rates.{is_kind, fields_of}
 use Rattle.laws.specs.Below.{at_rest}
 use Rattle.rates.specs.Asked.{asked_of, unasked}

@@ -1,6 +1,4 @@
 -- `is_right` meets its contract: each arm is a case of the definition.
-use borrow.Author.Rules.{rules}
-use borrow.Author.Tests.{not-true, not-false}
 use mathlib.Core.Path.{sym, ◌∙◌}
 use Rattle.rates.proofs.drawing.is_right.Goals as goal
 

@@ -1,6 +1,5 @@
 -- `number_in` meets its contract: each arm is a case of the definition.
 use native.Mathlib.Omega.{arith}
-use borrow.Author.Rules.{rules}
 use Rattle.annex.specs.Rates.{decimal}
 use Rattle.rates.proofs.drawing.number_in.Goals as goal
 

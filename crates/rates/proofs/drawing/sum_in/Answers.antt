@@ -1,6 +1,5 @@
 -- `sum_in` meets its contract: each arm is a case of the definition.
 use native.Mathlib.Omega.{arith}
-use borrow.Author.Rules.{rules}
 use Rattle.rates.proofs.drawing.sum_in.Goals as goal
 
 pub returns-in-Whole : goal.returns-in-Whole

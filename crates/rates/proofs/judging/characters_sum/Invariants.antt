@@ -1,10 +1,8 @@
 -- `characters_sum` meets its contract: the sum so far and what the characters from here on add up to are the whole.
-use Prim.Native.Nat.{◌+◌, ◌-◌, ◌≤◌}
-use native.Mathlib.Omega.{arith}
+use Prim.Native.Nat.{◌+◌, ◌-◌}
 use mathlib.Core.Path.{◌≡◌}
-use borrow.Author.Rules.{rules}
-use lib.ListN.{length, drop, length-drop}
-use Rattle.rates.specs.Asked.{characters_sum, sum_more, sum_most, sum_none}
+use lib.ListN.{length, drop}
+use Rattle.rates.specs.Asked.{characters_sum}
 use Rattle.rates.proofs.judging.characters_sum.Given as goal
 
 abbrev pub invariant-loop-i : goal.invariant-loop-i

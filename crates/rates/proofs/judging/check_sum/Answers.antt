@@ -1,6 +1,5 @@
 -- `check_sum` meets its contract: the first octet behind the kind by itself, and then characters.
 use native.Mathlib.Omega.{arith}
-use borrow.Author.Rules.{rules}
 use Rattle.rates.specs.Asked.{behind_none, behind_sum}
 use Rattle.rates.proofs.judging.check_sum.Goals as goal
 

@@ -2,8 +2,6 @@
 use Prim.Native.Nat.{◌-◌}
 use mathlib.Core.Path.{◌≡◌, sym, ◌∙◌}
 use mathlib.Core.Bool.{cond}
-use borrow.Author.Rules.{rules}
-use borrow.Author.Tests.{not-true, not-false}
 use lib.ListN.{length, drop}
 use Rattle.annex.specs.Answers.{bad_digit}
 use Rattle.annex.specs.Rates.{drawn_fault}
@@ -19,18 +17,18 @@ returns-then-s-le-HEAD c =
 pub returns-then-not-is_right : goal.returns-then-not-is_right
 returns-then-not-is_right c =
     let first_so : (let a = c.args in
-      let s = a.s.now in
-      drawn_fault 2 (behind a.first (length s - 2)) (drop 2 s) ≡ cond c.is_right.result (characters_fault 3 (drop 3 s)) (Bad bad_digit 2)) =
-      let a = c.args in
-      rw c.is_right.ensures (behind_fault a.first a.s.now c.if-s-le-HEAD.false) in
+    let s = a.s.now in
+    drawn_fault 2 (behind a.first (length s - 2)) (drop 2 s) ≡ cond c.is_right.result (characters_fault 3 (drop 3 s)) (Bad bad_digit 2)) =
+    let a = c.args in
+    rw c.is_right.ensures (behind_fault a.first a.s.now c.if-s-le-HEAD.false) in
     sym (first_so ∙ rw c.if-not-is_right.true)
 
 pub returns : goal.returns
 returns c =
     let first_so : (let a = c.args in
-      let s = a.s.now in
-      drawn_fault 2 (behind a.first (length s - 2)) (drop 2 s) ≡ cond c.is_right.result (characters_fault 3 (drop 3 s)) (Bad bad_digit 2)) =
-      let a = c.args in
-      rw c.is_right.ensures (behind_fault a.first a.s.now c.if-s-le-HEAD.false) in
+    let s = a.s.now in
+    drawn_fault 2 (behind a.first (length s - 2)) (drop 2 s) ≡ cond c.is_right.result (characters_fault 3 (drop 3 s)) (Bad bad_digit 2)) =
+    let a = c.args in
+    rw c.is_right.ensures (behind_fault a.first a.s.now c.if-s-le-HEAD.false) in
     c.characters_fault.ensures ∙ sym (characters_known 3 _)
     ∙ sym (first_so ∙ rw c.if-not-is_right.false)

@@ -1,12 +1,8 @@
 -- `characters` meets its contract: the number so far, with the characters from here on behind it, is the whole.
-use Prim.Native.Nat.{◌-◌, ◌%◌, ◌≤◌}
-use native.Mathlib.Nat.{sub-zero}
-use native.Mathlib.Omega.{arith}
-use mathlib.Core.Path.{◌≡◌, sym, ◌∙◌}
-use borrow.Author.Rules.{rules}
-use lib.ListN.{get_or, drop}
-use Rattle.annex.specs.Rates.{decimal}
-use Rattle.rates.specs.Characters.{characters_after, digit_more, digits_end, digits_done, most, most_next, most_small}
+use Prim.Native.Nat.{◌-◌, ◌≤◌}
+use mathlib.Core.Path.{◌≡◌}
+use lib.ListN.{drop}
+use Rattle.rates.specs.Characters.{characters_after, most}
 use Rattle.rates.proofs.opening.characters.Given as goal
 
 abbrev pub invariant-loop-i : goal.invariant-loop-i

@@ -1,5 +1,4 @@
 -- `charges` meets its contract: field by field.
-use borrow.Author.Rules.{rules}
 use Rattle.annex.specs.Rates.{charges_of}
 use Rattle.rates.proofs.opening.charges.Goals as goal
 
