@@ -22,8 +22,8 @@ use Rattle.heads.specs.Asked.{right_head, wrong_head}
 use Rattle.parameter.specs.Asked.{fault_of_lem}
 use Rattle.parameter.proofs.transfer.judged.Goals as goal
 
-pub slice_bounds-fault_under-start : goal.slice_bounds-fault_under-start
-slice_bounds-fault_under-start c =
+pub slice_bounds-fault_under-count : goal.slice_bounds-fault_under-count
+slice_bounds-fault_under-count c =
     let h = c.after_header-after.ensures in
     rw (h.1, h.0) (lead_within _ _)
 
