@@ -84,3 +84,8 @@ returns c =
     let right : pli_right a.header ≡ true = sym c.requires.0 ∙ not-false _ c.if-not-asked.false in
     let past = past_10 a.times a.header c.often_of-most.result h.result.octets xs right c.often_of-most.ensures c.if-most-times.false (rw c.octet_at.ensures at h.ensures.0) in
     rw (past, le-ltb _ _ c.if-xs-n.false, ← h.ensures.1, ← from_to, ← wrong) c.at_octet.ensures
+
+pub slice_bounds-fault_under-start : goal.slice_bounds-fault_under-start
+slice_bounds-fault_under-start c =
+    let h = c.after_header-after.ensures in
+    rw (h.1, h.0) (lead_within _ _)
