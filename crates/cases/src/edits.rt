@@ -4,6 +4,7 @@ use super::printing::print_outcome;
 use annex::Answer;
 use editor::{append, remove, replace};
 use octets::copy_in;
+use std::io;
 
 // The kinds of case; a removal is the third.
 const REPLACE: u8 = 0;
@@ -23,17 +24,31 @@ fn edit(kind: u8, buffer: &mut [u8], n: usize, which: usize, new: &[u8]) -> Answ
     remove(buffer, n, new[0], which)
 }
 
-fn shown(kind: u8, buffer: &mut [u8], n: usize, which: usize, new: &[u8]) {
+fn shown(
+    rt: &impl Print,
+    kind: u8,
+    buffer: &mut [u8],
+    n: usize,
+    which: usize,
+    new: &[u8],
+) -> io::Result<()> {
     let a = edit(kind, buffer, n, which, new);
-    print_outcome(a, buffer);
+    print_outcome(rt, a, buffer)
 }
 
-pub fn case(kind: u8, n: usize, which: usize, given: &[u8], new: &[u8]) {
+pub fn case(
+    rt: &impl Print,
+    kind: u8,
+    n: usize,
+    which: usize,
+    given: &[u8],
+    new: &[u8],
+) -> io::Result<()> {
     let mut room = [0u8; MOST];
     let len = given.len();
     if MOST < len {
-        return;
+        return Ok(());
     }
     copy_in(&mut room, 0, given);
-    shown(kind, &mut room[..len], n, which, new);
+    shown(rt, kind, &mut room[..len], n, which, new)
 }

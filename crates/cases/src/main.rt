@@ -11,6 +11,9 @@ mod records;
 
 ghost use Rattle.std.specs.Prelude.{◌≤◌, ◌<◌, length};
 
+use input::read_full;
+use std::io;
+
 // the longest buffer and room
 const MOST: usize = 400;
 
@@ -48,12 +51,12 @@ fn buffer_len(kind: u8, len: usize) -> usize
     if kind < WRITE { len } else { 0 }
 }
 
-// The case at the front of s: how many octets it has, or 0 where it is cut.
-fn first_case(s: &[u8]) -> usize
-    ensures { result ≤ length s.now }
+// The case at the front of s: how many octets it has, or 0 where it is cut; and whether all that it prints was written.
+fn first_case(rt: &impl Print, s: &[u8]) -> (usize, io::Result<()>)
+    ensures { result.0 ≤ length s.now }
 {
     if s.len() < HEADS {
-        return 0;
+        return (0, Ok(()));
     }
     let kind = s[0];
     let first = pair(s, 1);
@@ -61,29 +64,38 @@ fn first_case(s: &[u8]) -> usize
     let middle = HEADS + buffer_len(kind, second);
     let end = middle + pair(s, 5);
     if s.len() < end {
-        return 0;
+        return (0, Ok(()));
     }
-    if kind < WRITE {
-        edits::case(kind, first, pair(s, 7), &s[HEADS..middle], &s[middle..end]);
+    let printed = if kind < WRITE {
+        edits::case(
+            rt,
+            kind,
+            first,
+            pair(s, 7),
+            &s[HEADS..middle],
+            &s[middle..end],
+        )
     } else {
-        records::case(kind, first, second, &s[middle..end]);
-    }
-    end
+        records::case(rt, kind, first, second, &s[middle..end])
+    };
+    (end, printed)
 }
 
-fn run(s: &[u8]) {
+fn run(rt: &impl Print, s: &[u8]) -> io::Result<()> {
     let mut i = 0;
     while i < s.len() {
-        let k = first_case(&s[i..]);
+        let (k, printed) = first_case(rt, &s[i..]);
+        printed?;
         if k == 0 {
-            return;
+            break;
         }
         i += k;
     }
+    Ok(())
 }
 
-fn main() {
+fn main(rt: HostRuntime) -> io::Result<()> {
     let mut input = [0u8; INPUT];
-    let n = io::read_full(libc::STDIN_FILENO, &mut input);
-    run(&input[..n]);
+    let n = read_full(&mut rt.reader(), &mut input)?;
+    run(&rt, &input[..n])
 }

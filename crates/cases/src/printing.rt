@@ -1,37 +1,37 @@
 // What a case prints: its answer, and the whole lent memory after it.
 use annex::Answer;
-use libc::STDOUT_FILENO;
+use std::io;
 
-fn print(text: &[u8]) {
-    io::write_all(STDOUT_FILENO, text);
+fn print(rt: &impl Print, text: &[u8]) -> io::Result<()> {
+    rt.write_all(text)
 }
 
-fn print_number(n: usize) {
-    io::print_decimal(STDOUT_FILENO, n as u64);
+fn print_number(rt: &impl Print, n: usize) -> io::Result<()> {
+    print!(rt; "{n}")
 }
 
-fn print_answer(a: Answer) {
+fn print_answer(rt: &impl Print, a: Answer) -> io::Result<()> {
     match a {
         Answer::Accepted(n) => {
-            print(b"ACCEPTED ");
-            print_number(n);
+            print(rt, b"ACCEPTED ")?;
+            print_number(rt, n)
         }
         Answer::Refused(number, place) => {
-            print(b"REFUSED ");
-            print_number(number as usize);
-            print(b" ");
-            print_number(place);
+            print(rt, b"REFUSED ")?;
+            print_number(rt, number as usize)?;
+            print(rt, b" ")?;
+            print_number(rt, place)
         }
     }
 }
 
 // In hexadecimal.
-fn print_octets(s: &[u8]) {
-    let mut i = 0;
-    while i < s.len() {
-        io::print_hex(STDOUT_FILENO, wide(s[i]), 2);
-        i += 1;
+fn print_octets(rt: &impl Print, s: &[u8]) -> io::Result<()> {
+    for x in s {
+        let n = wide(*x);
+        print!(rt; "{n:02x}")?;
     }
+    Ok(())
 }
 
 fn wide(x: u8) -> u64 {
@@ -39,9 +39,9 @@ fn wide(x: u8) -> u64 {
 }
 
 // The answer, then what was lent.
-pub fn print_outcome(a: Answer, lent: &[u8]) {
-    print_answer(a);
-    print(b" ");
-    print_octets(lent);
-    print(b"\n");
+pub fn print_outcome(rt: &impl Print, a: Answer, lent: &[u8]) -> io::Result<()> {
+    print_answer(rt, a)?;
+    print(rt, b" ")?;
+    print_octets(rt, lent)?;
+    print(rt, b"\n")
 }

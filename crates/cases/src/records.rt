@@ -3,6 +3,7 @@ use super::MOST;
 use super::printing::print_outcome;
 use annex::{Common, Record};
 use from_image::from_image;
+use std::io;
 use writer::write;
 
 // what the room holds before
@@ -42,17 +43,17 @@ fn changed(held: Record, what: u8, to: usize) -> Record {
     q
 }
 
-fn shown(held: Record, room: &mut [u8]) {
+fn shown(rt: &impl Print, held: Record, room: &mut [u8]) -> io::Result<()> {
     let a = write(held, room);
-    print_outcome(a, room);
+    print_outcome(rt, a, room)
 }
 
-pub fn case(what: u8, to: usize, len: usize, given: &[u8]) {
+pub fn case(rt: &impl Print, what: u8, to: usize, len: usize, given: &[u8]) -> io::Result<()> {
     let mut room = [BEFORE; MOST];
     if MOST < len {
-        return;
+        return Ok(());
     }
     let imaged = from_image(given);
     let held = imaged.held;
-    shown(changed(held, what, to), &mut room[..len]);
+    shown(rt, changed(held, what, to), &mut room[..len])
 }

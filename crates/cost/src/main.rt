@@ -4,7 +4,9 @@
 
 ghost use Rattle.std.specs.Prelude.{◌<◌};
 
+use input::read_full;
 use reader::reading::read;
+use std::io;
 
 fn wide(x: u8) -> usize
     ensures { result < 256 }
@@ -37,15 +39,14 @@ fn turns(m: &mut [u8], at: usize, count: usize) -> u64 {
     sum
 }
 
-fn main() {
+fn main(rt: HostRuntime) -> io::Result<()> {
     let mut input = [0u8; 276];
-    let n = io::read_full(libc::STDIN_FILENO, &mut input);
+    let n = read_full(&mut rt.reader(), &mut input)?;
     if n < 4 {
-        return;
+        return Ok(());
     }
     let count = wide(input[0]) + 256 * wide(input[1]) + 65536 * wide(input[2]);
     let at = wide(input[3]);
     let sum = turns(&mut input[4..n], at, count);
-    io::print_decimal(libc::STDOUT_FILENO, sum);
-    io::write_all(libc::STDOUT_FILENO, b"\n");
+    println!(rt; "{sum}")
 }
