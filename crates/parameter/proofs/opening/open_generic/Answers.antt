@@ -30,9 +30,6 @@ pub overflow_add-len : goal.overflow_add-len
 overflow_add-len c =
     omega (arith, ap (λ (k : HalfOctets). k.0) c.count_of-count.ensures, length-drop 2 c.octets_from-number.result.now)
 
-pub shape_of-values : goal.shape_of-values
-shape_of-values c = simp length-set at c.values-1.given
-
 pub returns-then-not-has_room-clause-head : goal.returns-then-not-has_room-clause-head
 returns-then-not-has_room-clause-head c =
     let a = c.args in
