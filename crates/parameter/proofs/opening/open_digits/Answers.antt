@@ -1,4 +1,5 @@
 -- `open_digits` meets its contract: the octets behind the count octet hold the digits that it tells, or fewer where they end.
+use Rattle.std.specs.Prelude.{not}
 use native.Mathlib.Omega.{arith}
 use mathlib.Core.Path.{◌≡◌, refl, sym, ap, ◌∙◌}
 use Prim.Native.Nat.{ℕ, ◌/◌}
@@ -30,3 +31,21 @@ kept Typed h u vs = refl
 
 abbrev digits : List ℕ → List ℕ
 digits s = digits_of Dialled (counted_by (get_or s 0 0)) (drop 1 s)
+
+pub returns-clause-head : goal.returns-clause-head
+returns-clause-head c =
+    let a = c.args in
+    let s = a.s.now in
+    let ds = digits s in
+    let i = open_by (AsDigits a.marks) a.header s in
+    let unpacked : Stores (values_fit (length a.values.now) a.used (length ds)) (sets a.values.now a.used ds) a.values.now
+      c.unpack_digits.result c.unpack_digits.new.values =
+      rw (c.counted_by-told.ensures, c.octets_from-octets.ensures, c.octet_at-first.ensures) at c.unpack_digits.ensures in
+    let w =
+    all_stored i a.used ds a.values.now _ _ (kept a.marks a.header (get_or s 0 0 / 64) ds) unpacked
+    (ap not c.if-not-unpack_digits.false) in
+    let l : length ds ≡ c.digits_in-count.result.0 =
+    length_there Dialled (counted_by (get_or s 0 0)) (drop 1 s)
+    ∙ sym (rw (c.counted_by-told.ensures, c.octets_from-octets.ensures, c.octet_at-first.ensures) at c.digits_in-count.ensures) in
+    let h : c.marked.result ≡ head_of i = rw c.octet_at-first.ensures at (c.marked.ensures ds l) in
+    h ∙ w.0
