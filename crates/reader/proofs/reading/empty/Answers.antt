@@ -1,0 +1,7 @@
+-- `empty` meets its contract: both kinds of parts are the empty ones.
+use borrow.Author.Rules.{rules}
+use Rattle.laws.specs.Filling.{empty_packed}
+use Rattle.reader.proofs.reading.empty.Goals as goal
+
+pub returns : goal.returns
+returns c = rw (c.none-c.ensures, c.none-t.ensures) empty_packed
