@@ -1,0 +1,6 @@
+-- `held_as` meets its contract: the first value decides beside the header.
+use borrow.Author.Rules.{rules}
+use Rattle.layout.proofs.held_as.Goals as goal
+
+pub returns : goal.returns
+returns c = rw (← c.octet_at.ensures) c.holding_of.ensures

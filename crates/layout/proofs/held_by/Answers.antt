@@ -1,0 +1,6 @@
+-- `held_by` meets its contract: the first value decides beside the form.
+use borrow.Author.Rules.{rules}
+use Rattle.layout.proofs.held_by.Goals as goal
+
+pub returns : goal.returns
+returns c = rw (← c.octet_at.ensures) c.holding_by.ensures
