@@ -20,20 +20,20 @@ bounds-t-i c =
 pub overflow_add-start : goal.overflow_add-start
 overflow_add-start c =
     let found : (let a = c.args in
-      contents_found a.k a.t.now ≡ At (c.in-At.i + 1 + c.lead-before.result) c.in-At.end) =
-      rw (← c.search_by_length.ensures, c.in-At.is, c.lead-before.ensures, c.extent_by.ensures) in
+    contents_found a.k a.t.now ≡ At (c.in-At.i + 1 + c.lead-before.result) c.in-At.end) =
+    rw (← c.search_by_length.ensures, c.in-At.is, c.lead-before.ensures, c.extent_by.ensures) in
     omega (arith, (search_inside _ _).at _ _ (found))
 
 pub overflow_add-start-2 : goal.overflow_add-start-2
 overflow_add-start-2 c =
     let found : (let a = c.args in
-      contents_found a.k a.t.now ≡ At (c.in-At.i + 1 + c.lead-before.result) c.in-At.end) =
-      rw (← c.search_by_length.ensures, c.in-At.is, c.lead-before.ensures, c.extent_by.ensures) in
+    contents_found a.k a.t.now ≡ At (c.in-At.i + 1 + c.lead-before.result) c.in-At.end) =
+    rw (← c.search_by_length.ensures, c.in-At.is, c.lead-before.ensures, c.extent_by.ensures) in
     omega (arith, (search_inside _ _).at _ _ (found))
 
 pub returns : goal.returns
 returns c =
     let found : (let a = c.args in
-      contents_found a.k a.t.now ≡ At (c.in-At.i + 1 + c.lead-before.result) c.in-At.end) =
-      rw (← c.search_by_length.ensures, c.in-At.is, c.lead-before.ensures, c.extent_by.ensures) in
+    contents_found a.k a.t.now ≡ At (c.in-At.i + 1 + c.lead-before.result) c.in-At.end) =
+    rw (← c.search_by_length.ensures, c.in-At.is, c.lead-before.ensures, c.extent_by.ensures) in
     sym (found)

@@ -17,11 +17,11 @@ returns-in_default c =
 pub returns-in_default-found_by_length : goal.returns-in_default-found_by_length
 returns-in_default-found_by_length c =
     let accepted : verdict_of c.args.m.now ≡ Accepted c.in-Accepted.field-0 =
-      sym c.verdict-a.ensures ∙ c.in-Accepted.is in
+    sym c.verdict-a.ensures ∙ c.in-Accepted.is in
     let found : (let a = c.args in
-      found_by a.k a.m.now ≡ c.found_by_length.result) =
-      let a = c.args in
-      plain_found a.k _ _ (accepted) ∙ sym c.found_by_length.ensures in
+    found_by a.k a.m.now ≡ c.found_by_length.result) =
+    let a = c.args in
+    plain_found a.k _ _ (accepted) ∙ sym c.found_by_length.ensures in
     let v = accepted in
     let f = found ∙ c.in_default-found_by_length.is in
     record { answer = rw (v, f); order = omega arith; within = omega arith; part = rw (v, f) }
@@ -29,11 +29,11 @@ returns-in_default-found_by_length c =
 pub returns : goal.returns
 returns c =
     let accepted : verdict_of c.args.m.now ≡ Accepted c.in-Accepted.field-0 =
-      sym c.verdict-a.ensures ∙ c.in-Accepted.is in
+    sym c.verdict-a.ensures ∙ c.in-Accepted.is in
     let found : (let a = c.args in
-      found_by a.k a.m.now ≡ c.found_by_length.result) =
-      let a = c.args in
-      plain_found a.k _ _ (accepted) ∙ sym c.found_by_length.ensures in
+    found_by a.k a.m.now ≡ c.found_by_length.result) =
+    let a = c.args in
+    plain_found a.k _ _ (accepted) ∙ sym c.found_by_length.ensures in
     let v = accepted in
     let f = found ∙ c.in-At.is in
     let a = c.args in

@@ -13,19 +13,19 @@ returns-in_default c = rw (← c.verdict-a.ensures, c.in_default.is)
 pub count-n-requires : goal.count-n-requires
 count-n-requires c =
     let accepts : Accepts c.args.m.now =
-      (_, sym c.verdict-a.ensures ∙ c.in-Accepted.is) in
+    (_, sym c.verdict-a.ensures ∙ c.in-Accepted.is) in
     accepts
 
 pub returns-then-room-n : goal.returns-then-room-n
 unfolding spans_by
 returns-then-room-n c =
     let accepts : Accepts c.args.m.now =
-      (_, sym c.verdict-a.ensures ∙ c.in-Accepted.is) in
+    (_, sym c.verdict-a.ensures ∙ c.in-Accepted.is) in
     rw ((accepts).1, ← c.count-n.ensures, lt-ltb _ _ c.if-room-n.true)
 
 pub returns : goal.returns
 unfolding spans_by
 returns c =
     let accepts : Accepts c.args.m.now =
-      (_, sym c.verdict-a.ensures ∙ c.in-Accepted.is) in
+    (_, sym c.verdict-a.ensures ∙ c.in-Accepted.is) in
     rw ((accepts).1, ← c.count-n.ensures, le-ltb _ _ c.if-room-n.false)

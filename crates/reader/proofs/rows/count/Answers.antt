@@ -20,13 +20,13 @@ overflow_add-n c = omega (arith, c.loop-c.invariant.2, c.loop-c-test.true)
 pub loop-c-smaller : goal.loop-c-smaller
 loop-c-smaller c =
     let turn : Turn c.args.m.now c.loop-c.c =
-      ahead_turn _ _ c.loop-c.invariant.0 c.loop-c-test.true in
+    ahead_turn _ _ c.loop-c.invariant.0 c.loop-c-test.true in
     rw c.next-c.ensures (omega (arith, (turn).farther, c.loop-c-test.true))
 
 pub loop-c-preserved : goal.loop-c-preserved
 loop-c-preserved c =
     let turn : Turn c.args.m.now c.loop-c.c =
-      ahead_turn _ _ c.loop-c.invariant.0 c.loop-c-test.true in
+    ahead_turn _ _ c.loop-c.invariant.0 c.loop-c-test.true in
     let i = c.loop-c.invariant in
     let t = turn in
     rw c.next-c.ensures (t.again, omega (arith, i.1, ap length t.rows), omega (arith, i.2, t.farther))

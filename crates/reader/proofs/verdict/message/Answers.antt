@@ -25,16 +25,16 @@ common-a-requires c = simp (length-take, length-drop) (omega arith)
 pub shift-requires : goal.shift-requires
 shift-requires c =
     let step_is : (let m = c.args.m.now in
-      common_step c.loop-i.seen (get_or m c.loop-i.i 0) (drop (c.loop-i.i + 1) m) ≡ c.common-a.result) =
-      rw (c.common-a.ensures, c.both-whole.ensures, to_end) in
+    common_step c.loop-i.seen (get_or m c.loop-i.i 0) (drop (c.loop-i.i + 1) m) ≡ c.common-a.result) =
+    rw (c.common-a.ensures, c.both-whole.ensures, to_end) in
     let e = c.in_default.is in
     rw e (omega (arith, rw length-drop at ((common_place fault_of fault_within _ _ _ _).at _ _ (step_is ∙ e))))
 
 pub returns-in_default : goal.returns-in_default
 returns-in_default c =
     let step_is : (let m = c.args.m.now in
-      common_step c.loop-i.seen (get_or m c.loop-i.i 0) (drop (c.loop-i.i + 1) m) ≡ c.common-a.result) =
-      rw (c.common-a.ensures, c.both-whole.ensures, to_end) in
+    common_step c.loop-i.seen (get_or m c.loop-i.i 0) (drop (c.loop-i.i + 1) m) ≡ c.common-a.result) =
+    rw (c.common-a.ensures, c.both-whole.ensures, to_end) in
     let e = c.in_default.is in
     c.shift.ensures ∙ rw e
     (sym (c.loop-i.invariant.1 ∙ walk_refused walker _ _ _ _ _ _ c.loop-i-test.true (step_is ∙ e)))
@@ -42,29 +42,29 @@ returns-in_default c =
 pub overflow_add-seen : goal.overflow_add-seen
 overflow_add-seen c =
     let step_is : (let m = c.args.m.now in
-      common_step c.loop-i.seen (get_or m c.loop-i.i 0) (drop (c.loop-i.i + 1) m) ≡ c.common-a.result) =
-      rw (c.common-a.ensures, c.both-whole.ensures, to_end) in
+    common_step c.loop-i.seen (get_or m c.loop-i.i 0) (drop (c.loop-i.i + 1) m) ≡ c.common-a.result) =
+    rw (c.common-a.ensures, c.both-whole.ensures, to_end) in
     omega (arith, (common_taken fault_of _ _ _ _ _ (step_is ∙ c.in-Accepted.is)).1.once)
 
 pub overflow_add-i : goal.overflow_add-i
 overflow_add-i c =
     let step_is : (let m = c.args.m.now in
-      common_step c.loop-i.seen (get_or m c.loop-i.i 0) (drop (c.loop-i.i + 1) m) ≡ c.common-a.result) =
-      rw (c.common-a.ensures, c.both-whole.ensures, to_end) in
+    common_step c.loop-i.seen (get_or m c.loop-i.i 0) (drop (c.loop-i.i + 1) m) ≡ c.common-a.result) =
+    rw (c.common-a.ensures, c.both-whole.ensures, to_end) in
     let within : c.in-Accepted.n ≤ length (drop (c.loop-i.i + 1) c.args.m.now) =
-      common_within fault_of _ _ _ _ _ (step_is ∙ c.in-Accepted.is) in
+    common_within fault_of _ _ _ _ _ (step_is ∙ c.in-Accepted.is) in
     omega (arith, rw length-drop at (within))
 
 pub loop-i-preserved : goal.loop-i-preserved
 loop-i-preserved c =
     let step_is : (let m = c.args.m.now in
-      common_step c.loop-i.seen (get_or m c.loop-i.i 0) (drop (c.loop-i.i + 1) m) ≡ c.common-a.result) =
-      rw (c.common-a.ensures, c.both-whole.ensures, to_end) in
+    common_step c.loop-i.seen (get_or m c.loop-i.i 0) (drop (c.loop-i.i + 1) m) ≡ c.common-a.result) =
+    rw (c.common-a.ensures, c.both-whole.ensures, to_end) in
     let within : c.in-Accepted.n ≤ length (drop (c.loop-i.i + 1) c.args.m.now) =
-      common_within fault_of _ _ _ _ _ (step_is ∙ c.in-Accepted.is) in
+    common_within fault_of _ _ _ _ _ (step_is ∙ c.in-Accepted.is) in
     let e = step_is ∙ c.in-Accepted.is in (
-    omega (arith, rw length-drop at (within)),
-    c.loop-i.invariant.1 ∙ walk_accepted walker _ _ _ _ _ _ c.loop-i-test.true e (within) refl,
+      omega (arith, rw length-drop at (within)),
+      c.loop-i.invariant.1 ∙ walk_accepted walker _ _ _ _ _ _ c.loop-i-test.true e (within) refl,
     )
 
 pub returns-then-seen-gt0 : goal.returns-then-seen-gt0

@@ -24,16 +24,16 @@ loop-i-init c = search rules
 pub shift-requires : goal.shift-requires
 shift-requires c =
     let step_is : (let t = c.args.t.now in
-      transfer_step c.loop-i.seen (get_or t c.loop-i.i 0) (drop (c.loop-i.i + 1) t) ≡ c.transfer-a.result) =
-      rw (c.transfer-a.ensures, to_end) in
+    transfer_step c.loop-i.seen (get_or t c.loop-i.i 0) (drop (c.loop-i.i + 1) t) ≡ c.transfer-a.result) =
+    rw (c.transfer-a.ensures, to_end) in
     let e = c.in_default.is in
     rw e (omega (arith, simp length-drop at ((transfer_place fault_of fault_within _ _ _).at _ _ (step_is ∙ e))))
 
 pub returns-in_default : goal.returns-in_default
 returns-in_default c =
     let step_is : (let t = c.args.t.now in
-      transfer_step c.loop-i.seen (get_or t c.loop-i.i 0) (drop (c.loop-i.i + 1) t) ≡ c.transfer-a.result) =
-      rw (c.transfer-a.ensures, to_end) in
+    transfer_step c.loop-i.seen (get_or t c.loop-i.i 0) (drop (c.loop-i.i + 1) t) ≡ c.transfer-a.result) =
+    rw (c.transfer-a.ensures, to_end) in
     let e = c.in_default.is in
     c.shift.ensures ∙ rw e
     (sym (c.loop-i.invariant.1 ∙ walk_refused walker _ _ _ _ _ _ c.loop-i-test.true (step_is ∙ e)))
@@ -41,37 +41,37 @@ returns-in_default c =
 pub overflow_add-seen : goal.overflow_add-seen
 overflow_add-seen c =
     let step_is : (let t = c.args.t.now in
-      transfer_step c.loop-i.seen (get_or t c.loop-i.i 0) (drop (c.loop-i.i + 1) t) ≡ c.transfer-a.result) =
-      rw (c.transfer-a.ensures, to_end) in
+    transfer_step c.loop-i.seen (get_or t c.loop-i.i 0) (drop (c.loop-i.i + 1) t) ≡ c.transfer-a.result) =
+    rw (c.transfer-a.ensures, to_end) in
     let taken : (let t = c.args.t.now in
-      TransferTaken fault_of (get_or c.loop-i.seen (get_or t c.loop-i.i 0 % 64) 0) (get_or t c.loop-i.i 0) (drop (c.loop-i.i + 1) t)
-      c.in-Accepted.n) =
-      transfer_taken fault_of _ _ _ _ (step_is ∙ c.in-Accepted.is) in
+    TransferTaken fault_of (get_or c.loop-i.seen (get_or t c.loop-i.i 0 % 64) 0) (get_or t c.loop-i.i 0) (drop (c.loop-i.i + 1) t)
+    c.in-Accepted.n) =
+    transfer_taken fault_of _ _ _ _ (step_is ∙ c.in-Accepted.is) in
     omega (arith, (taken).often, few_often (name_of (get_or c.args.t.now c.loop-i.i 0)))
 
 pub overflow_add-i : goal.overflow_add-i
 overflow_add-i c =
     let step_is : (let t = c.args.t.now in
-      transfer_step c.loop-i.seen (get_or t c.loop-i.i 0) (drop (c.loop-i.i + 1) t) ≡ c.transfer-a.result) =
-      rw (c.transfer-a.ensures, to_end) in
+    transfer_step c.loop-i.seen (get_or t c.loop-i.i 0) (drop (c.loop-i.i + 1) t) ≡ c.transfer-a.result) =
+    rw (c.transfer-a.ensures, to_end) in
     let taken : (let t = c.args.t.now in
-      TransferTaken fault_of (get_or c.loop-i.seen (get_or t c.loop-i.i 0 % 64) 0) (get_or t c.loop-i.i 0) (drop (c.loop-i.i + 1) t)
-      c.in-Accepted.n) =
-      transfer_taken fault_of _ _ _ _ (step_is ∙ c.in-Accepted.is) in
+    TransferTaken fault_of (get_or c.loop-i.seen (get_or t c.loop-i.i 0 % 64) 0) (get_or t c.loop-i.i 0) (drop (c.loop-i.i + 1) t)
+    c.in-Accepted.n) =
+    transfer_taken fault_of _ _ _ _ (step_is ∙ c.in-Accepted.is) in
     omega (arith, rw length-drop at (taken).within)
 
 pub loop-i-preserved : goal.loop-i-preserved
 loop-i-preserved c =
     let step_is : (let t = c.args.t.now in
-      transfer_step c.loop-i.seen (get_or t c.loop-i.i 0) (drop (c.loop-i.i + 1) t) ≡ c.transfer-a.result) =
-      rw (c.transfer-a.ensures, to_end) in
+    transfer_step c.loop-i.seen (get_or t c.loop-i.i 0) (drop (c.loop-i.i + 1) t) ≡ c.transfer-a.result) =
+    rw (c.transfer-a.ensures, to_end) in
     let taken : (let t = c.args.t.now in
-      TransferTaken fault_of (get_or c.loop-i.seen (get_or t c.loop-i.i 0 % 64) 0) (get_or t c.loop-i.i 0) (drop (c.loop-i.i + 1) t)
-      c.in-Accepted.n) =
-      transfer_taken fault_of _ _ _ _ (step_is ∙ c.in-Accepted.is) in
+    TransferTaken fault_of (get_or c.loop-i.seen (get_or t c.loop-i.i 0 % 64) 0) (get_or t c.loop-i.i 0) (drop (c.loop-i.i + 1) t)
+    c.in-Accepted.n) =
+    transfer_taken fault_of _ _ _ _ (step_is ∙ c.in-Accepted.is) in
     let e = step_is ∙ c.in-Accepted.is in (
-    omega (arith, rw length-drop at (taken).within),
-    c.loop-i.invariant.1 ∙ walk_accepted walker _ _ _ _ _ _ c.loop-i-test.true e (taken).within refl,
+      omega (arith, rw length-drop at (taken).within),
+      c.loop-i.invariant.1 ∙ walk_accepted walker _ _ _ _ _ _ c.loop-i-test.true e (taken).within refl,
     )
 
 pub returns : goal.returns
