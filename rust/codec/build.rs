@@ -14,11 +14,11 @@ fn main() {
         return;
     }
     let here = PathBuf::from(env::var_os("CARGO_MANIFEST_DIR").unwrap_or_default());
-    let folder = here.join("../../target/staticlib");
+    let folder = here.join("../../crates/boundary/out");
     let archive = folder.join("libboundary.a");
     println!("cargo::rerun-if-changed={}", archive.display());
     if !archive.exists() {
-        eprintln!("no target/staticlib/libboundary.a: run `rt staticlib boundary`");
+        eprintln!("no crates/boundary/out/libboundary.a: run `rt lib` in crates/boundary");
         exit(1);
     }
     println!("cargo::rustc-link-search=native={}", folder.display());

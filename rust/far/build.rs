@@ -22,13 +22,14 @@ fn build() -> Result<(), String> {
     let here = PathBuf::from(variable("CARGO_MANIFEST_DIR"));
     let out = PathBuf::from(variable("OUT_DIR"));
     let include = here.join("../../include");
-    let archive = here.join("../../target/staticlib/libboundary.a");
+    let archive = here.join("../../crates/boundary/out/libboundary.a");
     let source = here.join("serve.c");
     for read in [&source, &here.join("freestanding"), &include, &archive] {
         println!("cargo::rerun-if-changed={}", read.display());
     }
     if !archive.exists() {
-        return Err("no target/staticlib/libboundary.a: run `rt staticlib boundary`".into());
+        let message = "no crates/boundary/out/libboundary.a: run `rt lib` in crates/boundary";
+        return Err(message.into());
     }
     let tools = tools()?;
     let (object, serve) = (out.join("serve.o"), out.join("serve"));
@@ -42,21 +43,19 @@ fn build() -> Result<(), String> {
         .args(["-static", "-o"])
         .args([&serve, &object, &archive]))?;
     println!("cargo::rustc-env=FAR_SERVE={}", serve.display());
-    let emulator = tools.join("qemu-x86_64");
-    println!("cargo::rustc-env=FAR_EMULATOR={}", emulator.display());
+    println!("cargo::rustc-env=FAR_EMULATOR=qemu-x86_64");
     Ok(())
 }
 
-/// Where the toolchain keeps the programs for this machine; `rt doc` tells a
-/// path inside it.
+/// Where the toolchain keeps its programs; `rt doc` tells a path inside it.
 fn tools() -> Result<PathBuf, String> {
     let told = Command::new("rt")
         .arg("doc")
         .output()
         .map_err(|error| format!("rt doc: {error}"))?;
     let guide = String::from_utf8_lossy(&told.stdout);
-    let kit = Path::new(guide.trim()).ancestors().nth(2);
-    kit.map(|kit| kit.join("on").join(env::consts::ARCH).join("toolchain/bin"))
+    let kit = Path::new(guide.trim()).parent();
+    kit.map(|kit| kit.join("toolchain/bin"))
         .ok_or(format!("rt doc: no path of a guide in `{guide}`"))
 }
 

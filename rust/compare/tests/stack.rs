@@ -160,7 +160,7 @@ fn taken(input: &Input, paint: u8) -> (&'static str, usize) {
 fn told() -> BTreeMap<String, usize> {
     let home = concat!(env!("CARGO_MANIFEST_DIR"), "/../..");
     let ran = Command::new(format!("{home}/bin/stack"))
-        .arg(format!("{home}/target/staticlib/libboundary.a"))
+        .arg(format!("{home}/crates/boundary/out/libboundary.a"))
         .output()
         .expect("bin/stack");
     let complaint = String::from_utf8_lossy(&ran.stderr);
