@@ -1,5 +1,4 @@
 -- `common_by_length` meets its contract: its test is that of the definition.
-use borrow.Author.Rules.{rules}
 use borrow.Author.Tests.{eq-eqb, ne_eqb}
 use Rattle.reader.proofs.finding.common_by_length.Goals as goal
 

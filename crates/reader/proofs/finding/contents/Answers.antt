@@ -1,7 +1,6 @@
 -- `contents` meets its contract: they stand behind the header and what leads, within the parameter that was found.
 use Prim.Native.Nat.{◌+◌}
 use mathlib.Core.Path.{◌≡◌, sym, ap, ◌∙◌}
-use borrow.Author.Rules.{rules}
 use native.Mathlib.Omega.{arith}
 use Rattle.annex.specs.Walking.{contents_at, contents_found}
 use Rattle.annex.specs.declared.Found.TheVariants.{At}

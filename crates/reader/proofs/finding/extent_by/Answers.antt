@@ -1,5 +1,4 @@
 -- `extent_by` meets its contract: each arm is a case of the definition.
-use borrow.Author.Rules.{rules}
 use Rattle.reader.proofs.finding.extent_by.Goals as goal
 
 pub returns-in-Header : goal.returns-in-Header

@@ -1,6 +1,5 @@
 -- `find` meets its contract: reading's refusal first, and in an accepted message the length rule alone finds what is asked for.
 use mathlib.Core.Path.{◌≡◌, sym, ◌∙◌}
-use borrow.Author.Rules.{rules}
 use native.Mathlib.Omega.{arith}
 use Rattle.annex.specs.Reading.{verdict_of}
 use Rattle.annex.specs.Finding.{found_by}

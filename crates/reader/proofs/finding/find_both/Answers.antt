@@ -1,5 +1,4 @@
 -- `find_both` meets its contract: the part has as many octets as lie between its start and its end.
-use borrow.Author.Rules.{rules}
 use Rattle.reader.specs.Finding.{part_long}
 use Rattle.reader.proofs.finding.find_both.Goals as goal
 

@@ -1,5 +1,4 @@
 -- `found_by_length` meets its contract: each arm is a case of the definition.
-use borrow.Author.Rules.{rules}
 use Rattle.reader.proofs.finding.found_by_length.Goals as goal
 
 pub returns-in-Header : goal.returns-in-Header

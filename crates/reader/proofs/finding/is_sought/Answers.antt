@@ -1,5 +1,4 @@
 -- `is_sought` meets its contract: each arm is a case of the definition.
-use borrow.Author.Rules.{rules}
 use Rattle.reader.proofs.finding.is_sought.Goals as goal
 
 pub returns-in-Header : goal.returns-in-Header

@@ -1,5 +1,4 @@
 -- `part` meets its contract: what was found lies within the message.
-use borrow.Author.Rules.{rules}
 use Rattle.reader.proofs.finding.part.Goals as goal
 
 pub slice_bounds-result-count : goal.slice_bounds-result-count

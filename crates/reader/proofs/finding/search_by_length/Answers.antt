@@ -2,8 +2,7 @@ use Prim.Native.Nat.{ℕ, zero, suc, ◌-◌}
 use native.Mathlib.Omega.{arith}
 use mathlib.Core.Path.{◌≡◌, refl, sym, ap, ◌∙◌}
 use mathlib.Core.Bool.{cond}
-use borrow.Author.Rules.{rules}
-use lib.ListN.{length, get_or}
+use lib.ListN.{get_or}
 use Rattle.annex.specs.Heads.{kth}
 use Rattle.annex.specs.Walking.{extent_by, search_from, search_in, stretch_at}
 use Rattle.annex.specs.declared.Found.TheVariants.{At}

@@ -1,7 +1,6 @@
 -- `transfer_by_length` meets its contract: it searches the part that C5's contents are, and tells the place of the whole.
 use Prim.Native.Nat.{◌≤◌, ◌+◌}
 use mathlib.Core.Path.{◌≡◌, sym, ◌∙◌}
-use borrow.Author.Rules.{rules}
 use native.Mathlib.Omega.{arith}
 use lib.ListN.{length}
 use Rattle.annex.specs.Heads.{transfer_data}

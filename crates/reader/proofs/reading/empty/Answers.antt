@@ -1,5 +1,4 @@
 -- `empty` meets its contract: both kinds of parts are the empty ones.
-use borrow.Author.Rules.{rules}
 use Rattle.laws.specs.Filling.{empty_packed}
 use Rattle.reader.proofs.reading.empty.Goals as goal
 

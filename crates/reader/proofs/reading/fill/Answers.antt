@@ -1,14 +1,13 @@
 use Prim.Native.Nat.{ℕ, ◌<◌, ◌+◌, ◌-◌}
 use mathlib.Core.Path.{◌≡◌, sym, ap, ◌∙◌}
 use mathlib.Core.List.{List, []}
-use borrow.Author.Rules.{rules}
 use native.Mathlib.Omega.{arith}
 use lib.ListN.{length, get_or, take, drop}
 use Rattle.annex.specs.Units.{common_extent_of}
 use Rattle.annex.specs.Heads.{most_commons, end_mark, transfer_data}
 use Rattle.annex.specs.Items.{Item, Part}
 use Rattle.annex.specs.Reading.{open_common}
-use Rattle.annex.specs.Records.{values_of, common_head_of}
+use Rattle.annex.specs.Records.{values_of}
 use Rattle.annex.specs.Walking.{stretch_at}
 use Rattle.annex.specs.declared.Record.{Record}
 use Rattle.annex.specs.declared.Extent.{Extent}

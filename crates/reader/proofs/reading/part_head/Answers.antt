@@ -1,5 +1,4 @@
 -- `part_head` meets its contract: its tests are those of the definition, in their order.
-use borrow.Author.Rules.{rules}
 use borrow.Author.Tests.{eq-eqb, ne_eqb}
 use Rattle.reader.proofs.reading.part_head.Goals as goal
 

@@ -1,6 +1,5 @@
 -- `read` meets its contract: the verdict decides, as in the definition.
 use mathlib.Core.Path.{sym, ap, ◌∙◌}
-use borrow.Author.Rules.{rules}
 use Rattle.annex.specs.Records.{reading_of}
 use Rattle.annex.specs.declared.Answer.TheVariants.{Accepted}
 use Rattle.theorems.specs.Messages.{message_read}

@@ -1,7 +1,6 @@
 use Prim.Native.Nat.{ℕ, ◌≤◌, ◌+◌, ◌-◌}
 use mathlib.Core.Path.{◌≡◌, refl, sym, ap, ◌∙◌}
 use mathlib.Core.List.{List, ◌∷◌}
-use borrow.Author.Rules.{rules}
 use native.Mathlib.Omega.{arith}
 use lib.ListN.{length, get_or, take, drop, length-append}
 use Rattle.annex.specs.Heads.{most_transfers, most_values}
@@ -14,7 +13,7 @@ use Rattle.annex.specs.declared.Extent.{Extent}
 use Rattle.annex.specs.declared.Found.{Found}
 use Rattle.annex.specs.declared.Found.TheVariants.{At}
 use Rattle.walk.specs.Stretches.{Whole, stretch_told}
-use Rattle.reader.specs.Filling.{items_from, items_left, filled_with, items_none, items_more, filled_turn, filled_end}
+use Rattle.reader.specs.Filling.{items_left, items_none, items_more, filled_turn, filled_end}
 use Rattle.reader.proofs.reading.with_transfers.Goals as goal
 
 pub loop-start-init : goal.loop-start-init

@@ -1,19 +1,11 @@
 -- `with_transfers` meets its contract. The invariant: what the struct is to become of the whole transfer data, it becomes of what is left
 -- of it from i on, for which there is room.
-use Prim.Native.Nat.{ℕ, ◌≤◌, ◌+◌, ◌-◌}
-use mathlib.Core.Path.{◌≡◌, refl, sym, ap, ◌∙◌}
-use mathlib.Core.List.{List, ◌∷◌}
-use borrow.Author.Rules.{rules}
-use native.Mathlib.Omega.{arith}
-use lib.ListN.{length, get_or, take, drop, length-append}
+use Prim.Native.Nat.{◌≤◌, ◌+◌, ◌-◌}
+use mathlib.Core.Path.{◌≡◌}
+use lib.ListN.{length}
 use Rattle.annex.specs.Heads.{most_transfers, most_values}
-use Rattle.annex.specs.Units.{extent_of}
-use Rattle.annex.specs.Items.{Item, item_of}
 use Rattle.annex.specs.Records.{values_of}
-use Rattle.annex.specs.Walking.{stretch_at}
-use Rattle.annex.specs.declared.Transfer.{Transfer}
-use Rattle.walk.specs.Stretches.{Whole, stretch_told}
-use Rattle.reader.specs.Filling.{items_from, items_left, filled_with, items_none, items_more, filled_turn, filled_end}
+use Rattle.reader.specs.Filling.{items_from, items_left, filled_with}
 use Rattle.reader.proofs.reading.with_transfers.Given as goal
 
 abbrev pub invariant-loop-start : goal.invariant-loop-start

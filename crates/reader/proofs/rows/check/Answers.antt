@@ -1,6 +1,5 @@
 -- `check` meets its contract.
 use mathlib.Core.Path.{sym, ◌∙◌}
-use borrow.Author.Rules.{rules}
 use borrow.Author.Tests.{lt-ltb, le-ltb}
 use Rattle.annex.specs.Spans.{spans_by}
 use Rattle.laws.specs.Rows.{Accepts}

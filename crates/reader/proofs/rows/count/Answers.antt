@@ -1,11 +1,7 @@
-use Prim.Native.Nat.{◌+◌, ◌-◌, ◌≤◌}
-use mathlib.Core.Path.{◌≡◌, ap}
+use mathlib.Core.Path.{ap}
 use native.Mathlib.Omega.{arith}
-use borrow.Author.Rules.{rules}
 use lib.ListN.{length}
-use Rattle.annex.specs.Spans.{rows_of}
-use Rattle.walk.specs.Cursors.{rows_from}
-use Rattle.walk.specs.Ahead.{Ahead, Turn, ahead_first, rows_first, rows_none, ahead_turn}
+use Rattle.walk.specs.Ahead.{Turn, ahead_first, rows_first, rows_none, ahead_turn}
 use Rattle.reader.proofs.rows.count.Goals as goal
 
 pub loop-c-init : goal.loop-c-init

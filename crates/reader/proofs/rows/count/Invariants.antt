@@ -1,12 +1,10 @@
 -- `count` meets its contract. The invariant: so many rows are counted, and those from the cursor on are left.
 use Prim.Native.Nat.{◌+◌, ◌-◌, ◌≤◌}
-use mathlib.Core.Path.{◌≡◌, ap}
-use native.Mathlib.Omega.{arith}
-use borrow.Author.Rules.{rules}
+use mathlib.Core.Path.{◌≡◌}
 use lib.ListN.{length}
 use Rattle.annex.specs.Spans.{rows_of}
 use Rattle.walk.specs.Cursors.{rows_from}
-use Rattle.walk.specs.Ahead.{Ahead, Turn, ahead_first, rows_first, rows_none, ahead_turn}
+use Rattle.walk.specs.Ahead.{Ahead}
 use Rattle.reader.proofs.rows.count.Given as goal
 
 abbrev pub invariant-loop-c : goal.invariant-loop-c

@@ -1,12 +1,10 @@
-use Prim.Native.Nat.{◌≤◌, ◌+◌, ◌-◌}
+use Prim.Native.Nat.{◌≤◌, ◌+◌}
 use mathlib.Core.Path.{◌≡◌, refl, sym, ◌∙◌}
 use borrow.Author.Rules.{rules}
 use borrow.Author.Tests.{lt-ltb, le-ltb}
 use native.Mathlib.Omega.{arith}
 use lib.ListN.{length, get_or, drop, length-drop, length-take}
-use Rattle.annex.specs.Walk.{Walker, walk, judging}
-use Rattle.annex.specs.Reading.{message_verdict, common_step, common_close, message_verdict_by}
-use Rattle.annex.specs.declared.Answer.{Answer}
+use Rattle.annex.specs.Reading.{common_step, message_verdict_by}
 use Rattle.annex.specs.Contents.{fault_of}
 use Rattle.laws.specs.Parts.{to_end}
 use Rattle.laws.specs.Walks.{walk_end, walk_refused, walk_accepted}

@@ -1,18 +1,10 @@
 -- `message` meets its contract. The invariant: the walk of the whole is the walk from i on, with what has been seen.
-use Prim.Native.Nat.{◌≤◌, ◌+◌, ◌-◌}
-use mathlib.Core.Path.{◌≡◌, refl, sym, ◌∙◌}
-use borrow.Author.Rules.{rules}
-use borrow.Author.Tests.{lt-ltb, le-ltb}
-use native.Mathlib.Omega.{arith}
-use lib.ListN.{length, get_or, drop, length-drop, length-take}
+use Prim.Native.Nat.{◌≤◌, ◌-◌}
+use mathlib.Core.Path.{◌≡◌}
+use lib.ListN.{length, drop}
 use Rattle.annex.specs.Walk.{Walker, walk, judging}
-use Rattle.annex.specs.Reading.{message_verdict, common_step, common_close, message_verdict_by}
+use Rattle.annex.specs.Reading.{message_verdict, common_step, common_close}
 use Rattle.annex.specs.declared.Answer.{Answer}
-use Rattle.annex.specs.Contents.{fault_of}
-use Rattle.laws.specs.Parts.{to_end}
-use Rattle.laws.specs.Walks.{walk_end, walk_refused, walk_accepted}
-use Rattle.laws.specs.Offsets.{fault_within}
-use Rattle.laws.specs.Steps.{common_place, common_within, common_taken}
 use Rattle.reader.proofs.verdict.message.Given as goal
 
 abbrev pub walker : Walker Answer

@@ -1,6 +1,5 @@
 -- `shift` meets its contract: its arms are the cases of the definition.
 use native.Mathlib.Omega.{arith}
-use borrow.Author.Rules.{rules}
 use Rattle.reader.proofs.verdict.shift.Goals as goal
 
 pub overflow_add-result : goal.overflow_add-result

@@ -1,7 +1,6 @@
 -- `transfer_data` meets its contract: the part that it hands on is what the definition reads.
 use mathlib.Core.Path.{sym, ◌∙◌}
 use native.Mathlib.Omega.{arith}
-use borrow.Author.Rules.{rules}
 use lib.ListN.{length-take, length-drop}
 use Rattle.laws.specs.Offsets.{fault_within}
 use Rattle.laws.specs.Steps.{transfers_place, data_told}

@@ -1,20 +1,11 @@
 -- `transfers` meets its contract. The invariant: the walk of the whole is the walk from i on, with what has been seen.
-use Prim.Native.Nat.{◌≤◌, ◌+◌, ◌-◌, ◌%◌}
-use mathlib.Core.Path.{◌≡◌, refl, sym, ◌∙◌}
-use borrow.Author.Rules.{rules}
-use native.Mathlib.Omega.{arith}
-use lib.ListN.{length, get_or, drop, length-drop}
-use Rattle.annex.specs.Units.{name_of}
+use Prim.Native.Nat.{◌≤◌, ◌-◌}
+use mathlib.Core.Path.{◌≡◌}
+use lib.ListN.{length, drop}
 use Rattle.annex.specs.Walk.{Walker, walk, judging}
-use Rattle.annex.specs.Reading.{transfers_verdict, transfer_step, transfers_verdict_by}
+use Rattle.annex.specs.Reading.{transfers_verdict, transfer_step}
 use Rattle.annex.specs.declared.Answer.TheVariants.{Accepted}
-use Rattle.laws.specs.Often.{few_often}
-use Rattle.laws.specs.Parts.{to_end}
-use Rattle.laws.specs.Walks.{walk_end, walk_refused, walk_accepted}
-use Rattle.laws.specs.Offsets.{fault_within}
-use Rattle.laws.specs.Steps.{TransferTaken, transfer_taken, transfer_place}
 use Rattle.annex.specs.declared.Answer.{Answer}
-use Rattle.annex.specs.Contents.{fault_of}
 use Rattle.reader.proofs.verdict.transfers.Given as goal
 
 abbrev pub walker : Walker Answer

@@ -1,5 +1,4 @@
 -- `verdict` meets its contract: its tests are those of the definition, in their order.
-use borrow.Author.Rules.{rules}
 use borrow.Author.Tests.{eq-eqb, ne_eqb, lt-ltb, le-ltb}
 use Rattle.annex.specs.Reading.{verdict_by}
 use Rattle.reader.proofs.verdict.verdict.Goals as goal
