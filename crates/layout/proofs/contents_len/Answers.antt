@@ -1,5 +1,4 @@
 -- `contents_len` meets its contract: the values are held as the header says.
-use borrow.Author.Rules.{rules}
 use Rattle.annex.specs.Records.{raw_item}
 use Rattle.laws.specs.Laid.{own_contents_lem}
 use Rattle.layout.proofs.Holdings.{contents_as}

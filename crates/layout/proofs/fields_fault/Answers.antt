@@ -1,6 +1,4 @@
 -- `fields_fault` meets its contract: the fields come first, and then the digits.
-use borrow.Author.Rules.{rules}
-use borrow.Author.Tests.{not-true, not-false}
 use Rattle.layout.proofs.fields_fault.Goals as goal
 
 pub returns-then-not-good : goal.returns-then-not-good

@@ -1,5 +1,4 @@
 -- `held_as` meets its contract: the first value decides beside the header.
-use borrow.Author.Rules.{rules}
 use Rattle.layout.proofs.held_as.Goals as goal
 
 pub returns : goal.returns

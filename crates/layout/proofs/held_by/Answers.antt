@@ -1,5 +1,4 @@
 -- `held_by` meets its contract: the first value decides beside the form.
-use borrow.Author.Rules.{rules}
 use Rattle.layout.proofs.held_by.Goals as goal
 
 pub returns : goal.returns

@@ -5,7 +5,6 @@ use native.Mathlib.Omega.{arith}
 use mathlib.Core.Path.{◌≡◌, sym, ap, ◌∙◌}
 use mathlib.Core.Bool.{not}
 use mathlib.Core.List.{List}
-use borrow.Author.Rules.{rules}
 use borrow.Author.Tests.{le-leb, lt-leb, not-true, not-false}
 use lib.Dec.{leb}
 use lib.ListN.{length}
@@ -26,33 +25,33 @@ pub returns-then-not-asked : goal.returns-then-not-asked
 unfolding item_writing
 returns-then-not-asked c =
     rw c.head_number.ensures
-    (sym (wrong_head 0 c.args.t.header _ (sym c.requires.0.0 ∙ c.if-not-asked.true)))
+    (sym (wrong_head 0 c.args.t.header _ (sym c.requires.0.0 ∙ not-true _ c.if-not-asked.true)))
 
 pub returns-then-most-times : goal.returns-then-most-times
 unfolding item_writing
 returns-then-most-times c =
     let past-9 : (let a = c.args in
-      let i = raw_item a.t a.values.now in
-      item_writing a.times 0 i
-      ≡ refuse (leb (often_of (name_of a.t.header)) a.times) repeated_name 0
-      (refuse (not (length_right i)) cut_contents 0 (sound_then (header_at 0) (fault_in i) (Accepted (0 + length (layout_item i)))))) =
-      right_head 0 c.args.t.header _ (sym c.requires.0.0 ∙ c.if-not-asked.false) in
+    let i = raw_item a.t a.values.now in
+    item_writing a.times 0 i
+    ≡ refuse (leb (often_of (name_of a.t.header)) a.times) repeated_name 0
+    (refuse (not (length_right i)) cut_contents 0 (sound_then (header_at 0) (fault_in i) (Accepted (0 + length (layout_item i)))))) =
+    right_head 0 c.args.t.header _ (sym c.requires.0.0 ∙ not-false _ c.if-not-asked.false) in
     rw (past-9, ← c.often_of-most.ensures, le-leb _ _ c.if-most-times.true)
 
 pub returns-then-not-length_right : goal.returns-then-not-length_right
 unfolding item_writing
 returns-then-not-length_right c =
     let past-9 : (let a = c.args in
-      let i = raw_item a.t a.values.now in
-      item_writing a.times 0 i
-      ≡ refuse (leb (often_of (name_of a.t.header)) a.times) repeated_name 0
-      (refuse (not (length_right i)) cut_contents 0 (sound_then (header_at 0) (fault_in i) (Accepted (0 + length (layout_item i)))))) =
-      right_head 0 c.args.t.header _ (sym c.requires.0.0 ∙ c.if-not-asked.false) in
+    let i = raw_item a.t a.values.now in
+    item_writing a.times 0 i
+    ≡ refuse (leb (often_of (name_of a.t.header)) a.times) repeated_name 0
+    (refuse (not (length_right i)) cut_contents 0 (sound_then (header_at 0) (fault_in i) (Accepted (0 + length (layout_item i)))))) =
+    right_head 0 c.args.t.header _ (sym c.requires.0.0 ∙ not-false _ c.if-not-asked.false) in
     let past-10 : (let a = c.args in
-      let i = raw_item a.t a.values.now in
-      item_writing a.times 0 i
-      ≡ refuse (not (length_right i)) cut_contents 0 (sound_then (header_at 0) (fault_in i) (Accepted (0 + length (layout_item i))))) =
-      rw (past-9, ← c.often_of-most.ensures, lt-leb _ _ c.if-most-times.false) in
+    let i = raw_item a.t a.values.now in
+    item_writing a.times 0 i
+    ≡ refuse (not (length_right i)) cut_contents 0 (sound_then (header_at 0) (fault_in i) (Accepted (0 + length (layout_item i))))) =
+    rw (past-9, ← c.often_of-most.ensures, lt-leb _ _ c.if-most-times.false) in
     rw (past-10, ← c.length_right.ensures, c.if-not-length_right.true)
 
 pub overflow_add-before : goal.overflow_add-before
@@ -70,23 +69,23 @@ pub returns : goal.returns
 unfolding item_writing
 returns c =
     let past-9 : (let a = c.args in
-      let i = raw_item a.t a.values.now in
-      item_writing a.times 0 i
-      ≡ refuse (leb (often_of (name_of a.t.header)) a.times) repeated_name 0
-      (refuse (not (length_right i)) cut_contents 0 (sound_then (header_at 0) (fault_in i) (Accepted (0 + length (layout_item i)))))) =
-      right_head 0 c.args.t.header _ (sym c.requires.0.0 ∙ c.if-not-asked.false) in
+    let i = raw_item a.t a.values.now in
+    item_writing a.times 0 i
+    ≡ refuse (leb (often_of (name_of a.t.header)) a.times) repeated_name 0
+    (refuse (not (length_right i)) cut_contents 0 (sound_then (header_at 0) (fault_in i) (Accepted (0 + length (layout_item i)))))) =
+    right_head 0 c.args.t.header _ (sym c.requires.0.0 ∙ not-false _ c.if-not-asked.false) in
     let past-10 : (let a = c.args in
-      let i = raw_item a.t a.values.now in
-      item_writing a.times 0 i
-      ≡ refuse (not (length_right i)) cut_contents 0 (sound_then (header_at 0) (fault_in i) (Accepted (0 + length (layout_item i))))) =
-      rw (past-9, ← c.often_of-most.ensures, lt-leb _ _ c.if-most-times.false) in
+    let i = raw_item a.t a.values.now in
+    item_writing a.times 0 i
+    ≡ refuse (not (length_right i)) cut_contents 0 (sound_then (header_at 0) (fault_in i) (Accepted (0 + length (layout_item i))))) =
+    rw (past-9, ← c.often_of-most.ensures, lt-leb _ _ c.if-most-times.false) in
     let i = raw_item c.args.t c.args.values.now in
     let k = fault_as_lem c.args.held i c.requires.1 in
     let s = ap (λ (y : List ℕ). length y) (contents_as c.args.held i c.requires.1) in
     let e : c.len_as.result + (1 + c.lead-before.result) ≡ 0 + length (layout_item i) =
     omega (arith, length-layout i, c.len_as.ensures, c.lead-before.ensures, ap lead_of c.extent_of.ensures) in
     rw (past-10, ← c.length_right.ensures, c.if-not-length_right.false, ← k, ← c.values_fault-f.ensures)
-    (c.at_header.ensures ∙ ap (λ c.before.before. sound_then (header_at 0) c.values_fault-f.result (Accepted c.before.before)) (omega arith))
+    (c.at_header.ensures ∙ ap (λ n. sound_then (header_at 0) c.values_fault-f.result (Accepted n)) (omega arith))
 
 pub length_right-requires : goal.length_right-requires
 length_right-requires c = c.requires.1

@@ -1,5 +1,4 @@
 -- `length_fits` meets its contract: each arm is a case of the rule.
-use borrow.Author.Rules.{rules}
 use Rattle.layout.proofs.length_fits.Goals as goal
 
 pub returns-in-Fixed : goal.returns-in-Fixed

@@ -1,7 +1,6 @@
 -- `length_right` meets its contract: contents are tested by the PLI, digits of PLI 10 by their count, and numbers have a length octet.
 use native.Mathlib.Omega.{arith}
 use mathlib.Core.Path.{◌≡◌, sym, ◌∙◌}
-use borrow.Author.Rules.{rules}
 use Rattle.annex.specs.Items.{held_as}
 use Rattle.annex.specs.declared.Holding.TheVariants.{AsContents, AsGeneric}
 use Rattle.annex.specs.Records.{raw_item}

@@ -1,7 +1,6 @@
 -- `put` meets its contract: where the room suffices all of the parameter is written, and else nothing.
 use mathlib.Core.Path.{refl, sym, ◌∙◌}
-use borrow.Author.Rules.{rules}
-use borrow.Author.Tests.{leb-true, not-true, not-false}
+use borrow.Author.Tests.{leb-true}
 use lib.ListN.{length}
 use Rattle.annex.specs.Layout.{layout_item}
 use Rattle.annex.specs.Records.{raw_item}

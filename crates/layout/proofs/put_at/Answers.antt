@@ -3,8 +3,7 @@ use Prim.Native.Nat.{◌+◌, ◌≤◌}
 use native.Mathlib.Omega.{arith}
 use mathlib.Core.Path.{◌≡◌, sym, ◌∙◌}
 use mathlib.Core.Bool.{true}
-use borrow.Author.Rules.{rules}
-use borrow.Author.Tests.{leb-true, not-true, not-false}
+use borrow.Author.Tests.{leb-true}
 use lib.Dec.{leb}
 use lib.ListN.{length, length-drop}
 use Rattle.annex.specs.Layout.{layout_item}
@@ -20,32 +19,32 @@ returns-then-not-lies_within c =
 pub slice_bounds-put_whole-start : goal.slice_bounds-put_whole-start
 slice_bounds-put_whole-start c =
     let fits : leb (c.args.at + c.args.len) (length c.args.room.now) ≡ true =
-      sym c.lies_within.ensures ∙ c.if-not-lies_within.false in
+    sym c.lies_within.ensures ∙ c.if-not-lies_within.false in
     let within : (let a = c.args in
-      a.at + a.len ≤ length a.room.now) =
-      let a = c.args in
-      leb-true (a.at + a.len) (length a.room.now) (fits) in
+    a.at + a.len ≤ length a.room.now) =
+    let a = c.args in
+    leb-true (a.at + a.len) (length a.room.now) (fits) in
     omega (arith, within)
 
 pub put_whole-requires : goal.put_whole-requires
 put_whole-requires c =
     let fits : leb (c.args.at + c.args.len) (length c.args.room.now) ≡ true =
-      sym c.lies_within.ensures ∙ c.if-not-lies_within.false in
+    sym c.lies_within.ensures ∙ c.if-not-lies_within.false in
     let within : (let a = c.args in
-      a.at + a.len ≤ length a.room.now) =
-      let a = c.args in
-      leb-true (a.at + a.len) (length a.room.now) (fits) in
+    a.at + a.len ≤ length a.room.now) =
+    let a = c.args in
+    leb-true (a.at + a.len) (length a.room.now) (fits) in
     (c.requires.0, rw (to_end c.args.at _, length-drop c.args.at _) (omega (arith, within, c.requires.1)))
 
 pub returns : goal.returns
 returns c =
     let fits : leb (c.args.at + c.args.len) (length c.args.room.now) ≡ true =
-      sym c.lies_within.ensures ∙ c.if-not-lies_within.false in
+    sym c.lies_within.ensures ∙ c.if-not-lies_within.false in
     let within : (let a = c.args in
-      a.at + a.len ≤ length a.room.now) =
-      let a = c.args in
-      leb-true (a.at + a.len) (length a.room.now) (fits) in
+    a.at + a.len ≤ length a.room.now) =
+    let a = c.args in
+    leb-true (a.at + a.len) (length a.room.now) (fits) in
     let a = c.args in
     let xs = layout_item (raw_item a.t a.values.now) in
     rw (← c.requires.1, fits)
-    (put_part a.room.now xs c.put_whole.new.1.1.1.0 a.at (omega (arith, within)) c.put_whole.ensures)
+    (put_part a.room.now xs c.put_whole.new.room a.at (omega (arith, within)) c.put_whole.ensures)

@@ -1,5 +1,4 @@
 -- `put_contents` meets its contract: each way of holding is written in its own way.
-use borrow.Author.Rules.{rules}
 use Rattle.layout.proofs.put_contents.Goals as goal
 
 pub copy-requires : goal.copy-requires

@@ -1,5 +1,4 @@
 -- `refusal` meets its contract: the parameter is judged by what the look-up says.
-use borrow.Author.Rules.{rules}
 use Rattle.annex.specs.Records.{raw_item}
 use Rattle.laws.specs.Laid.{own_writing}
 use Rattle.layout.proofs.Holdings.{held_of}

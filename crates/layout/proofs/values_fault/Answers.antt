@@ -1,6 +1,5 @@
 -- `values_fault` meets its contract: each arm is a case of the definition, and the look-up asks of contents what the definitions ask.
 use mathlib.Core.Path.{◌∙◌}
-use borrow.Author.Rules.{rules}
 use Rattle.parameter.specs.Asked.{fault_of_lem}
 use Rattle.layout.proofs.values_fault.Goals as goal
 
