@@ -42,8 +42,8 @@ abbrev pub used_at : Record → ℕ → ℕ
 used_at q k = lengths_of (take k q.transfer)
 
 -- the values of the transfer parameter at the place k, as a part of a slice has them
-abbrev pub field_own : Record → ℕ → ℕ → List ℕ
-field_own q k used = take (used + (transfer_at q k).len - used) (drop used q.values)
+abbrev pub own_at : Record → ℕ → ℕ → List ℕ
+own_at q k used = take (used + (transfer_at q k).len - used) (drop used q.values)
 
 -- the n transfer parameters from the place k on
 abbrev pub items_at : Record → ℕ → ℕ → List Item
@@ -149,8 +149,8 @@ module _ (q : Record) where
     pub end : used + (transfer_at q k).len ≤ length q.values
     pub small : used + (transfer_at q k).len ≤ most_values
     pub next : used + (transfer_at q k).len ≡ used_at q (k + 1)
-    pub few : length (field_own q k used) ≤ most_values
-    pub items : (end : ℕ) → k < end → items_at q k (end - k) ≡ item_from (transfer_at q k) (field_own q k used) ∷ items_at q (k + 1) (end - (k + 1))
+    pub few : length (own_at q k used) ≤ most_values
+    pub items : (end : ℕ) → k < end → items_at q k (end - k) ≡ item_from (transfer_at q k) (own_at q k used) ∷ items_at q (k + 1) (end - (k + 1))
 
   -- fewer of them lie within the arrays too
   pub within_less : (m n : ℕ) → m ≤ n → Within q n → Within q m

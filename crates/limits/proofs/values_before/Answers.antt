@@ -16,3 +16,15 @@ pub returns-then-n-k : goal.returns-then-n-k
 returns-then-n-k c =
     let e : c.loop-k.k ≡ c.args.n = omega arith in
     rw (← e) c.loop-k.invariant.3
+
+pub loop-k-preserved : goal.loop-k-preserved
+loop-k-preserved c =
+    let q = c.args.q in
+    let l : length q.transfer ≡ most_transfers = search (rules, length_mapped) in
+    (omega arith, omega arith, omega arith, omega (arith, used_next q c.loop-k.k (omega arith), c.loop-k.invariant.3))
+
+pub returns : goal.returns
+returns c =
+    let q = c.args.q in
+    let l : length q.transfer ≡ most_transfers = search (rules, length_mapped) in
+    c.loop-k.invariant.3 ∙ used_all q c.loop-k.k c.args.n (omega arith) (omega arith)
