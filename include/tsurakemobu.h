@@ -1,7 +1,7 @@
 /*
  * Tsurakemobu: the proved codec for service control messages, for C.
  *
- * Link with target/staticlib/libboundary.a, which `rt staticlib boundary` writes. The archive is for x86-64 and needs nothing
+ * Link with crates/boundary/out/libboundary.a, which `rt lib` writes in crates/boundary. The archive is for x86-64 and needs nothing
  * but memset and memcpy. The functions keep no state and allocate nothing; any thread may call any of them at any time.
  * An edit takes at most 1024 octets of stack, any other call at most 2048, beside what memset and memcpy take for themselves.
  *

@@ -1,6 +1,6 @@
 //! Where the target is not x86-64, builds the program `serve` from `serve.c`
 //! and the codec's static library, with the clang that the Rattle toolchain
-//! brings for x86-64.
+//! brings.
 
 use std::env;
 use std::path::{Path, PathBuf};

@@ -2,8 +2,8 @@
 //!
 //! The static library is for x86-64. Elsewhere this crate defines the functions
 //! of `include/tsurakemobu.h` and hands each call to the program `serve`, which
-//! is linked with the static library and runs in the emulator that the Rattle
-//! toolchain brings. It serves to test and to try the codec on such a machine.
+//! is linked with the static library and runs in the emulator `qemu-x86_64`. It
+//! serves to test and to try the codec on such a machine.
 //! On x86-64 the crate is empty.
 //!
 //! Where `serve` cannot be run, or a call wrote beside what was lent to it, the
