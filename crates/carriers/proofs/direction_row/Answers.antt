@@ -1,0 +1,7 @@
+-- `direction_row` meets its contract.
+use native.Mathlib.Nat.{add-zero}
+use borrow.Author.Rules.{rules}
+use Rattle.carriers.proofs.direction_row.Goals as goal
+
+pub returns : goal.returns
+returns c = rw (add-zero c.args.start)

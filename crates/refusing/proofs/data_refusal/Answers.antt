@@ -1,0 +1,26 @@
+-- `data_refusal` meets its contract: the parameters come first, and 14 is told from the place behind them.
+use Prim.Native.Nat.{ℕ, ◌+◌, ◌-◌, ◌≤◌, ◌<◌}
+use native.Mathlib.Omega.{arith}
+use mathlib.Core.Path.{◌≡◌, sym, ◌∙◌}
+use borrow.Author.Rules.{rules}
+use borrow.Author.Tests.{lt-ltb, le-ltb}
+use Rattle.annex.specs.Heads.{most_transfer_octets}
+use Rattle.annex.specs.Walk.{unseen}
+use Rattle.annex.specs.Writing.{items_writing, data_writing}
+use Rattle.annex.specs.declared.Answer.TheVariants.{Accepted}
+use Rattle.limits.specs.Along.{items_at}
+use Rattle.refusing.specs.Refusing.{items_behind}
+use Rattle.refusing.proofs.data_refusal.Goals as goal
+
+pub returns-in_default : goal.returns-in_default
+unfolding data_writing
+returns-in_default c =
+    rw (← c.items_refusal-a.ensures, c.in_default.is)
+
+pub overflow_sub-end : goal.overflow_sub-end
+overflow_sub-end c =
+    let taken : (let a = c.args in
+      items_writing unseen (a.at + 2) (items_at a.q a.first a.n) ≡ Accepted c.in-Accepted.end) =
+      sym c.items_refusal-a.ensures ∙ c.in-Accepted.is in
+    let a = c.args in
+    omega (arith, items_behind (items_at a.q a.first a.n) unseen (a.at + 2) _ (taken))
