@@ -115,6 +115,7 @@ returns-in_default-contents c =
 
 -- ---- the last step
 
+-- what it asks, whatever part of the stretch it is handed
 pub splice_in-requires : goal.splice_in-requires
 splice_in-requires c =
     let w =
@@ -126,7 +127,8 @@ splice_in-requires c =
     let p =
     cut c.args.kind c.args.new.now _ _ _ _ _ _ _ c.requires (octets_every c.args.new.now (λ i. omega (arith, c.type_inv.new i))) w
     (sym c.spot_in.ensures ∙ c.in-At-spot_in.is) (l ∙ c.in-Accepted-contents.is) in
-    cut_placed p
+    let q = cut_placed p in
+    record { counted = q.counted; order = omega (arith, q.order); within = omega (arith, q.within, q.order); message = q.message; whole = q.whole }
 
 pub returns : goal.returns
 returns c =
@@ -139,4 +141,4 @@ returns c =
     let p =
     cut c.args.kind c.args.new.now _ _ _ _ _ _ _ c.requires (octets_every c.args.new.now (λ i. omega (arith, c.type_inv.new i))) w
     (sym c.spot_in.ensures ∙ c.in-At-spot_in.is) (l ∙ c.in-Accepted-contents.is) in
-    handed_edits _ _ c.splice_in.ensures p refl refl
+    handed_edits c.in-At-spot_in.from c.in-At-spot_in.to c.splice_in.ensures p (omega arith) (omega arith)
