@@ -1,7 +1,6 @@
 -- `contents_answer` meets its contract: the length is that of the length rule, and the part handed on is the contents.
 use Prim.Native.Nat.{◌+◌}
 use native.Mathlib.Omega.{arith}
-use borrow.Author.Rules.{rules}
 use borrow.Author.Tests.{eq-eqb, ne_eqb}
 use lib.ListN.{length-drop}
 use lib.Seq.{get_or-drop, drop-drop}
@@ -24,8 +23,22 @@ returns-then-new-n c =
       ne_eqb _ _ c.if-new-n.true,
     )
 
+pub overflow_add-start : goal.overflow_add-start
+overflow_add-start c =
+    let l =
+    rw (← c.lead-start.ensures, ← c.octets_after-n.ensures) at
+    (lead_within c.extent_of-e.result c.octet_at.result) in
+    omega (arith, l, c.if-new-n.false)
+
 pub slice_bounds-contents_fault-start : goal.slice_bounds-contents_fault-start
 slice_bounds-contents_fault-start c =
+    let l =
+    rw (← c.lead-start.ensures, ← c.octets_after-n.ensures) at
+    (lead_within c.extent_of-e.result c.octet_at.result) in
+    omega (arith, l, c.if-new-n.false)
+
+pub slice_bounds-contents_fault-count : goal.slice_bounds-contents_fault-count
+slice_bounds-contents_fault-count c =
     let l =
     rw (← c.lead-start.ensures, ← c.octets_after-n.ensures) at
     (lead_within c.extent_of-e.result c.octet_at.result) in

@@ -1,5 +1,4 @@
 -- `head_answer` meets its contract: it goes by the kind, as the definition.
-use borrow.Author.Rules.{rules}
 use Rattle.editor.proofs.steps.head_answer.Goals as goal
 
 pub returns-in-Replacing : goal.returns-in-Replacing

@@ -1,5 +1,4 @@
 -- `new_head` meets its contract: 11 where there is no header, and then 8 and 9 as of any header that is to be written.
-use borrow.Author.Rules.{rules}
 use borrow.Author.Tests.{eq-eqb, ne_eqb}
 use Rattle.editor.proofs.steps.new_head.Goals as goal
 

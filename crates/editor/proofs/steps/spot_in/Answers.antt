@@ -1,7 +1,6 @@
 -- `spot_in` meets its contract: it goes by the kind and by what the search found, as the definition. A name may stand, so there is a last.
 use Prim.Native.Nat.{◌%◌}
 use native.Mathlib.Omega.{arith}
-use borrow.Author.Rules.{rules}
 use Rattle.laws.specs.Often.{some_often}
 use Rattle.editor.proofs.steps.spot_in.Goals as goal
 
