@@ -24,3 +24,21 @@ overflow_sub-end c =
       sym c.items_refusal-a.ensures ∙ c.in-Accepted.is in
     let a = c.args in
     omega (arith, items_behind (items_at a.q a.first a.n) unseen (a.at + 2) _ (taken))
+
+pub returns-then-end-start-gt-MOST_OCTETS : goal.returns-then-end-start-gt-MOST_OCTETS
+unfolding data_writing
+returns-then-end-start-gt-MOST_OCTETS c =
+    let a = c.args in
+    let taken : items_writing unseen (a.at + 2) (items_at a.q a.first a.n) ≡ Accepted c.in-Accepted.end =
+        sym c.items_refusal-a.ensures ∙ c.in-Accepted.is in
+    let over : most_transfer_octets < c.in-Accepted.end - (a.at + 2) = omega (arith, c.if-end-start-gt-MOST_OCTETS.true) in
+    rw (taken, lt-ltb _ _ over)
+
+pub returns : goal.returns
+unfolding data_writing
+returns c =
+    let a = c.args in
+    let taken : items_writing unseen (a.at + 2) (items_at a.q a.first a.n) ≡ Accepted c.in-Accepted.end =
+        sym c.items_refusal-a.ensures ∙ c.in-Accepted.is in
+    let under : c.in-Accepted.end - (a.at + 2) ≤ most_transfer_octets = omega (arith, c.if-end-start-gt-MOST_OCTETS.false) in
+    rw (taken, le-ltb _ _ under)
