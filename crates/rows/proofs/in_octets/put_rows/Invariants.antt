@@ -1,16 +1,11 @@
 -- `put_rows` meets its contract. The invariant: the rows from the cursor on are left to store.
-use Prim.Native.Nat.{◌+◌, ◌-◌, ◌≤◌}
-use mathlib.Core.List.{◌∷◌}
-use borrow.Author.Rules.{rules}
-use native.Mathlib.Omega.{arith}
+use Prim.Native.Nat.{◌-◌}
 use lib.ListN.{length}
-use Rattle.annex.specs.Packed.{octets_to_a_row, rows_octets}
+use Rattle.annex.specs.Packed.{rows_octets}
 use Rattle.annex.specs.Spans.{rows_of}
-use Rattle.annex.specs.Walking.{row_here, next_of}
-use Rattle.laws.specs.Runs.{Left, left_all}
+use Rattle.laws.specs.Runs.{Left}
 use Rattle.walk.specs.Cursors.{rows_from}
-use Rattle.walk.specs.Ahead.{Ahead, Turn, ahead_first, rows_first, rows_none, ahead_turn}
-use Rattle.rows.specs.Tables.{left_one, left_over, left_fits_one}
+use Rattle.walk.specs.Ahead.{Ahead}
 use Rattle.rows.proofs.in_octets.put_rows.Given as goal
 
 abbrev pub invariant-loop-c : goal.invariant-loop-c

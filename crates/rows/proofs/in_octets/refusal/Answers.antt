@@ -1,5 +1,4 @@
 -- `refusal` meets its contract: a shorter table is asked for its room, and no message has more rows than any other has room for.
-use borrow.Author.Rules.{rules}
 use Rattle.rows.specs.Tables.{count_checked, count_roomy}
 use Rattle.rows.proofs.in_octets.refusal.Goals as goal
 

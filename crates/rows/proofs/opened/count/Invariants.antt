@@ -1,13 +1,9 @@
 -- `count` meets its contract. The invariant: so many rows are counted, and those of the parameters from i on are left.
 use Prim.Native.Nat.{◌+◌, ◌-◌, ◌≤◌}
-use native.Mathlib.Omega.{arith}
-use mathlib.Core.Path.{◌≡◌, sym, ap, ◌∙◌}
-use borrow.Author.Rules.{rules}
+use mathlib.Core.Path.{◌≡◌}
 use lib.ListN.{length, drop}
 use Rattle.annex.specs.Opened.{order_listing}
-use Rattle.laws.specs.Parts.{to_end}
-use Rattle.annex.specs.Ordering.{parameter_rows, taken_of}
-use Rattle.rows.specs.Orders.{rows_over, listing_none, listing_some, count_turn}
+use Rattle.annex.specs.Ordering.{parameter_rows}
 use Rattle.rows.proofs.opened.count.Given as goal
 
 abbrev pub invariant-loop-n : goal.invariant-loop-n

@@ -1,7 +1,6 @@
 -- `left` meets its contract: past its end, or where that is past the message, nothing is left.
 use native.Mathlib.Omega.{arith}
 use mathlib.Core.Path.{sym}
-use borrow.Author.Rules.{rules}
 use borrow.Author.Tests.{lt-ltb, le-ltb}
 use Rattle.laws.specs.Parts.{from_to}
 use Rattle.rows.specs.Orders.{left_past}

@@ -1,7 +1,6 @@
 -- `next` meets its contract.
 use native.Mathlib.Omega.{arith}
 use mathlib.Core.Path.{◌≡◌, sym, ap, ◌∙◌}
-use borrow.Author.Rules.{rules}
 use borrow.Author.Tests.{eq-eqb, ne_eqb}
 use Rattle.annex.specs.declared.Cursor.{Cursor}
 use Rattle.annex.specs.Ordering.{order_left, taken_of, order_next}
@@ -21,15 +20,15 @@ pub returns-then-n-eq0 : goal.returns-then-n-eq0
 unfolding order_next
 returns-then-n-eq0 c =
     let takes : (let a = c.args in
-      c.taken-n.result ≡ taken_of (order_left a.m.now a.c)) =
-      c.taken-n.ensures ∙ ap taken_of c.left.ensures in
+    c.taken-n.result ≡ taken_of (order_left a.m.now a.c)) =
+    c.taken-n.ensures ∙ ap taken_of c.left.ensures in
     rw (ne_eqb _ _ c.if-at-eq0.false, sym (takes) ∙ c.if-n-eq0.true)
 
 pub overflow_add-result-2 : goal.overflow_add-result-2
 overflow_add-result-2 c =
     let takes : (let a = c.args in
-      c.taken-n.result ≡ taken_of (order_left a.m.now a.c)) =
-      c.taken-n.ensures ∙ ap taken_of c.left.ensures in
+    c.taken-n.result ≡ taken_of (order_left a.m.now a.c)) =
+    c.taken-n.ensures ∙ ap taken_of c.left.ensures in
     let a = c.args in
     let e = takes in
     let w = taken_within 0 (order_left a.m.now a.c) (λ z. c.if-n-eq0.false (e ∙ z)) in
@@ -39,6 +38,6 @@ pub returns : goal.returns
 unfolding order_next
 returns c =
     let takes : (let a = c.args in
-      c.taken-n.result ≡ taken_of (order_left a.m.now a.c)) =
-      c.taken-n.ensures ∙ ap taken_of c.left.ensures in
+    c.taken-n.result ≡ taken_of (order_left a.m.now a.c)) =
+    c.taken-n.ensures ∙ ap taken_of c.left.ensures in
     rw (ne_eqb _ _ c.if-at-eq0.false, ← takes) (sym (behind_more _ _ c.if-n-eq0.false))

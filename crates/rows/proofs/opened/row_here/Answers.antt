@@ -1,5 +1,4 @@
 -- `row_here` meets its contract.
-use borrow.Author.Rules.{rules}
 use borrow.Author.Tests.{eq-eqb, ne_eqb}
 use Rattle.annex.specs.Ordering.{order_rows_from}
 use Rattle.rows.proofs.opened.row_here.Goals as goal

@@ -1,5 +1,4 @@
 -- `span` meets its contract: it is where the length rule finds E0's contents.
-use borrow.Author.Rules.{rules}
 use Rattle.rows.proofs.opened.span.Goals as goal
 
 pub returns-in_default : goal.returns-in_default

@@ -2,7 +2,6 @@
 use native.Mathlib.Omega.{arith}
 use mathlib.Core.Path.{sym, ap, ◌∙◌}
 use Prim.Native.Nat.{◌+◌}
-use borrow.Author.Rules.{rules}
 use Rattle.rows.specs.Orders.{taken_short, taken_cut, taken_whole}
 use Rattle.rows.proofs.opened.taken.Goals as goal
 
