@@ -1,2 +1,0 @@
--- The walk that the functions share which fill a table of rows.
-pub mod Filling
