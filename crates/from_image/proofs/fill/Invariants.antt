@@ -1,30 +1,11 @@
 -- `fill` meets its contract. The invariant: what the octets give in all, they give by the struct so far and the common parameters that are
 -- left, from i on.
-use Prim.Native.Nat.{ℕ, suc, ◌≤◌, ◌<◌, ◌+◌, ◌-◌}
-use native.Mathlib.Omega.{arith}
-use mathlib.Core.Path.{◌≡◌, sym, ap, ◌∙◌}
-use mathlib.Core.Bool.{cond}
-use mathlib.Core.List.{List}
-use borrow.Author.Rules.{rules}
-use borrow.Author.Tests.{not-true, not-false, eq-eqb, ne_eqb}
-use lib.Dec.{eqb}
-use lib.ListN.{length, drop, length-drop}
+use Prim.Native.Nat.{◌≤◌}
+use mathlib.Core.Path.{◌≡◌}
+use lib.ListN.{length, drop}
 use Rattle.annex.specs.Heads.{most_transfers, most_commons, most_values}
-use Rattle.annex.specs.Image.{items_front, common_front, parts_front, no_image, imaged_by, octets_to_a_common_head}
-use Rattle.annex.specs.declared.Answer.TheVariants.{Accepted}
-use Rattle.laws.specs.Parts.{to_end}
-use Rattle.laws.specs.Filling.{empty_packed}
-use Rattle.from_image.specs.Filling.{
-  filled_by,
-  imaged_from,
-  imaged_start,
-  Next,
-  parts_short,
-  parts_over,
-  parts_stop,
-  parts_next,
-  parts_end,
-}
+use Rattle.annex.specs.Image.{parts_front, imaged_by}
+use Rattle.from_image.specs.Filling.{imaged_from}
 use Rattle.from_image.proofs.fill.Given as goal
 
 abbrev pub invariant-loop-left : goal.invariant-loop-left

@@ -3,7 +3,6 @@ use Prim.Native.Nat.{ℕ}
 use native.Mathlib.Omega.{arith}
 use mathlib.Core.Path.{sym, ap, ◌∙◌}
 use mathlib.Core.List.{List}
-use borrow.Author.Rules.{rules}
 use lib.ListN.{length, get_or}
 use Rattle.annex.specs.Image.{parts_front, imaged_by}
 use Rattle.laws.specs.Parts.{to_end}
@@ -15,7 +14,7 @@ returns-then-image-eq0 c =
     c.refused.ensures ∙ sym (image_none c.args.image.now c.if-image-eq0.true)
 
 pub overflow_cast-count : goal.overflow_cast-count
-overflow_cast-count c = omega (arith, c.shared_slice_known-2-1.given 0)
+overflow_cast-count c = omega (arith, c.type_inv.image 0)
 
 pub returns : goal.returns
 returns c =

@@ -1,5 +1,4 @@
 -- `refused` meets its contract: the struct in it is the empty one.
-use borrow.Author.Rules.{rules}
 use Rattle.from_image.proofs.refused.Goals as goal
 
 pub returns : goal.returns

@@ -1,5 +1,4 @@
 -- `none` meets its contract: the struct in it is the empty one.
-use borrow.Author.Rules.{rules}
 use Rattle.laws.specs.Filling.{empty_packed}
 use Rattle.from_image.proofs.Filled.none.Goals as goal
 

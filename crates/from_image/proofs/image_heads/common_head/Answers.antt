@@ -1,5 +1,4 @@
 -- `common_head` meets its contract: each field is what the definition reads there.
-use borrow.Author.Rules.{rules}
 use Rattle.from_image.proofs.image_heads.common_head.Goals as goal
 
 pub returns : goal.returns

@@ -1,7 +1,6 @@
 -- `is_whole` meets its contract: first the head, then the values behind it.
 use native.Mathlib.Omega.{arith}
 use mathlib.Core.Path.{sym}
-use borrow.Author.Rules.{rules}
 use borrow.Author.Tests.{lt-leb}
 use lib.ListN.{length}
 use Rattle.annex.specs.Image.{item_size}

@@ -1,5 +1,4 @@
 -- `octet_with` meets its contract: its two arms are the two cases of the definition.
-use borrow.Author.Rules.{rules}
 use borrow.Author.Tests.{eq-eqb, ne_eqb}
 use Rattle.from_image.proofs.image_heads.octet_with.Goals as goal
 

@@ -1,5 +1,4 @@
 -- `transfer_head` meets its contract: each octet stands where the definition reads it.
-use borrow.Author.Rules.{rules}
 use Rattle.from_image.proofs.image_heads.transfer_head.Goals as goal
 
 pub returns : goal.returns
