@@ -117,3 +117,38 @@ returns c =
     let none : layout_items (items_at c.args.q c.loop-k.k (c.args.first + c.args.n - c.loop-k.k)) ≡ [] =
     rw (items_end c.args.q c.loop-k.k (c.args.first + c.args.n) c.loop-k-test.false) in
     (laid_count c.loop-k.invariant.3 c.requires.1 none, laid_end c.loop-k.invariant.3 c.requires.1 none)
+
+pub overflow_add-at : goal.overflow_add-at
+unfolding layout_items
+overflow_add-at c =
+    let item_at : Item =
+      let q = c.args.q in
+      let k = c.loop-k.k in
+      item_from (transfer_at q k) (own_at q k c.loop-k.used) in
+    let here : Turn c.args.q c.loop-k.k c.loop-k.used =
+      let q = c.args.q in
+      let l : length q.transfer ≡ most_transfers = search (rules, length_mapped) in
+      let v : length q.values ≡ most_values = search rules in
+      turn q c.loop-k.k (c.args.first + c.args.n) c.loop-k.used l v c.requires.0 c.loop-k-test.true c.loop-k.invariant.2 in
+    let left_is : (let end = c.args.first + c.args.n in
+      layout_items (items_at c.args.q c.loop-k.k (end - c.loop-k.k))
+      ≡ layout_item (item_at) ++ layout_items (items_at c.args.q (c.loop-k.k + 1) (end - (c.loop-k.k + 1)))) =
+      let end = c.args.first + c.args.n in
+      rw ((here).items end c.loop-k-test.true) in
+    omega (
+    arith,
+    c.item_len-at.ensures,
+    laid_fits c.loop-k.invariant.3 c.requires.1 (layout_item (item_at)) _ (left_is),
+    laid_length c.loop-k.invariant.3 c.requires.1,
+    c.well_formed,
+    )
+
+pub loop-k-init : goal.loop-k-init
+loop-k-init c =
+    let a = c.args in
+    let e : a.first + a.n - a.first ≡ a.n = omega arith in (
+      omega arith,
+      omega arith,
+      c.values_before-used.ensures,
+      rw e (laid_start a.room.now (layout_items (items_at a.q a.first a.n))),
+    )

@@ -167,3 +167,61 @@ returns c =
     let mark-left : layout (parts_at c.args.q c.loop-k.k c.loop-k.first) ≡ end_mark ∷ [] =
       ap layout (parts_end c.args.q c.loop-k.k c.loop-k-test.false c.loop-k.first) in
     laid_last c.loop-k.invariant.2 c.requires.1 end_mark (mark-left)
+
+pub overflow_add-at-in-loop-k : goal.overflow_add-at-in-loop-k
+overflow_add-at-in-loop-k c =
+    let long : c.args.q.commons ≤ length c.args.q.common =
+      let q = c.args.q in
+      let l : length q.common ≡ most_commons = search (rules, length_mapped) in
+      omega (arith, l, c.requires.0.commons) in
+    let data_here : DataTurn c.args.q c.loop-k.k c.loop-k-test.true (long) c.loop-k.first =
+      data_turn c.args.q c.loop-k.k c.loop-k-test.true (long) c.loop-k.first c.requires.0
+      c.loop-k.invariant.1 c.if-c.false in
+    let data-left : (let q = c.args.q in
+      let n = (common_at q c.loop-k.k).transfers in
+      layout (parts_at q c.loop-k.k c.loop-k.first)
+      ≡ data_laid (items_at q c.loop-k.first n) ++ layout (parts_at q (c.loop-k.k + 1) (c.loop-k.first + n))) =
+      let q = c.args.q in
+      let h = common_at q c.loop-k.k in
+      let is = items_at q c.loop-k.first h.transfers in
+      let rest = parts_at q (c.loop-k.k + 1) (c.loop-k.first + h.transfers) in
+      ap layout (data_here).parts ∙ layout-cons (part_from h is) rest
+      ∙ ap (λ (l : List ℕ). l ++ layout rest) (data_laid_lem h is c.if-c.false) in
+    omega (
+    arith,
+    c.put_data-at.ensures.0,
+    laid_fits c.loop-k.invariant.2 c.requires.1 (data_laid _) _ (data-left),
+    laid_length c.loop-k.invariant.2 c.requires.1,
+    c.well_formed,
+    )
+
+pub overflow_add-at : goal.overflow_add-at
+overflow_add-at c =
+    let headAt : List ℕ =
+      layout_part (raw_part (common_at c.args.q c.loop-k.k) []) in
+    let long : c.args.q.commons ≤ length c.args.q.common =
+      let q = c.args.q in
+      let l : length q.common ≡ most_commons = search (rules, length_mapped) in
+      omega (arith, l, c.requires.0.commons) in
+    let plain_here : PlainTurn c.args.q c.loop-k.k c.loop-k-test.true (long) c.loop-k.first =
+      plain_turn c.args.q c.loop-k.k c.loop-k-test.true (long) c.loop-k.first c.loop-k.invariant.1 c.if-c.true in
+    let plain-left : (let q = c.args.q in
+      layout (parts_at q c.loop-k.k c.loop-k.first)
+      ≡ headAt ++ layout (parts_at q (c.loop-k.k + 1) c.loop-k.first)) =
+      let q = c.args.q in
+      let h = common_at q c.loop-k.k in
+      let rest = parts_at q (c.loop-k.k + 1) c.loop-k.first in
+      ap layout (plain_here).parts ∙ layout-cons (part_from h []) rest
+      ∙ ap (λ (l : List ℕ). l ++ layout rest) (plain_laid h [] c.if-c.true) in
+    let head-fits : (let l = c.loop-k in
+      l.at + length (headAt) ≤ length l.room) =
+      laid_fits c.loop-k.invariant.2 c.requires.1 (headAt) _ (plain-left) in
+    let head-is : c.head_len-at.result ≡ length (headAt) =
+      c.head_len-at.ensures ∙ head_laid (value_head _ 0) ∙ sym (head_laid (common_at c.args.q c.loop-k.k)) in
+    omega (arith, head-is, head-fits, laid_length c.loop-k.invariant.2 c.requires.1, c.well_formed)
+
+pub loop-k-init : goal.loop-k-init
+loop-k-init c =
+    let a = c.args in
+    let whole = layout (view a.q) in
+    (omega arith, omega arith, rw (← parts_start a.q) (laid_start a.room.now whole))
