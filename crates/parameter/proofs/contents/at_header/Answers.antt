@@ -1,5 +1,4 @@
 -- `at_header` meets its contract: each arm is a case of the definition.
-use borrow.Author.Rules.{rules}
 use Rattle.parameter.proofs.contents.at_header.Goals as goal
 
 pub returns-in-Sound : goal.returns-in-Sound

@@ -1,5 +1,4 @@
 -- `calling_fault` meets its contract: its tests are those of the definition, in their order.
-use borrow.Author.Rules.{rules}
 use borrow.Author.Tests.{eq-eqb, ne_eqb}
 use Rattle.annex.specs.Contents.{calling_fault}
 use Rattle.parameter.proofs.contents.calling_fault.Goals as goal

@@ -1,5 +1,4 @@
 -- `check_fault` meets its contract: each arm is a case of the definition.
-use borrow.Author.Rules.{rules}
 use Rattle.parameter.proofs.contents.check_fault.Goals as goal
 
 pub returns-in-Long : goal.returns-in-Long

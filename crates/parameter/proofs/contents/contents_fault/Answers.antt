@@ -1,6 +1,5 @@
 -- `contents_fault` meets its contract: the look-up asks what the definitions ask.
 use mathlib.Core.Path.{◌∙◌}
-use borrow.Author.Rules.{rules}
 use Rattle.parameter.specs.Asked.{fault_of_lem}
 use Rattle.parameter.proofs.contents.contents_fault.Goals as goal
 

@@ -1,5 +1,4 @@
 -- `dialled_fault` meets its contract: the digits are those behind the count octet.
-use borrow.Author.Rules.{rules}
 use Rattle.annex.specs.Contents.{dialled_fault}
 use Rattle.parameter.proofs.contents.dialled_fault.Goals as goal
 

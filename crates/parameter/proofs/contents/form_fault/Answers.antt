@@ -1,5 +1,4 @@
 -- `form_fault` meets its contract: each arm is a case of the definition.
-use borrow.Author.Rules.{rules}
 use Rattle.parameter.proofs.contents.form_fault.Goals as goal
 
 pub returns-in-Checked : goal.returns-in-Checked

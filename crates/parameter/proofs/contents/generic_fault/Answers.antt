@@ -1,5 +1,4 @@
 -- `generic_fault` meets its contract: its tests are those of the definition, in their order, and the number is what follows one octet.
-use borrow.Author.Rules.{rules}
 use borrow.Author.Tests.{eq-eqb, ne_eqb}
 use Rattle.annex.specs.Contents.{generic_fault}
 use Rattle.parameter.proofs.contents.generic_fault.Goals as goal

@@ -1,5 +1,4 @@
 -- `two_fault` meets its contract: its tests are those of the definition, in their order.
-use borrow.Author.Rules.{rules}
 use borrow.Author.Tests.{eq-eqb, ne_eqb}
 use Rattle.annex.specs.Contents.{two_fault}
 use Rattle.parameter.proofs.contents.two_fault.Goals as goal

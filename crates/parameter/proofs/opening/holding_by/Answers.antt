@@ -1,5 +1,4 @@
 -- `holding_by` meets its contract: each form is a case of the definition, and DA is told by its first octet.
-use borrow.Author.Rules.{rules}
 use borrow.Author.Tests.{eq-eqb, ne_eqb}
 use Rattle.parameter.proofs.opening.holding_by.Goals as goal
 

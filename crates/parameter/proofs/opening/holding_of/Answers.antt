@@ -1,5 +1,4 @@
 -- `holding_of` meets its contract: the header has the form that the look-up says.
-use borrow.Author.Rules.{rules}
 use Rattle.annex.specs.Items.{holding_of}
 use Rattle.parameter.proofs.opening.holding_of.Goals as goal
 

@@ -1,6 +1,5 @@
 -- `open_digits` meets its contract: the octets behind the count octet hold the digits that it tells, or fewer where they end.
 use Rattle.std.specs.Prelude.{not}
-use native.Mathlib.Omega.{arith}
 use mathlib.Core.Path.{◌≡◌, refl, sym, ap, ◌∙◌}
 use Prim.Native.Nat.{ℕ, ◌/◌}
 use mathlib.Core.List.{List}
@@ -12,14 +11,12 @@ use Rattle.annex.specs.Items.{open_marks, open_by}
 use Rattle.annex.specs.Memory.{values_fit}
 use Rattle.annex.specs.Promises.{Stores}
 use Rattle.annex.specs.Records.{head_of}
-use Rattle.annex.specs.declared.HalfOctets.{HalfOctets}
 use Rattle.annex.specs.declared.Marks.{Marks}
 use Rattle.annex.specs.declared.Marks.TheVariants.{Unmarked, Notified, Verified, Typed}
 use Rattle.annex.specs.declared.Holding.TheVariants.{AsDigits}
 use Rattle.annex.specs.declared.Alphabet.TheVariants.{Dialled}
 use Rattle.digits.specs.Unpacked.{length_there}
-use Rattle.parameter.specs.Stored.{not_stored, all_stored}
-use borrow.Author.Rules.{rules}
+use Rattle.parameter.specs.Stored.{all_stored}
 use Rattle.parameter.proofs.opening.open_digits.Goals as goal
 
 -- marks leave the values as they are
@@ -39,8 +36,8 @@ returns-clause-head c =
     let ds = digits s in
     let i = open_by (AsDigits a.marks) a.header s in
     let unpacked : Stores (values_fit (length a.values.now) a.used (length ds)) (sets a.values.now a.used ds) a.values.now
-      c.unpack_digits.result c.unpack_digits.new.values =
-      rw (c.counted_by-told.ensures, c.octets_from-octets.ensures, c.octet_at-first.ensures) at c.unpack_digits.ensures in
+    c.unpack_digits.result c.unpack_digits.new.values =
+    rw (c.counted_by-told.ensures, c.octets_from-octets.ensures, c.octet_at-first.ensures) at c.unpack_digits.ensures in
     let w =
     all_stored i a.used ds a.values.now _ _ (kept a.marks a.header (get_or s 0 0 / 64) ds) unpacked
     (ap not c.if-not-unpack_digits.false) in

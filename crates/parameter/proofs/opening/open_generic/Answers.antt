@@ -19,7 +19,6 @@ use Rattle.laws.specs.Stores.{Fits, fits_told}
 use Rattle.digits.specs.Unpacked.{length_there}
 use Rattle.parameter.specs.Stored.{stored_fitting}
 use Rattle.parameter.specs.Opening.{without_room, with_room, room_left, number_digits}
-use borrow.Author.Rules.{rules}
 use Rattle.parameter.proofs.opening.open_generic.Goals as goal
 
 -- the digits, as those of the number
@@ -37,7 +36,7 @@ returns-then-not-has_room-clause-head c =
     let f = c.has_room in
     let i = open_by AsGeneric a.header s in
     let counted : length i.values ≡ c.count_of-count.result.0 + 1 =
-      rw (c.count_of-count.ensures, c.octets_from-number.ensures, add-one, ← digits s) (ap suc (number_digits (drop 1 s))) in
+    rw (c.count_of-count.ensures, c.octets_from-number.ensures, add-one, ← digits s) (ap suc (number_digits (drop 1 s))) in
     let w =
     without_room i a.used (c.count_of-count.result.0 + 1) a.values.now f.result counted f.ensures (ap not c.if-not-has_room.true) in
     c.none.ensures ∙ w.0
@@ -49,7 +48,7 @@ returns-then-not-has_room-clause-put c =
     let f = c.has_room in
     let i = open_by AsGeneric a.header s in
     let counted : length i.values ≡ c.count_of-count.result.0 + 1 =
-      rw (c.count_of-count.ensures, c.octets_from-number.ensures, add-one, ← digits s) (ap suc (number_digits (drop 1 s))) in
+    rw (c.count_of-count.ensures, c.octets_from-number.ensures, add-one, ← digits s) (ap suc (number_digits (drop 1 s))) in
     let w =
     without_room i a.used (c.count_of-count.result.0 + 1) a.values.now f.result counted f.ensures (ap not c.if-not-has_room.true) in
     w.1
@@ -61,7 +60,7 @@ returns-clause-head c =
     let g = c.has_room in
     let i = open_by AsGeneric a.header s in
     let counted : length i.values ≡ c.count_of-count.result.0 + 1 =
-      rw (c.count_of-count.ensures, c.octets_from-number.ensures, add-one, ← digits s) (ap suc (number_digits (drop 1 s))) in
+    rw (c.count_of-count.ensures, c.octets_from-number.ensures, add-one, ← digits s) (ap suc (number_digits (drop 1 s))) in
     let w = with_room i a.used (c.count_of-count.result.0 + 1) a.values.now g.result counted g.ensures (ap not c.if-not-has_room.false) in
     let x : c.octet_at.result ≡ get_or s 1 0 =
     rw (c.octet_at.ensures, c.octets_from-number.ensures) (get_or-drop 1 s 0 0) in
@@ -77,25 +76,25 @@ returns-clause-put c =
     let n = c.count_of-count.result in
     let i = open_by AsGeneric a.header s in
     let counted : length i.values ≡ n.0 + 1 =
-      rw (c.count_of-count.ensures, c.octets_from-number.ensures, add-one, ← digits s) (ap suc (number_digits (drop 1 s))) in
+    rw (c.count_of-count.ensures, c.octets_from-number.ensures, add-one, ← digits s) (ap suc (number_digits (drop 1 s))) in
     let f : Fits (length a.values.now) a.used (n.0 + 1) =
-      room_left (length a.values.now) a.used (n.0 + 1) g.result g.ensures (ap not c.if-not-has_room.false) in
+    room_left (length a.values.now) a.used (n.0 + 1) g.result g.ensures (ap not c.if-not-has_room.false) in
     let w = with_room i a.used (n.0 + 1) a.values.now g.result counted g.ensures (ap not c.if-not-has_room.false) in
     let vs = set a.values.now a.used added_calling_number in
     let ds = digits_of Numbered n c.octets_from.result.now in
     let l = length_there Numbered n c.octets_from.result.now in
     let digits-fit : Fits (length vs) (a.used + 1) (length ds) =
-      record { few = omega arith; within = rw (length-set a.values.now a.used added_calling_number) (omega arith) } in
+    record { few = omega arith; within = rw (length-set a.values.now a.used added_calling_number) (omega arith) } in
     let all =
     stored_fitting (values_fit (length vs) (a.used + 1) (length ds)) _ (sets vs (a.used + 1) ds) vs _ c.unpack_digits.ensures
     (fits_told _ _ _ digits-fit) in
     let v : c.unpack_digits.new.values ≡ sets a.values.now a.used i.values =
     rw (
-    all,
-    c.octets_from.ensures,
-    c.count_of-count.ensures,
-    c.octets_from-number.ensures,
-    digits s,
-    add-one,
+      all,
+      c.octets_from.ensures,
+      c.count_of-count.ensures,
+      c.octets_from-number.ensures,
+      digits s,
+      add-one,
     ) in
     v ∙ w.1

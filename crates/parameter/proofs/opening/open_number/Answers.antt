@@ -16,8 +16,7 @@ use Rattle.annex.specs.declared.HalfOctets.{HalfOctets}
 use Rattle.annex.specs.declared.Holding.TheVariants.{AsNumber}
 use Rattle.annex.specs.declared.Alphabet.TheVariants.{Numbered}
 use Rattle.parameter.specs.Opening.{number_digits}
-use Rattle.parameter.specs.Stored.{not_stored, all_stored, few_stored}
-use borrow.Author.Rules.{rules}
+use Rattle.parameter.specs.Stored.{all_stored, few_stored}
 use Rattle.parameter.proofs.opening.open_number.Goals as goal
 
 abbrev digits : List ℕ → List ℕ
@@ -29,14 +28,14 @@ overflow_cast-count c =
     let s = a.s.now in
     let ds = digits s in
     let unpacked : Stores (values_fit (length a.values.now) a.used (length ds)) (sets a.values.now a.used ds) a.values.now
-      c.unpack_digits.result c.unpack_digits.new.values =
-      rw (c.octets_from.ensures, c.count_of-count.ensures) at c.unpack_digits.ensures in
+    c.unpack_digits.result c.unpack_digits.new.values =
+    rw (c.octets_from.ensures, c.count_of-count.ensures) at c.unpack_digits.ensures in
     omega (
-    arith,
-    (few_stored (open_by (AsNumber false) a.header s) a.used ds a.values.now _ _ refl unpacked (ap not c.if-not-unpack_digits.false)
-    ).few,
-    number_digits s,
-    ap (λ (k : HalfOctets). k.0) c.count_of-count.ensures,
+      arith,
+      (few_stored (open_by (AsNumber false) a.header s) a.used ds a.values.now _ _ refl unpacked (ap not c.if-not-unpack_digits.false)
+          ).few,
+      number_digits s,
+      ap (λ (k : HalfOctets). k.0) c.count_of-count.ensures,
     )
 
 pub returns-clause-head : goal.returns-clause-head
@@ -46,8 +45,8 @@ returns-clause-head c =
     let ds = digits s in
     let i = open_by (AsNumber false) a.header s in
     let unpacked : Stores (values_fit (length a.values.now) a.used (length ds)) (sets a.values.now a.used ds) a.values.now
-      c.unpack_digits.result c.unpack_digits.new.values =
-      rw (c.octets_from.ensures, c.count_of-count.ensures) at c.unpack_digits.ensures in
+    c.unpack_digits.result c.unpack_digits.new.values =
+    rw (c.octets_from.ensures, c.count_of-count.ensures) at c.unpack_digits.ensures in
     let w = all_stored i a.used ds a.values.now _ _ refl unpacked (ap not c.if-not-unpack_digits.false) in
     let l : length ds ≡ c.count_of-count.result.0 = number_digits s ∙ ap (λ (k : HalfOctets). k.0) (sym c.count_of-count.ensures) in
     let h : c.number.result ≡ head_of i =

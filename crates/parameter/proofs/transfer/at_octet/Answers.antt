@@ -1,6 +1,5 @@
 -- `at_octet` meets its contract: each arm is a case of the definition, and its test is that of the placing.
 use native.Mathlib.Omega.{arith}
-use borrow.Author.Rules.{rules}
 use borrow.Author.Tests.{ne_eqb}
 use Rattle.parameter.proofs.transfer.at_octet.Goals as goal
 

@@ -1,5 +1,4 @@
 -- `transfer` meets its contract: it is judged by what the look-up says.
-use borrow.Author.Rules.{rules}
 use Rattle.parameter.proofs.transfer.transfer.Goals as goal
 
 pub judged-requires : goal.judged-requires
