@@ -1,12 +1,8 @@
-use Prim.Native.Nat.{◌+◌, ◌-◌, ◌≤◌}
 use native.Mathlib.Omega.{arith}
-use mathlib.Core.Path.{◌≡◌, sym, ap}
-use borrow.Author.Rules.{rules}
+use mathlib.Core.Path.{sym, ap}
 use lib.ListN.{length}
-use Rattle.annex.specs.Transit.{entries_of}
 use Rattle.annex.specs.declared.Cursor.{Cursor}
-use Rattle.entries.specs.Left.{entries_left}
-use Rattle.carriers.specs.Rows.{Going, going_first, going_on, onward, entries_next, none_left, entries_counted}
+use Rattle.carriers.specs.Rows.{going_first, going_on, onward, entries_next, none_left, entries_counted}
 use Rattle.carriers.proofs.count.Goals as goal
 
 pub loop-c-init : goal.loop-c-init

@@ -1,7 +1,5 @@
 -- `digits_here` meets its contract.
 use mathlib.Core.Path.{◌≡◌, sym, ap, ◌∙◌}
-use borrow.Author.Rules.{rules}
-use borrow.Author.Tests.{not-true, not-false}
 use lib.ListN.{length}
 use Rattle.annex.specs.Entering.{entry_stretch}
 use Rattle.annex.specs.declared.Found.TheVariants.{At}
@@ -23,37 +21,37 @@ returns-in_default c =
 pub returns : goal.returns
 returns c =
     let found : (let a = c.args in
-      entry_stretch a.s.now a.c ≡ At c.in-At.from c.in-At.to) =
-      sym c.inside.ensures ∙ c.in-At.is in
+    entry_stretch a.s.now a.c ≡ At c.in-At.from c.in-At.to) =
+    sym c.inside.ensures ∙ c.in-At.is in
     rw (sym c.is_code.ensures ∙ c.if-not-is_code.false, found)
     (ap (λ (n : HalfOctets). n.0) c.code_count-count.ensures)
 
 pub slice_bounds-code_count-count : goal.slice_bounds-code_count-count
 slice_bounds-code_count-count c =
     let found : (let a = c.args in
-      entry_stretch a.s.now a.c ≡ At c.in-At.from c.in-At.to) =
-      sym c.inside.ensures ∙ c.in-At.is in
+    entry_stretch a.s.now a.c ≡ At c.in-At.from c.in-At.to) =
+    sym c.inside.ensures ∙ c.in-At.is in
     let stands : (let a = c.args in
-      Stands (length a.s.now) a.c.at c.in-At.from c.in-At.to) =
-      entry_stands _ _ _ _ (found) in
+    Stands (length a.s.now) a.c.at c.in-At.from c.in-At.to) =
+    entry_stands _ _ _ _ (found) in
     (stands).order
 
 pub slice_bounds-code_count-start : goal.slice_bounds-code_count-start
 slice_bounds-code_count-start c =
     let found : (let a = c.args in
-      entry_stretch a.s.now a.c ≡ At c.in-At.from c.in-At.to) =
-      sym c.inside.ensures ∙ c.in-At.is in
+    entry_stretch a.s.now a.c ≡ At c.in-At.from c.in-At.to) =
+    sym c.inside.ensures ∙ c.in-At.is in
     let stands : (let a = c.args in
-      Stands (length a.s.now) a.c.at c.in-At.from c.in-At.to) =
-      entry_stands _ _ _ _ (found) in
+    Stands (length a.s.now) a.c.at c.in-At.from c.in-At.to) =
+    entry_stands _ _ _ _ (found) in
     (stands).order
 
 pub slice_bounds-code_count-end : goal.slice_bounds-code_count-end
 slice_bounds-code_count-end c =
     let found : (let a = c.args in
-      entry_stretch a.s.now a.c ≡ At c.in-At.from c.in-At.to) =
-      sym c.inside.ensures ∙ c.in-At.is in
+    entry_stretch a.s.now a.c ≡ At c.in-At.from c.in-At.to) =
+    sym c.inside.ensures ∙ c.in-At.is in
     let stands : (let a = c.args in
-      Stands (length a.s.now) a.c.at c.in-At.from c.in-At.to) =
-      entry_stands _ _ _ _ (found) in
+    Stands (length a.s.now) a.c.at c.in-At.from c.in-At.to) =
+    entry_stands _ _ _ _ (found) in
     (stands).within

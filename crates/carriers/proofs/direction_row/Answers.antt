@@ -1,6 +1,5 @@
 -- `direction_row` meets its contract.
 use native.Mathlib.Nat.{add-zero}
-use borrow.Author.Rules.{rules}
 use Rattle.carriers.proofs.direction_row.Goals as goal
 
 pub returns : goal.returns

@@ -1,13 +1,12 @@
-use Prim.Native.Nat.{ℕ, ◌+◌, ◌-◌, ◌≤◌, ◌<◌}
+use Prim.Native.Nat.{ℕ, ◌+◌, ◌*◌, ◌≤◌, ◌<◌}
 use native.Mathlib.Omega.{arith}
 use mathlib.Core.Path.{◌≡◌, ap, ◌∙◌}
 use mathlib.Core.List.{List, ◌∷◌, map}
-use borrow.Author.Rules.{rules}
 use lib.ListN.{length, get_or}
 use lib.Seq.{sets, length-sets}
 use Rattle.annex.specs.Entering.{first_entry, entry_next}
 use Rattle.annex.specs.Packed.{octets_to_a_carrier_row, carrier_row_octets, carrier_rows_octets}
-use Rattle.annex.specs.Transit.{direction_entry, entry_row}
+use Rattle.annex.specs.Transit.{direction_entry, entries_of, entry_row}
 use Rattle.annex.specs.declared.CarrierRow.{CarrierRow}
 use Rattle.annex.specs.declared.Cursor.{Cursor}
 use Rattle.laws.specs.Runs.{Left, left_all}
@@ -41,56 +40,66 @@ loop-c-init c =
     rw c.first-c.ensures (going_first c.args.s.now c.requires.0, left_all _ _ _)
 
 -- the table with the direction's row in it
-module _ (l : goal.At-loop-c) where
-  abbrev start : goal.Start
-  start = l.before.before.before.before.before.before.before.before.before
+first_so : (s table first : List ℕ) (start : ℕ) (r : CarrierRow) → r ≡ entry_row start (direction_entry (get_or s 0 0))
+    → first ≡ sets table 0 (carrier_row_octets r) → first ≡ sets table 0 (carrier_row_octets (entry_row start (direction_entry (get_or s 0 0))))
+first_so s table first start r e f = f ∙ ap (λ (x : CarrierRow). sets table 0 (carrier_row_octets x)) e
 
-  abbrev put : goal.After-put_row
-  put = l.before.before.before.before
+first_long : (s table first : List ℕ) (start : ℕ) (r : CarrierRow) → r ≡ entry_row start (direction_entry (get_or s 0 0))
+    → first ≡ sets table 0 (carrier_row_octets r) → length first ≡ length table
+first_long s table first start r e f =
+    ap length (first_so s table first start r e f)
+    ∙ length-sets table 0 (carrier_row_octets (entry_row start (direction_entry (get_or s 0 0))))
 
-  abbrev s : List ℕ
-  s = start.args.s.now
+-- at an entry its row and those behind it are left to store
+turned : (s first : List ℕ) (start place : ℕ) (cursor : Cursor) (now : List ℕ) → cursor.at < length s
+    → Going s cursor × Left (carrier_rows_octets (rows_left start s first_entry)) octets_to_a_carrier_row first (carrier_rows_octets (rows_left start s cursor)) place now
+    → Left (carrier_rows_octets (rows_left start s first_entry)) octets_to_a_carrier_row first
+    (carrier_rows_octets (here_row s cursor start ∷ rows_left start s (entry_next s cursor))) place now
+turned s first start place cursor now l i = rw (rows_next s cursor i.0 l start) at i.1
 
-  abbrev table : List ℕ
-  table = start.args.table.now
+-- and the table has room for it
+fits : (s first table : List ℕ) (start place : ℕ) (cursor : Cursor) (now : List ℕ) → cursor.at < length s
+    → Going s cursor × Left (carrier_rows_octets (rows_left start s first_entry)) octets_to_a_carrier_row first (carrier_rows_octets (rows_left start s cursor)) place now
+    → octets_to_a_carrier_row * length (entries_of s) ≤ length table → length first ≡ length table
+    → place + octets_to_a_carrier_row ≤ length now
+fits s first table start place cursor now l i room long =
+    left_fits_one _ _ _ _ (turned s first start place cursor now l i) (omega (arith, rows_fit s start (length table) room, long))
 
-  abbrev first : List ℕ
-  first = put.put-row.last.1.1.0
+pub row_here-requires : goal.row_here-requires
+row_here-requires c = omega (arith, c.requires.1, c.loop-c-test.true)
 
-  abbrev octets : List ℕ
-  octets = carrier_row_octets (entry_row start.args.start (direction_entry (get_or s 0 0)))
+pub put_row-requires-in-loop-c : goal.put_row-requires-in-loop-c
+put_row-requires-in-loop-c c =
+    let a = c.args in
+    let l = c.loop-c in
+    fits a.s.now c.put_row.new.table a.table.now a.start l.place l.c l.table c.loop-c-test.true l.invariant c.requires.2
+    (first_long a.s.now a.table.now _ a.start _ c.direction_row.ensures c.put_row.ensures)
 
-  first_so : first ≡ sets table 0 octets
-  first_so =
-      put.put-row.ensures ∙ ap (λ (r : CarrierRow). sets table 0 (carrier_row_octets r)) put.before.before.direction-row.ensures
+pub overflow_add-place : goal.overflow_add-place
+overflow_add-place c =
+    let a = c.args in
+    let l = c.loop-c in
+    let long = first_long a.s.now a.table.now _ a.start _ c.direction_row.ensures c.put_row.ensures in
+    let room = fits a.s.now c.put_row.new.table a.table.now a.start l.place l.c l.table c.loop-c-test.true l.invariant c.requires.2 long in
+    let n : l.place + octets_to_a_carrier_row ≤ length a.table.now = omega (arith, room, l.invariant.1.long, long) in
+    omega (arith, n)
 
-  first-long : length first ≡ length table
-  first-long = ap length first_so ∙ length-sets table 0 octets
+pub loop-c-smaller : goal.loop-c-smaller
+loop-c-smaller c =
+    let n = ap (λ (d : Cursor). d.at) c.next-c.ensures in
+    omega (arith, n, onward _ _ c.loop-c.invariant.0 c.loop-c-test.true, c.loop-c-test.true)
 
--- at an entry
-module _ (c : goal.In-loop-c) where
-  abbrev loop : goal.At-loop-c
-  loop = c.before.before
+pub loop-c-preserved : goal.loop-c-preserved
+loop-c-preserved c =
+    let l = c.loop-c in
+    rw c.next-c.ensures
+    (going_on _ _ l.invariant.0 c.loop-c-test.true, left_one _ _ _ _ (turned _ _ _ _ _ _ c.loop-c-test.true l.invariant) _ (rw c.row_here.ensures at c.put_row-in-loop-c.ensures))
 
-  abbrev cursor : Cursor
-  cursor = loop.loop.c
-
-  abbrev inside : cursor.at < length (s loop)
-  inside = c.loop-c-test.true
-
-  abbrev going : Going (s loop) cursor
-  going = loop.loop.inv.0
-
-  -- its row and those behind it are left to store
-  left :
-      let p = (start loop).args.start in
-      Left (carrier_rows_octets (rows_left p (s loop) first_entry)) octets_to_a_carrier_row (first loop)
-      (carrier_rows_octets (here_row (s loop) cursor p ∷ rows_left p (s loop) (entry_next (s loop) cursor)))
-      loop.loop.place loop.loop.table
-  left = rw (rows_next (s loop) cursor going inside (start loop).args.start) at loop.loop.inv.1
-
-  -- and the table has room for it
-  fits : loop.loop.place + octets_to_a_carrier_row ≤ length loop.loop.table
-  fits =
-      left_fits_one _ _ _ _ left
-      (omega (arith, rows_fit (s loop) (start loop).args.start (length (table loop)) (start loop).pre.2, first-long loop))
+pub returns : goal.returns
+returns c =
+    let a = c.args in
+    let l = c.loop-c in
+    let none = ap (map (entry_row a.start)) (none_left _ _ l.invariant.0 c.loop-c-test.false) in
+    rows_stored a.s.now a.start a.table.now c.put_row.new.table _
+    (first_so a.s.now a.table.now _ a.start _ c.direction_row.ensures c.put_row.ensures)
+    (left_over _ _ (rw none at l.invariant.1))

@@ -1,5 +1,4 @@
 -- `row_here` meets its contract.
-use borrow.Author.Rules.{rules}
 use Rattle.carriers.proofs.row_here.Goals as goal
 
 pub returns : goal.returns

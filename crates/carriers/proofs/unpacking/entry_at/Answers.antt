@@ -2,14 +2,11 @@ use Prim.Native.Nat.{ℕ, zero, suc, ◌-◌}
 use native.Mathlib.Omega.{arith}
 use mathlib.Core.Path.{◌≡◌, refl, sym, ap, ◌∙◌}
 use mathlib.Core.List.{List, ◌∷◌}
-use borrow.Author.Rules.{rules}
-use lib.ListN.{length, drop}
+use lib.ListN.{drop}
 use lib.Seq.{drop-nil}
-use Rattle.annex.specs.Carriers.{carriers_in}
-use Rattle.annex.specs.Transit.{flat_entries}
 use Rattle.annex.specs.declared.Cursor.{Cursor}
 use Rattle.entries.specs.Left.{entries_left, entries_first_left}
-use Rattle.carriers.specs.Rows.{Going, going_first, going_on, onward, entries_next, none_left}
+use Rattle.carriers.specs.Rows.{going_first, going_on, onward, entries_next, none_left}
 use Rattle.carriers.proofs.unpacking.entry_at.Goals as goal
 
 pub loop-c-init : goal.loop-c-init

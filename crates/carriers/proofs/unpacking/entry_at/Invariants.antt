@@ -1,16 +1,11 @@
 -- `entry_at` meets its contract. The invariant: of the entries from the cursor on, so many are still to be passed over.
-use Prim.Native.Nat.{ℕ, zero, suc, ◌-◌}
-use native.Mathlib.Omega.{arith}
-use mathlib.Core.Path.{◌≡◌, refl, sym, ap, ◌∙◌}
-use mathlib.Core.List.{List, ◌∷◌}
-use borrow.Author.Rules.{rules}
+use Prim.Native.Nat.{◌-◌}
+use mathlib.Core.Path.{◌≡◌}
 use lib.ListN.{length, drop}
-use lib.Seq.{drop-nil}
 use Rattle.annex.specs.Carriers.{carriers_in}
 use Rattle.annex.specs.Transit.{flat_entries}
-use Rattle.annex.specs.declared.Cursor.{Cursor}
-use Rattle.entries.specs.Left.{entries_left, entries_first_left}
-use Rattle.carriers.specs.Rows.{Going, going_first, going_on, onward, entries_next, none_left}
+use Rattle.entries.specs.Left.{entries_left}
+use Rattle.carriers.specs.Rows.{Going}
 use Rattle.carriers.proofs.unpacking.entry_at.Given as goal
 
 abbrev pub invariant-loop-c : goal.invariant-loop-c
