@@ -1,7 +1,6 @@
 -- `put_common` meets its contract: its octets are stored one after the other.
 use native.Mathlib.Numerals.{towards_suc}
 use native.Mathlib.Omega.{arith}
-use borrow.Author.Rules.{rules}
 use lib.ListN.{length-set}
 use Rattle.image_reader.proofs.put_common.Goals as goal
 

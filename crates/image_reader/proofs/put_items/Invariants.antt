@@ -1,19 +1,12 @@
 -- `put_items` meets its contract. The invariant: of the transfer data's parameters those from i on are left to store, from `at` on.
-use Prim.Native.Nat.{ℕ, ◌≤◌, ◌+◌, ◌-◌}
-use native.Mathlib.Omega.{arith}
-use mathlib.Core.Path.{◌≡◌, sym, ◌∙◌}
-use mathlib.Core.List.{List, ◌∷◌, ◌++◌}
-use borrow.Author.Rules.{rules}
-use lib.ListN.{length, get_or, take, drop, length-append}
+use Prim.Native.Nat.{◌≤◌, ◌+◌, ◌-◌}
+use mathlib.Core.Path.{◌≡◌}
+use lib.ListN.{length}
 use Rattle.annex.specs.Heads.{most_values}
-use Rattle.annex.specs.Units.{extent_of}
-use Rattle.annex.specs.Items.{Item, item_of}
 use Rattle.annex.specs.Records.{values_of}
-use Rattle.annex.specs.Image.{image_item, image_items}
-use Rattle.annex.specs.Walking.{stretch_at}
-use Rattle.laws.specs.Runs.{Left, left_all, left_some, left_none, left_fits}
-use Rattle.walk.specs.Stretches.{Whole, stretch_told}
-use Rattle.reader.specs.Filling.{items_from, items_left, items_none, items_more}
+use Rattle.annex.specs.Image.{image_items}
+use Rattle.laws.specs.Runs.{Left}
+use Rattle.reader.specs.Filling.{items_from, items_left}
 use Rattle.image_reader.proofs.put_items.Given as goal
 
 abbrev pub invariant-loop-start : goal.invariant-loop-start

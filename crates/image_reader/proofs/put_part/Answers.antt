@@ -2,7 +2,6 @@
 use native.Mathlib.Omega.{arith}
 use mathlib.Core.Path.{◌≡◌}
 use mathlib.Core.List.{[]}
-use borrow.Author.Rules.{rules}
 use borrow.Author.Tests.{eq-eqb, ne_eqb}
 use Prim.Native.Nat.{◌+◌}
 use lib.ListN.{length}
@@ -15,17 +14,15 @@ use Rattle.image_reader.proofs.put_part.Goals as goal
 
 pub put_items-laid-requires : goal.put_items-laid-requires
 put_items-laid-requires c =
-    let held : (let a = c.args in
-      items_under a.header a.contents.now ≡ items_from a.contents.now) =
-      rw (eq-eqb _ _ c.if-header-eq-TRANSFER_DATA.true) in
+    let held : items_under c.args.header c.args.contents.now ≡ items_from c.args.contents.now =
+    rw (eq-eqb _ _ c.if-header-eq-TRANSFER_DATA.true) in
     let e = held in
     (omega (arith, rw e at c.requires.0), rw e at c.requires.1, rw e at c.requires.2)
 
 pub returns-then-header-eq-TRANSFER_DATA : goal.returns-then-header-eq-TRANSFER_DATA
 returns-then-header-eq-TRANSFER_DATA c =
-    let held : (let a = c.args in
-      items_under a.header a.contents.now ≡ items_from a.contents.now) =
-      rw (eq-eqb _ _ c.if-header-eq-TRANSFER_DATA.true) in
+    let held : items_under c.args.header c.args.contents.now ≡ items_from c.args.contents.now =
+    rw (eq-eqb _ _ c.if-header-eq-TRANSFER_DATA.true) in
     let a = c.args in
     let is = items_from a.contents.now in
     let head : c.part_head.result ≡ part_head a.header a.own.now (length is) =

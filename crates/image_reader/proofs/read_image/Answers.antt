@@ -2,7 +2,6 @@
 use Prim.Native.Nat.{◌≤◌}
 use native.Mathlib.Omega.{arith}
 use mathlib.Core.Path.{◌≡◌, sym, ap, ◌∙◌}
-use borrow.Author.Rules.{rules}
 use lib.ListN.{length}
 use Rattle.annex.specs.Reading.{verdict_of, record_of}
 use Rattle.annex.specs.Image.{image_of}
@@ -24,27 +23,27 @@ returns-in_default c =
 pub put_image-n-requires : goal.put_image-n-requires
 put_image-n-requires c =
     let accepted : (let m = c.args.m.now in
-      verdict_of m ≡ Accepted (length m)) =
-      let e = sym c.verdict-a.ensures ∙ c.in-Accepted.is in
-      e ∙ ap Accepted (message_read _ _ e).length-given in
+    verdict_of m ≡ Accepted (length m)) =
+    let e = sym c.verdict-a.ensures ∙ c.in-Accepted.is in
+    e ∙ ap Accepted (message_read _ _ e).length-given in
     let roomy : (let a = c.args in
-      length (image_of (record_of a.m.now)) ≤ length a.image.now) =
-      let m = c.args.m.now in
-      let o = octets_every m (λ i. omega (arith, c.shared_slice_known-1.given i)) in
-      omega (arith, image_most m o (length m) (accepted), c.if-image-lt-MOST.false) in
+    length (image_of (record_of a.m.now)) ≤ length a.image.now) =
+    let m = c.args.m.now in
+    let o = octets_every m (λ i. omega (arith, c.type_inv.m i)) in
+    omega (arith, image_most m o (length m) (accepted), c.if-image-lt-MOST.false) in
     (accepted, roomy)
 
 pub returns : goal.returns
 returns c =
     let accepted : (let m = c.args.m.now in
-      verdict_of m ≡ Accepted (length m)) =
-      let e = sym c.verdict-a.ensures ∙ c.in-Accepted.is in
-      e ∙ ap Accepted (message_read _ _ e).length-given in
+    verdict_of m ≡ Accepted (length m)) =
+    let e = sym c.verdict-a.ensures ∙ c.in-Accepted.is in
+    e ∙ ap Accepted (message_read _ _ e).length-given in
     let roomy : (let a = c.args in
-      length (image_of (record_of a.m.now)) ≤ length a.image.now) =
-      let m = c.args.m.now in
-      let o = octets_every m (λ i. omega (arith, c.shared_slice_known-1.given i)) in
-      omega (arith, image_most m o (length m) (accepted), c.if-image-lt-MOST.false) in
+    length (image_of (record_of a.m.now)) ≤ length a.image.now) =
+    let m = c.args.m.now in
+    let o = octets_every m (λ i. omega (arith, c.type_inv.m i)) in
+    omega (arith, image_most m o (length m) (accepted), c.if-image-lt-MOST.false) in
     let a = c.args in
     let d = read_done a.m.now a.image.now _ (accepted) (roomy) in
     let n : c.put_image-n.result ≡ length (image_of (record_of a.m.now)) = omega (arith, c.put_image-n.ensures.ends) in
@@ -53,7 +52,7 @@ returns c =
 pub put_short-requires : goal.put_short-requires
 put_short-requires c =
     let accepted : (let m = c.args.m.now in
-      verdict_of m ≡ Accepted (length m)) =
-      let e = sym c.verdict-a.ensures ∙ c.in-Accepted.is in
-      e ∙ ap Accepted (message_read _ _ e).length-given in
+    verdict_of m ≡ Accepted (length m)) =
+    let e = sym c.verdict-a.ensures ∙ c.in-Accepted.is in
+    e ∙ ap Accepted (message_read _ _ e).length-given in
     accepted
