@@ -1,6 +1,5 @@
 -- `is_whole` meets its contract: its tests are those of the definition, in their order.
 use mathlib.Core.Path.{ap}
-use borrow.Author.Rules.{rules}
 use borrow.Author.Tests.{le-leb, lt-leb}
 use lib.Dec.{leb}
 use Rattle.annex.specs.Heads.{most_values}

@@ -1,7 +1,5 @@
 -- `over_limits` meets its contract: of a struct that stays within its arrays only the contents can be over.
 use mathlib.Core.Path.{◌≡◌, sym, ◌∙◌}
-use borrow.Author.Rules.{rules}
-use borrow.Author.Tests.{not-true, not-false}
 use Rattle.limits.specs.Limits.{told_whole, over_contents}
 use mathlib.Core.Bool.{Bool, true}
 use Rattle.annex.specs.declared.Record.{Record}
@@ -26,5 +24,10 @@ returns-then-not-is_whole c = rw (← c.is_whole.ensures, c.if-not-is_whole.true
 pub returns : goal.returns
 returns c =
     let q = c.args.q in
-    rw (← c.is_whole.ensures, c.if-not-is_whole.false,
-      over_contents q (whole q _ c.is_whole.ensures c.if-not-is_whole.false), c.contents_sum.ensures, c.transfers_sum-n.ensures)
+    rw (
+      ← c.is_whole.ensures,
+      c.if-not-is_whole.false,
+      over_contents q (whole q _ c.is_whole.ensures c.if-not-is_whole.false),
+      c.contents_sum.ensures,
+      c.transfers_sum-n.ensures,
+    )

@@ -1,12 +1,8 @@
 -- `transfers_sum` meets its contract. The invariant: the sum so far, and what those from k on have, are the whole.
 use Prim.Native.Nat.{◌+◌, ◌-◌, ◌*◌, ◌≤◌}
-use native.Mathlib.Omega.{arith}
 use mathlib.Core.Path.{◌≡◌}
-use borrow.Author.Rules.{rules}
-use lib.ListN.{length}
-use Rattle.annex.specs.Heads.{most_commons}
 use Rattle.annex.specs.Records.{transfers_sum, commons_in}
-use Rattle.limits.specs.Along.{transfers_at, transfers_next, transfers_end, length_mapped}
+use Rattle.limits.specs.Along.{transfers_at}
 use Rattle.limits.proofs.transfers_sum.Given as goal
 
 abbrev pub invariant-loop-k : goal.invariant-loop-k

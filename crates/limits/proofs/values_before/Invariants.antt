@@ -1,12 +1,8 @@
 -- `values_before` meets its contract. The invariant: the sum is what those before k have.
 use Prim.Native.Nat.{◌-◌, ◌*◌, ◌≤◌}
-use native.Mathlib.Omega.{arith}
-use mathlib.Core.Path.{◌≡◌, refl, ◌∙◌}
-use borrow.Author.Rules.{rules}
-use lib.ListN.{length}
+use mathlib.Core.Path.{◌≡◌}
 use Rattle.annex.specs.Heads.{most_transfers}
-use Rattle.annex.specs.Records.{lengths_of}
-use Rattle.limits.specs.Along.{used_at, used_next, used_all, length_mapped}
+use Rattle.limits.specs.Along.{used_at}
 use Rattle.limits.proofs.values_before.Given as goal
 
 abbrev pub invariant-loop-k : goal.invariant-loop-k

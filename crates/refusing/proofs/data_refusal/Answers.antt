@@ -1,8 +1,7 @@
 -- `data_refusal` meets its contract: the parameters come first, and 14 is told from the place behind them.
-use Prim.Native.Nat.{ℕ, ◌+◌, ◌-◌, ◌≤◌, ◌<◌}
+use Prim.Native.Nat.{◌+◌, ◌-◌, ◌≤◌, ◌<◌}
 use native.Mathlib.Omega.{arith}
 use mathlib.Core.Path.{◌≡◌, sym, ◌∙◌}
-use borrow.Author.Rules.{rules}
 use borrow.Author.Tests.{lt-ltb, le-ltb}
 use Rattle.annex.specs.Heads.{most_transfer_octets}
 use Rattle.annex.specs.Walk.{unseen}
@@ -20,8 +19,8 @@ returns-in_default c =
 pub overflow_sub-end : goal.overflow_sub-end
 overflow_sub-end c =
     let taken : (let a = c.args in
-      items_writing unseen (a.at + 2) (items_at a.q a.first a.n) ≡ Accepted c.in-Accepted.end) =
-      sym c.items_refusal-a.ensures ∙ c.in-Accepted.is in
+    items_writing unseen (a.at + 2) (items_at a.q a.first a.n) ≡ Accepted c.in-Accepted.end) =
+    sym c.items_refusal-a.ensures ∙ c.in-Accepted.is in
     let a = c.args in
     omega (arith, items_behind (items_at a.q a.first a.n) unseen (a.at + 2) _ (taken))
 
@@ -30,7 +29,7 @@ unfolding data_writing
 returns-then-end-start-gt-MOST_OCTETS c =
     let a = c.args in
     let taken : items_writing unseen (a.at + 2) (items_at a.q a.first a.n) ≡ Accepted c.in-Accepted.end =
-        sym c.items_refusal-a.ensures ∙ c.in-Accepted.is in
+    sym c.items_refusal-a.ensures ∙ c.in-Accepted.is in
     let over : most_transfer_octets < c.in-Accepted.end - (a.at + 2) = omega (arith, c.if-end-start-gt-MOST_OCTETS.true) in
     rw (taken, lt-ltb _ _ over)
 
@@ -39,6 +38,6 @@ unfolding data_writing
 returns c =
     let a = c.args in
     let taken : items_writing unseen (a.at + 2) (items_at a.q a.first a.n) ≡ Accepted c.in-Accepted.end =
-        sym c.items_refusal-a.ensures ∙ c.in-Accepted.is in
+    sym c.items_refusal-a.ensures ∙ c.in-Accepted.is in
     let under : c.in-Accepted.end - (a.at + 2) ≤ most_transfer_octets = omega (arith, c.if-end-start-gt-MOST_OCTETS.false) in
     rw (taken, le-ltb _ _ under)

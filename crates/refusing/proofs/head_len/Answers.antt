@@ -1,5 +1,4 @@
 -- `head_len` meets its contract: its two arms are the two lengths of a head laid out.
-use borrow.Author.Rules.{rules}
 use Rattle.annex.specs.Records.{value_head}
 use Rattle.refusing.specs.Laying.{head_laid}
 use Rattle.refusing.proofs.head_len.Goals as goal

@@ -2,8 +2,7 @@
 use mathlib.Core.Path.{◌≡◌, sym, ◌∙◌}
 use mathlib.Core.Bool.{true, not}
 use mathlib.Core.List.{[]}
-use borrow.Author.Rules.{rules}
-use borrow.Author.Tests.{ne_eqb, lt-ltb, le-ltb, not-true, not-false}
+use borrow.Author.Tests.{ne_eqb, lt-ltb, le-ltb}
 use Rattle.annex.specs.Answers.{refuse, not_allowed, bad_form}
 use Rattle.annex.specs.Heads.{among, common_headers, value_allowed}
 use Rattle.annex.specs.Allowed.{value_fits}
@@ -20,69 +19,69 @@ returns-then-header-eq-END_MARK c = rw (head_checked _ c.args.c, c.if-header-eq-
 pub returns-then-not-listed : goal.returns-then-not-listed
 returns-then-not-listed c =
     let listed-is : c.listed.result ≡ among c.args.c.header common_headers =
-      c.listed.ensures ∙ rw (ne_eqb _ _ c.if-header-eq-END_MARK.false) in
+    c.listed.ensures ∙ rw (ne_eqb _ _ c.if-header-eq-END_MARK.false) in
     rw (head_checked _ c.args.c, ← listed-is, c.if-not-listed.true)
 
 pub returns-then-times-gt0 : goal.returns-then-times-gt0
 returns-then-times-gt0 c =
     let listed-is : c.listed.result ≡ among c.args.c.header common_headers =
-      c.listed.ensures ∙ rw (ne_eqb _ _ c.if-header-eq-END_MARK.false) in
+    c.listed.ensures ∙ rw (ne_eqb _ _ c.if-header-eq-END_MARK.false) in
     let common : among c.args.c.header common_headers ≡ true =
-      sym (listed-is) ∙ c.if-not-listed.false in
+    sym (listed-is) ∙ c.if-not-listed.false in
     rw (head_checked _ c.args.c, common, lt-ltb _ _ c.if-times-gt0.true)
 
 pub returns-then-not-value_allowed : goal.returns-then-not-value_allowed
 returns-then-not-value_allowed c =
     let listed-is : c.listed.result ≡ among c.args.c.header common_headers =
-      c.listed.ensures ∙ rw (ne_eqb _ _ c.if-header-eq-END_MARK.false) in
+    c.listed.ensures ∙ rw (ne_eqb _ _ c.if-header-eq-END_MARK.false) in
     let common : among c.args.c.header common_headers ≡ true =
-      sym (listed-is) ∙ c.if-not-listed.false in
+    sym (listed-is) ∙ c.if-not-listed.false in
     let past-3 : (let a = c.args in
-      part_writing a.times 0 (raw_part a.c [])
-      ≡ refuse (not (value_allowed a.c.header a.c.value)) not_allowed 0
-      (refuse (not (value_fits (raw_part a.c []))) bad_form 0 (Accepted (head_length a.c.header)))) =
-      let a = c.args in
-      rw (head_checked a.times a.c, common, le-ltb _ _ c.if-times-gt0.false) in
+    part_writing a.times 0 (raw_part a.c [])
+    ≡ refuse (not (value_allowed a.c.header a.c.value)) not_allowed 0
+    (refuse (not (value_fits (raw_part a.c []))) bad_form 0 (Accepted (head_length a.c.header)))) =
+    let a = c.args in
+    rw (head_checked a.times a.c, common, le-ltb _ _ c.if-times-gt0.false) in
     rw (past-3, ← c.value_allowed.ensures, c.if-not-value_allowed.true)
 
 pub returns-then-not-value_fits : goal.returns-then-not-value_fits
 returns-then-not-value_fits c =
     let listed-is : c.listed.result ≡ among c.args.c.header common_headers =
-      c.listed.ensures ∙ rw (ne_eqb _ _ c.if-header-eq-END_MARK.false) in
+    c.listed.ensures ∙ rw (ne_eqb _ _ c.if-header-eq-END_MARK.false) in
     let common : among c.args.c.header common_headers ≡ true =
-      sym (listed-is) ∙ c.if-not-listed.false in
+    sym (listed-is) ∙ c.if-not-listed.false in
     let past-3 : (let a = c.args in
-      part_writing a.times 0 (raw_part a.c [])
-      ≡ refuse (not (value_allowed a.c.header a.c.value)) not_allowed 0
-      (refuse (not (value_fits (raw_part a.c []))) bad_form 0 (Accepted (head_length a.c.header)))) =
-      let a = c.args in
-      rw (head_checked a.times a.c, common, le-ltb _ _ c.if-times-gt0.false) in
+    part_writing a.times 0 (raw_part a.c [])
+    ≡ refuse (not (value_allowed a.c.header a.c.value)) not_allowed 0
+    (refuse (not (value_fits (raw_part a.c []))) bad_form 0 (Accepted (head_length a.c.header)))) =
+    let a = c.args in
+    rw (head_checked a.times a.c, common, le-ltb _ _ c.if-times-gt0.false) in
     rw (
-    past-3,
-    ← c.value_allowed.ensures,
-    c.if-not-value_allowed.false,
-    ← c.value_fits.ensures,
-    c.if-not-value_fits.true,
+      past-3,
+      ← c.value_allowed.ensures,
+      c.if-not-value_allowed.false,
+      ← c.value_fits.ensures,
+      c.if-not-value_fits.true,
     )
 
 pub returns : goal.returns
 returns c =
     let listed-is : c.listed.result ≡ among c.args.c.header common_headers =
-      c.listed.ensures ∙ rw (ne_eqb _ _ c.if-header-eq-END_MARK.false) in
+    c.listed.ensures ∙ rw (ne_eqb _ _ c.if-header-eq-END_MARK.false) in
     let common : among c.args.c.header common_headers ≡ true =
-      sym (listed-is) ∙ c.if-not-listed.false in
+    sym (listed-is) ∙ c.if-not-listed.false in
     let past-3 : (let a = c.args in
-      part_writing a.times 0 (raw_part a.c [])
-      ≡ refuse (not (value_allowed a.c.header a.c.value)) not_allowed 0
-      (refuse (not (value_fits (raw_part a.c []))) bad_form 0 (Accepted (head_length a.c.header)))) =
-      let a = c.args in
-      rw (head_checked a.times a.c, common, le-ltb _ _ c.if-times-gt0.false) in
+    part_writing a.times 0 (raw_part a.c [])
+    ≡ refuse (not (value_allowed a.c.header a.c.value)) not_allowed 0
+    (refuse (not (value_fits (raw_part a.c []))) bad_form 0 (Accepted (head_length a.c.header)))) =
+    let a = c.args in
+    rw (head_checked a.times a.c, common, le-ltb _ _ c.if-times-gt0.false) in
     rw (
-    past-3,
-    ← c.value_allowed.ensures,
-    c.if-not-value_allowed.false,
-    ← c.value_fits.ensures,
-    c.if-not-value_fits.false,
-    c.head_len-len.ensures,
-    head_laid (value_head c.args.c.header 0),
+      past-3,
+      ← c.value_allowed.ensures,
+      c.if-not-value_allowed.false,
+      ← c.value_fits.ensures,
+      c.if-not-value_fits.false,
+      c.head_len-len.ensures,
+      head_laid (value_head c.args.c.header 0),
     )

@@ -1,21 +1,10 @@
 -- `items_refusal` meets its contract. The invariant: the answer of the whole is the answer of the parameters from k on, from the place
 -- `at`, with what has been seen.
-use Prim.Native.Nat.{suc, ◌+◌, ◌-◌, ◌*◌, ◌≤◌}
-use native.Mathlib.Omega.{arith}
-use mathlib.Core.Path.{◌≡◌, sym, ◌∙◌}
-use borrow.Author.Rules.{rules}
-use lib.ListN.{length}
-use Rattle.annex.specs.Heads.{most_transfers, most_values}
-use Rattle.annex.specs.Units.{name_of}
-use Rattle.annex.specs.Items.{Item}
-use Rattle.annex.specs.Records.{raw_item, item_from}
-use Rattle.annex.specs.Walk.{unseen, times_seen}
+use Prim.Native.Nat.{◌+◌, ◌-◌, ◌*◌, ◌≤◌}
+use mathlib.Core.Path.{◌≡◌}
+use Rattle.annex.specs.Walk.{unseen}
 use Rattle.annex.specs.Writing.{items_writing}
-use Rattle.laws.specs.Often.{few_often}
-use Rattle.laws.specs.Laid.{own_header}
-use Rattle.theorems.specs.Writings.{ItemWritten, item_written}
-use Rattle.limits.specs.Along.{transfer_at, own_at, used_at, items_at, Turn, turn, items_end, length_mapped}
-use Rattle.refusing.specs.Refusing.{items_refused, items_accepted, items_over}
+use Rattle.limits.specs.Along.{used_at, items_at}
 use Rattle.refusing.proofs.items_refusal.Given as goal
 
 abbrev pub invariant-loop-k : goal.invariant-loop-k

@@ -1,5 +1,4 @@
 -- `placed` meets its contract: its arms are the cases of the definition.
-use borrow.Author.Rules.{rules}
 use Rattle.refusing.proofs.placed.Goals as goal
 
 pub returns-in-Accepted : goal.returns-in-Accepted

@@ -1,7 +1,6 @@
 -- `record_refusal` meets its contract: 1 where the record is over its limits, and else what its parameters are refused with.
 use mathlib.Core.Path.{◌≡◌, sym, ◌∙◌}
 use mathlib.Core.Bool.{false}
-use borrow.Author.Rules.{rules}
 use Rattle.limits.specs.Limits.{is_over, over_refused, under_whole, under_parts}
 use Rattle.refusing.proofs.record_refusal.Goals as goal
 

@@ -1,5 +1,4 @@
 -- `value_fits` meets its contract: its tests are those of the definition, in their order.
-use borrow.Author.Rules.{rules}
 use borrow.Author.Tests.{eq-eqb, ne_eqb}
 use Rattle.annex.specs.Allowed.{value_fits}
 use Rattle.refusing.proofs.value_fits.Goals as goal

@@ -1,7 +1,6 @@
 -- `put_data` meets its contract: the parameters stand from the third octet on, behind the header and the length octet.
 use Prim.Native.Nat.{◌-◌}
 use native.Mathlib.Omega.{arith}
-use borrow.Author.Rules.{rules}
 use lib.ListN.{length}
 use Rattle.annex.specs.Heads.{transfer_data}
 use Rattle.annex.specs.Layout.{layout_items}

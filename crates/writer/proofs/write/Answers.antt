@@ -2,7 +2,6 @@
 use native.Mathlib.Omega.{arith}
 use mathlib.Core.Path.{◌≡◌, sym, ◌∙◌}
 use mathlib.Core.List.{◌++◌}
-use borrow.Author.Rules.{rules}
 use borrow.Author.Tests.{lt-ltb}
 use lib.ListN.{length, drop}
 use Rattle.annex.specs.Layout.{layout}
@@ -27,7 +26,7 @@ pub returns-then-room-n : goal.returns-then-room-n
 unfolding writing_of written_of
 returns-then-room-n c =
     let accepted : struct_writing c.args.held ≡ Accepted c.in-Accepted.n =
-      sym c.record_refusal-a.ensures ∙ c.in-Accepted.is in
+    sym c.record_refusal-a.ensures ∙ c.in-Accepted.is in
     let e = accepted in
     let l = lt-ltb _ _ c.if-room-n.true in
     (rw (e, l), rw (e, l))
@@ -35,25 +34,25 @@ returns-then-room-n c =
 pub returns : goal.returns
 returns c =
     let accepted : struct_writing c.args.held ≡ Accepted c.in-Accepted.n =
-      sym c.record_refusal-a.ensures ∙ c.in-Accepted.is in
+    sym c.record_refusal-a.ensures ∙ c.in-Accepted.is in
     let written : StructWritten c.args.held c.in-Accepted.n =
-      struct_written _ (fits_struct c.args.held _ c.well_formed.0) _ (accepted) in
+    struct_written _ (fits_struct c.args.held _ c.well_formed.0) _ (accepted) in
     let a = c.args in
     let w = written in
     let room = a.room.now in
     let laid = layout (view a.held) in
     let e = accepted in
     let f : at_front laid room ≡ laid ++ drop c.in-Accepted.n room = rw (low_octets_lem laid w.octets, w.length-given) in (
-    sym (with_room a.held _ e (length room) c.if-room-n.false),
-    c.put_parts.ensures ∙ f
-    ∙ sym (room_after_lem a.held _ e room c.if-room-n.false),
+      sym (with_room a.held _ e (length room) c.if-room-n.false),
+      c.put_parts.ensures ∙ f
+          ∙ sym (room_after_lem a.held _ e room c.if-room-n.false),
     )
 
 pub put_parts-requires : goal.put_parts-requires
 put_parts-requires c =
     let accepted : struct_writing c.args.held ≡ Accepted c.in-Accepted.n =
-      sym c.record_refusal-a.ensures ∙ c.in-Accepted.is in
+    sym c.record_refusal-a.ensures ∙ c.in-Accepted.is in
     let written : StructWritten c.args.held c.in-Accepted.n =
-      struct_written _ (fits_struct c.args.held _ c.well_formed.0) _ (accepted) in
+    struct_written _ (fits_struct c.args.held _ c.well_formed.0) _ (accepted) in
     let w = written in
     (told_whole _ w.whole, omega (arith, w.length-given, c.if-room-n.false))

@@ -1,6 +1,5 @@
 -- `octet_charging` meets its contract: the answer decides, and its octets are copied to the front where they fit.
 use mathlib.Core.Path.{◌≡◌, sym, ◌∙◌}
-use borrow.Author.Rules.{rules}
 use Rattle.annex.specs.Charging.{charging_of, charge_octets}
 use Rattle.annex.specs.declared.ChargingAnswer.TheVariants.{Is}
 use Rattle.laws.specs.Fronts.{front_all}
@@ -11,7 +10,7 @@ use Rattle.charging.proofs.packing.octet_charging.Goals as goal
 pub returns-then-room-lt-OCTETS : goal.returns-then-room-lt-OCTETS
 returns-then-room-lt-OCTETS c =
     let told : charging_of c.args.m.now ≡ Is c.in-Is.c =
-      sym c.charging-a.ensures ∙ c.in-Is.is in
+    sym c.charging-a.ensures ∙ c.in-Is.is in
     let a = c.args in
     octets_short a.m.now a.room.now _ (told) c.if-room-lt-OCTETS.true
 
