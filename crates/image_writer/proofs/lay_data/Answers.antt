@@ -1,9 +1,8 @@
 -- `lay_data` meets its contract: the parameters come first, 14 is told from the place behind them, and the two octets before them are
 -- stored last.
-use Prim.Native.Nat.{◌+◌, ◌-◌}
+use Prim.Native.Nat.{ℕ, ◌+◌, ◌-◌}
 use mathlib.Core.Path.{◌≡◌, refl, ap, ◌∙◌}
 use mathlib.Core.List.{List}
-use Prim.Native.Nat.{ℕ}
 use borrow.Author.Rules.{rules}
 use lib.ListN.{length, set}
 use Rattle.annex.specs.Image.{items_front}
