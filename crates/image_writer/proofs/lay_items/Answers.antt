@@ -1,10 +1,9 @@
-use Prim.Native.Nat.{ℕ, suc, ◌≤◌, ◌+◌, ◌-◌, ◌*◌}
+use Prim.Native.Nat.{ℕ, suc, ◌≤◌, ◌<◌, ◌+◌, ◌-◌}
 use native.Mathlib.Omega.{arith}
-use mathlib.Core.Path.{◌≡◌, refl, sym, ap, ◌∙◌}
-use mathlib.Core.Bool.{true}
+use mathlib.Core.Path.{◌≡◌, sym, ap, ◌∙◌}
+use mathlib.Core.Bool.{Bool, true}
 use mathlib.Core.List.{List}
-use borrow.Author.Rules.{rules}
-use borrow.Author.Tests.{leb-true, not-true, not-false}
+use borrow.Author.Tests.{leb-true}
 use lib.Dec.{leb}
 use lib.ListN.{length, take, drop, length-drop}
 use Rattle.annex.specs.Units.{name_of}
@@ -12,8 +11,7 @@ use Rattle.annex.specs.Items.{Item}
 use Rattle.annex.specs.Layout.{layout_item}
 use Rattle.annex.specs.Memory.{laid_at}
 use Rattle.annex.specs.Records.{item_from}
-use Rattle.annex.specs.Walk.{unseen, times_seen}
-use Rattle.annex.specs.Writing.{item_writing}
+use Rattle.annex.specs.Walk.{Seen}
 use Rattle.annex.specs.Image.{head_front, item_size, items_front, octets_to_a_transfer_head}
 use Rattle.annex.specs.declared.Answer.{Answer}
 use Rattle.annex.specs.declared.Answer.TheVariants.{Accepted}
@@ -25,192 +23,106 @@ use Rattle.image_writer.specs.Drafts.{laid_length}
 use Rattle.image_writer.specs.Walked.{ItemsServed, items_cut, item_refused, item_accepted, items_done}
 use Rattle.image_writer.proofs.lay_items.Goals as goal
 
-pub loop-left-init : goal.loop-left-init
-loop-left-init c = (omega arith, omega arith, omega arith, refl, λ a end d l h. h)
+-- where some are left, one stands in front
+one_left : (seen : Seen) (at i left : ℕ) (s before : List ℕ) (b : Answer) (end : ℕ) (d : List ℕ) → 0 < left
+    → ItemsServed seen at i before (items_front (suc (left - 1)) (drop i s)) b end d
+    → ItemsServed seen at i before (items_front left (drop i s)) b end d
+one_left seen at i left s before b end d m h =
+    let e : left ≡ suc (left - 1) = omega arith in
+    rw e h
 
-pub shape_of-draft-then-not-is_whole : goal.shape_of-draft-then-not-is_whole
-shape_of-draft-then-not-is_whole c = c.loop-left.invariant.3
+-- the octets from index i on
+module _ (s : List ℕ) (i : ℕ) where
+  whole_of : (b x : Bool) → b ≡ leb (item_size (take (length s - i) (drop i s))) (length (take (length s - i) (drop i s))) → b ≡ x
+      → leb (item_size (drop i s)) (length (drop i s)) ≡ x
+  whole_of b x e f = sym (e ∙ ap (λ (d : List ℕ). leb (item_size d) (length d)) (to_end i s)) ∙ f
 
-pub shape_of-draft : goal.shape_of-draft
-shape_of-draft c = c.loop-left.invariant.3
+  head_of : (t : Transfer) → t ≡ head_front (take (length s - i) (drop i s)) → t ≡ head_front (drop i s)
+  head_of t e = e ∙ ap head_front (to_end i s)
 
-pub returns-in_default : goal.returns-in_default
-returns-in_default c =
-    let told : c.is_whole.result ≡ leb (item_size (drop c.loop-left.i c.args.s.now)) (length (drop c.loop-left.i c.args.s.now)) =
-      c.is_whole.ensures ∙ ap (λ (d : List ℕ). leb (item_size d) (length d)) (to_end c.loop-left.i c.args.s.now) in
-    let whole : (leb (item_size ((drop c.loop-left.i c.args.s.now))) (length ((drop c.loop-left.i c.args.s.now))) ≡ true) =
-      sym (told) ∙ c.if-not-is_whole.false in
-    let head-is : c.transfer_head-t.result ≡ head_front (drop c.loop-left.i c.args.s.now) =
-      c.transfer_head-t.ensures ∙ ap head_front (to_end c.loop-left.i c.args.s.now) in
-    let valuesAt : List ℕ =
-      let n = c.loop-left.i + octets_to_a_transfer_head in
-      take (n + c.transfer_head-t.result.len - n) (drop n c.args.s.now) in
-    let values-are : valuesAt ≡ take c.transfer_head-t.result.len (drop (c.loop-left.i + octets_to_a_transfer_head) c.args.s.now) =
-      let n = c.loop-left.i + octets_to_a_transfer_head in
-      let m : n + c.transfer_head-t.result.len - n ≡ c.transfer_head-t.result.len = omega arith in
-      ap (λ (x : ℕ). take x (drop n c.args.s.now)) m in
-    let item_at : Item =
-      item_from c.transfer_head-t.result (valuesAt) in
-    let judged : item_writing (times_of c) 0 (item_at (head_of c)) ≡ c.lay-a.result =
-      sym c.lay-a.ensures.0 in
-    let kept : draftOf c.before.before ≡ (turn_of c.before.before).before.loop.draft =
-      draft-is c.before.before _ c.in_default.is in
-    let kept-length : length (draftOf c.before.before) ≡ length (turn_of c.before.before).before.before.before.before.args.draft.now =
-      ap (λ (l : List ℕ). length l) (kept) ∙ (turn_of c.before.before).before.loop.invariant.3 in
-    let l = turn_of c.before.before.before.before in
-    let h = head_of c.before.before.before.before in
-    let v = l.before.loop in
+  ends_of : (t : Transfer) → t ≡ head_front (drop i s) → leb (item_size (drop i s)) (length (drop i s)) ≡ true
+      → i + octets_to_a_transfer_head + t.len ≤ length s
+  ends_of t e w =
+      let l : t.len ≡ (head_front (drop i s)).len = ap (λ (u : Transfer). u.len) e in
+      omega (arith, l, leb-true (item_size (drop i s)) (length (drop i s)) w, length-drop i s)
+
+  values_of : (n : ℕ) → let k = i + octets_to_a_transfer_head in take (k + n - k) (drop k s) ≡ take n (drop k s)
+  values_of n =
+      let k = i + octets_to_a_transfer_head in
+      let m : k + n - k ≡ n = omega arith in
+      ap (λ (x : ℕ). take x (drop k s)) m
+
+-- one more of an accepted one is counted in an octet
+few_times : (times : ℕ) (x : Item) (n : ℕ) → ItemWritten times 0 x n → times + 1 < 256
+few_times times x n w = omega (arith, w.fewer, few_often (name_of x.header))
+
+pub returns-then-not-is_whole-clause-served : goal.returns-then-not-is_whole-clause-served
+returns-then-not-is_whole-clause-served c =
+    let s = c.args.s.now in
+    let v = c.loop-left in
+    let w = whole_of s v.i _ _ c.is_whole.ensures c.if-not-is_whole.true in
+    rw (c.of.ensures.0, c.of.ensures.1)
+    (v.invariant.4 _ _ v.draft v.invariant.3
+    (one_left v.seen v.at v.i v.left s _ _ _ v.draft c.loop-left-test.true
+    (items_cut v.seen v.at v.i (v.left - 1) s _ v.draft w _ _ _)))
+
+pub returns-in_default-clause-served : goal.returns-in_default-clause-served
+returns-in_default-clause-served c =
+    let s = c.args.s.now in
+    let v = c.loop-left in
+    let t = c.transfer_head-t.result in
+    let d = c.lay-a.new.room in
+    let w = whole_of s v.i _ _ c.is_whole.ensures c.if-not-is_whole.false in
+    let h = head_of s v.i t c.transfer_head-t.ensures in
     let e = c.in_default.is in
-    rw (c.of-in_default.ensures.0, c.of-in_default.ensures.1, c.placed.ensures, e) (
-    serves l _ _ (draftOf c.before.before.before.before) (kept-length)
-    (item_refused v.seen v.at v.i (v.left - 1) (octets_of l.before) _ (draftOf c.before.before.before.before) (whole h.before.before)
-    h.octets_to_a_transfer_head.result (head-is h) (valuesAt h) (values-are h) _ (judged) _ _ _ e),
-    omega arith,
-    )
+    let kept : d ≡ v.draft = rw (sym c.lay-a.ensures.told ∙ e) at c.lay-a.ensures.put in
+    rw (c.of-in_default.ensures.0, c.of-in_default.ensures.1, c.placed.ensures, e)
+    (v.invariant.4 _ _ d (ap (λ (l : List ℕ). length l) kept ∙ v.invariant.3)
+    (one_left v.seen v.at v.i v.left s _ _ _ d c.loop-left-test.true
+    (item_refused v.seen v.at v.i (v.left - 1) s _ d w t h _ (values_of s v.i t.len) _ (sym c.lay-a.ensures.told) _ _ _ e)))
 
 pub overflow_add-seen : goal.overflow_add-seen
 overflow_add-seen c =
-    let valuesAt : List ℕ =
-      let n = c.loop-left.i + octets_to_a_transfer_head in
-      take (n + c.transfer_head-t.result.len - n) (drop n c.args.s.now) in
-    let item_at : Item =
-      item_from c.transfer_head-t.result (valuesAt) in
-    let judged : item_writing (times_of c) 0 (item_at (head_of c)) ≡ c.lay-a.result =
-      sym c.lay-a.ensures.0 in
-    let taken : ItemWritten (times_of c.before.before.before) 0 (item_at (head_of c.before.before.before)) c.in-Accepted.len =
-      item_written _ _ _ _ (judged ∙ c.in-Accepted.is) in
-    omega (arith, (taken).fewer, few_often (name_of (item_at (head_of c.before.before.before)).header))
-
-pub overflow_sub-left : goal.overflow_sub-left
-overflow_sub-left c = omega (arith, (turn_of c.before.before.before).loop-test.taken)
-
-pub slice_bounds-lay-end : goal.slice_bounds-lay-end
-slice_bounds-lay-end c =
-    let told : c.is_whole.result ≡ leb (item_size (drop c.loop-left.i c.args.s.now)) (length (drop c.loop-left.i c.args.s.now)) =
-      c.is_whole.ensures ∙ ap (λ (d : List ℕ). leb (item_size d) (length d)) (to_end c.loop-left.i c.args.s.now) in
-    let whole : (leb (item_size ((drop c.loop-left.i c.args.s.now))) (length ((drop c.loop-left.i c.args.s.now))) ≡ true) =
-      sym (told) ∙ c.if-not-is_whole.false in
-    let ends : c.loop-left.i + octets_to_a_transfer_head + (head_front (drop c.loop-left.i c.args.s.now)).len ≤ length c.args.s.now =
-      omega (arith, leb-true (item_size (drop c.loop-left.i c.args.s.now)) (length (drop c.loop-left.i c.args.s.now)) (whole), length-drop c.loop-left.i c.args.s.now) in
-    let head-is : c.transfer_head-t.result ≡ head_front (drop c.loop-left.i c.args.s.now) =
-      c.transfer_head-t.ensures ∙ ap head_front (to_end c.loop-left.i c.args.s.now) in
-    let len_is : c.transfer_head-t.result.len ≡ (head_front (drop c.loop-left.i c.args.s.now)).len =
-      ap (λ (t : Transfer). t.len) (head-is) in
-    omega (arith, ends, len_is)
-
-pub loop-left-smaller : goal.loop-left-smaller
-loop-left-smaller c = omega (arith, (turn_of c.before.before.before).loop-test.taken)
-
-pub loop-left-preserved : goal.loop-left-preserved
-loop-left-preserved c =
-    let told : c.is_whole.result ≡ leb (item_size (drop c.loop-left.i c.args.s.now)) (length (drop c.loop-left.i c.args.s.now)) =
-      c.is_whole.ensures ∙ ap (λ (d : List ℕ). leb (item_size d) (length d)) (to_end c.loop-left.i c.args.s.now) in
-    let whole : (leb (item_size ((drop c.loop-left.i c.args.s.now))) (length ((drop c.loop-left.i c.args.s.now))) ≡ true) =
-      sym (told) ∙ c.if-not-is_whole.false in
-    let ends : c.loop-left.i + octets_to_a_transfer_head + (head_front (drop c.loop-left.i c.args.s.now)).len ≤ length c.args.s.now =
-      omega (arith, leb-true (item_size (drop c.loop-left.i c.args.s.now)) (length (drop c.loop-left.i c.args.s.now)) (whole), length-drop c.loop-left.i c.args.s.now) in
-    let head-is : c.transfer_head-t.result ≡ head_front (drop c.loop-left.i c.args.s.now) =
-      c.transfer_head-t.ensures ∙ ap head_front (to_end c.loop-left.i c.args.s.now) in
-    let len_is : c.transfer_head-t.result.len ≡ (head_front (drop c.loop-left.i c.args.s.now)).len =
-      ap (λ (t : Transfer). t.len) (head-is) in
-    let valuesAt : List ℕ =
-      let n = c.loop-left.i + octets_to_a_transfer_head in
-      take (n + c.transfer_head-t.result.len - n) (drop n c.args.s.now) in
-    let values-are : valuesAt ≡ take c.transfer_head-t.result.len (drop (c.loop-left.i + octets_to_a_transfer_head) c.args.s.now) =
-      let n = c.loop-left.i + octets_to_a_transfer_head in
-      let m : n + c.transfer_head-t.result.len - n ≡ c.transfer_head-t.result.len = omega arith in
-      ap (λ (x : ℕ). take x (drop n c.args.s.now)) m in
-    let item_at : Item =
-      item_from c.transfer_head-t.result (valuesAt) in
-    let judged : item_writing (times_of c) 0 (item_at (head_of c)) ≡ c.lay-a.result =
-      sym c.lay-a.ensures.0 in
-    let taken : ItemWritten (times_of c.before.before.before) 0 (item_at (head_of c.before.before.before)) c.in-Accepted.len =
-      item_written _ _ _ _ (judged ∙ c.in-Accepted.is) in
-    let l = turn_of c.before.before.before in
-    let h = head_of c.before.before.before in
-    let a = l.before in
-    let v = a.loop in
-    let n = c.in-Accepted.len in
-    let e = c.in-Accepted.is in
-    let g = a.before.before.before.args in
-    let next : g.count - (v.left - 1) ≡ suc (g.count - v.left) = omega (arith, l.loop-test.taken, v.inv.1) in
-    let d = draft-is c.before.before.before (Accepted n) e in
-    let same : length (draftOf c.before.before.before) ≡ length g.draft.now =
-    ap (λ (y : List ℕ). length y) d ∙ laid_length v.draft v.at (layout_item (item_at h)) n ∙ v.inv.3 in (
-    omega (arith, ends h.before.before, len_is h),
-    omega (arith, v.inv.1),
-    omega (arith, (taken).behind, (taken).short, next, v.inv.2),
-    same,
-    λ b end y m k.
-    serves l b end y m
-    (item_accepted v.seen v.at v.i (v.left - 1) (octets_of a) end y (whole h.before.before)
-    h.octets_to_a_transfer_head.result (head-is h) (valuesAt h) (values-are h) _ (judged) n e v.draft (m ∙ sym v.inv.3) b
-    (rw (← d) k)),
-    )
-
-pub shape_of-draft-in_default : goal.shape_of-draft-in_default
-shape_of-draft-in_default c =
-    let kept : draftOf c.before.before ≡ (turn_of c.before.before).before.loop.draft =
-      draft-is c.before.before _ c.in_default.is in
-    let kept-length : length (draftOf c.before.before) ≡ length (turn_of c.before.before).before.before.before.before.args.draft.now =
-      ap (λ (l : List ℕ). length l) (kept) ∙ (turn_of c.before.before).before.loop.invariant.3 in
-    kept-length
-
-pub returns : goal.returns
-returns c =
-    let v = c.loop-left in
-    let z : v.left ≡ 0 = omega (arith, c.loop-left-test.false) in
-    rw (c.of-2.ensures.0, c.of-2.ensures.1) (
-      v.invariant.4 _ _ v.draft v.invariant.3 (rw z (items_done v.seen v.at v.i (drop c.loop-left.i c.args.s.now) v.draft)),
-      v.invariant.0,
-    )
-
-pub overflow_add-to : goal.overflow_add-to
-overflow_add-to c =
-    let told : c.is_whole.result ≡ leb (item_size (drop c.loop-left.i c.args.s.now)) (length (drop c.loop-left.i c.args.s.now)) =
-      c.is_whole.ensures ∙ ap (λ (d : List ℕ). leb (item_size d) (length d)) (to_end c.loop-left.i c.args.s.now) in
-    let whole : (leb (item_size ((drop c.loop-left.i c.args.s.now))) (length ((drop c.loop-left.i c.args.s.now))) ≡ true) =
-      sym (told) ∙ c.if-not-is_whole.false in
-    let ends : c.loop-left.i + octets_to_a_transfer_head + (head_front (drop c.loop-left.i c.args.s.now)).len ≤ length c.args.s.now =
-      omega (arith, leb-true (item_size (drop c.loop-left.i c.args.s.now)) (length (drop c.loop-left.i c.args.s.now)) (whole), length-drop c.loop-left.i c.args.s.now) in
-    let head-is : c.transfer_head-t.result ≡ head_front (drop c.loop-left.i c.args.s.now) =
-      c.transfer_head-t.ensures ∙ ap head_front (to_end c.loop-left.i c.args.s.now) in
-    let len_is : c.transfer_head-t.result.len ≡ (head_front (drop c.loop-left.i c.args.s.now)).len =
-      ap (λ (t : Transfer). t.len) (head-is) in
-    omega (arith, ends, len_is)
-
-pub overflow_add-from : goal.overflow_add-from
-overflow_add-from c =
-    let told : c.is_whole.result ≡ leb (item_size (drop c.loop-left.i c.args.s.now)) (length (drop c.loop-left.i c.args.s.now)) =
-      c.is_whole.ensures ∙ ap (λ (d : List ℕ). leb (item_size d) (length d)) (to_end c.loop-left.i c.args.s.now) in
-    let whole : (leb (item_size ((drop c.loop-left.i c.args.s.now))) (length ((drop c.loop-left.i c.args.s.now))) ≡ true) =
-      sym (told) ∙ c.if-not-is_whole.false in
-    let ends : c.loop-left.i + octets_to_a_transfer_head + (head_front (drop c.loop-left.i c.args.s.now)).len ≤ length c.args.s.now =
-      omega (arith, leb-true (item_size (drop c.loop-left.i c.args.s.now)) (length (drop c.loop-left.i c.args.s.now)) (whole), length-drop c.loop-left.i c.args.s.now) in
-    omega (arith, ends)
-
-pub returns-then-not-is_whole : goal.returns-then-not-is_whole
-returns-then-not-is_whole c =
-    let told : c.is_whole.result ≡ leb (item_size (drop c.loop-left.i c.args.s.now)) (length (drop c.loop-left.i c.args.s.now)) =
-      c.is_whole.ensures ∙ ap (λ (d : List ℕ). leb (item_size d) (length d)) (to_end c.loop-left.i c.args.s.now) in
-    let v = c.loop-left in
-    let e = sym (told) ∙ c.if-not-is_whole.true in
-    rw (c.of.ensures.0, c.of.ensures.1) (
-    serves c.before.before.before.before _ _ v.draft v.invariant.3
-    (items_cut v.seen v.at v.i (v.left - 1) c.args.s.now _ v.draft e _ _ _),
-    omega arith,
-    )
+    let taken = item_written _ _ _ _ (sym c.lay-a.ensures.told ∙ c.in-Accepted.is) in
+    omega (arith, few_times _ _ _ taken)
 
 pub overflow_add-at : goal.overflow_add-at
 overflow_add-at c =
-    let valuesAt : List ℕ =
-      let n = c.loop-left.i + octets_to_a_transfer_head in
-      take (n + c.transfer_head-t.result.len - n) (drop n c.args.s.now) in
-    let item_at : Item =
-      item_from c.transfer_head-t.result (valuesAt) in
-    let judged : item_writing (times_of c) 0 (item_at (head_of c)) ≡ c.lay-a.result =
-      sym c.lay-a.ensures.0 in
-    let taken : ItemWritten (times_of c.before.before.before) 0 (item_at (head_of c.before.before.before)) c.in-Accepted.len =
-      item_written _ _ _ _ (judged ∙ c.in-Accepted.is) in
-    let a = (turn_of c.before.before.before).before in
-    omega (arith, (taken).behind, (taken).short, a.loop.inv.2, a.before.before.before.pre)
+    let taken = item_written _ _ _ _ (sym c.lay-a.ensures.told ∙ c.in-Accepted.is) in
+    omega (arith, taken.behind, taken.short, c.loop-left.invariant.2, c.requires)
+
+pub loop-left-preserved : goal.loop-left-preserved
+loop-left-preserved c =
+    let s = c.args.s.now in
+    let g = c.args in
+    let v = c.loop-left in
+    let t = c.transfer_head-t.result in
+    let n = c.in-Accepted.len in
+    let e = c.in-Accepted.is in
+    let w = whole_of s v.i _ _ c.is_whole.ensures c.if-not-is_whole.false in
+    let h = head_of s v.i t c.transfer_head-t.ensures in
+    let told = sym c.lay-a.ensures.told in
+    let taken = item_written _ _ _ _ (told ∙ e) in
+    let next : g.count - (v.left - 1) ≡ suc (g.count - v.left) = omega (arith, c.loop-left-test.true, v.invariant.1) in
+    let vs = take (v.i + octets_to_a_transfer_head + t.len - (v.i + octets_to_a_transfer_head)) (drop (v.i + octets_to_a_transfer_head) s) in
+    let xs = layout_item (item_from t vs) in
+    let d : c.lay-a.new.room ≡ laid_at (Accepted n) xs v.at v.draft = rw (told ∙ e) at c.lay-a.ensures.put in
+    let same : length c.lay-a.new.room ≡ length g.draft.now =
+    ap (λ (y : List ℕ). length y) d ∙ laid_length v.draft v.at xs n ∙ v.invariant.3 in (
+      ends_of s v.i t h w,
+      omega (arith, v.invariant.1),
+      omega (arith, taken.behind, taken.short, next, v.invariant.2),
+      same,
+      λ b end y m k.
+          v.invariant.4 b end y m
+          (one_left v.seen v.at v.i v.left s _ b end y c.loop-left-test.true
+          (item_accepted v.seen v.at v.i (v.left - 1) s end y w t h _ (values_of s v.i t.len) _ told n e v.draft (m ∙ sym v.invariant.3) b
+          (rw (← d) k))),
+    )
+
+pub returns-clause-served : goal.returns-clause-served
+returns-clause-served c =
+    let v = c.loop-left in
+    let z : v.left ≡ 0 = omega (arith, c.loop-left-test.false) in
+    rw (c.of-2.ensures.0, c.of-2.ensures.1)
+    (v.invariant.4 _ _ v.draft v.invariant.3 (rw z (items_done v.seen v.at v.i (drop v.i c.args.s.now) v.draft)))
