@@ -1,4 +1,4 @@
-use Prim.Native.Nat.{ℕ, suc, ◌≤◌, ◌<◌, ◌+◌, ◌-◌, ◌*◌}
+use Prim.Native.Nat.{ℕ, suc, ◌≤◌, ◌<◌, ◌+◌, ◌-◌}
 use native.Mathlib.Omega.{arith}
 use mathlib.Core.Path.{◌≡◌, sym, ap, ◌∙◌}
 use mathlib.Core.Bool.{not, ◌||◌}
@@ -123,8 +123,7 @@ loop-left-preserved c =
     let h = c.common_head-c.result in
     let x = c.items_sum-sum.result in
     let little : h.transfers ≤ 255 = omega arith in
-    let next : n - v.left + 1 ≡ n - (v.left - 1) = omega arith in
-    (
+    let next : n - v.left + 1 ≡ n - (v.left - 1) = omega arith in (
       ends v.i s h.transfers x c.items_sum-sum.ensures c.if-s-i-lt-COMMON_HEAD.false,
       omega arith,
       omega (arith, (few _ _ _ c.items_sum-sum.ensures little).0, v.invariant.2, next),

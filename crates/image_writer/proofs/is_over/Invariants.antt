@@ -1,27 +1,10 @@
 -- `is_over` meets its contract. The invariant: whether the whole is over a limit is told by the common parameters left from i on, behind
 -- what is counted.
-use Prim.Native.Nat.{ℕ, suc, ◌≤◌, ◌+◌, ◌-◌, ◌*◌}
-use native.Mathlib.Omega.{arith}
-use mathlib.Core.Path.{◌≡◌, sym, ap, ◌∙◌}
-use mathlib.Core.Bool.{not, ◌||◌}
-use mathlib.Core.List.{List}
-use borrow.Author.Rules.{rules}
-use borrow.Author.Tests.{not-true, not-false, eq-eqb, ne_eqb, lt-ltb, le-ltb}
-use lib.Dec.{eqb, ltb}
-use lib.ListN.{length, drop, length-drop}
-use Rattle.annex.specs.Heads.{most_commons, most_transfers, most_transfer_octets}
-use Rattle.annex.specs.Image.{common_front, parts_front, octets_to_a_common_head}
-use Rattle.laws.specs.Parts.{to_end}
-use Rattle.image_writer.specs.Over.{
-  Summed,
-  over_by,
-  over_from,
-  over_start,
-  over_short,
-  over_stop,
-  over_turn,
-  over_end,
-}
+use Prim.Native.Nat.{◌≤◌, ◌-◌, ◌*◌}
+use mathlib.Core.Path.{◌≡◌}
+use lib.ListN.{length, drop}
+use Rattle.annex.specs.Image.{parts_front}
+use Rattle.image_writer.specs.Over.{over_by, over_from}
 use Rattle.image_writer.proofs.is_over.Given as goal
 
 abbrev pub invariant-loop-left : goal.invariant-loop-left

@@ -1,4 +1,4 @@
-use Prim.Native.Nat.{ℕ, suc, ◌≤◌, ◌<◌, ◌+◌, ◌-◌, ◌*◌}
+use Prim.Native.Nat.{ℕ, suc, ◌≤◌, ◌<◌, ◌+◌, ◌-◌}
 use native.Mathlib.Omega.{arith}
 use mathlib.Core.Path.{◌≡◌, refl, sym, ap, ◌∙◌}
 use mathlib.Core.Bool.{Bool, true, false}
@@ -14,8 +14,7 @@ use Rattle.annex.specs.declared.Transfer.{Transfer}
 use Rattle.laws.specs.Laid.{own_values}
 use Rattle.laws.specs.Parts.{to_end}
 use Rattle.limits.specs.Limits.{contents_most}
-use Rattle.image_writer.specs.declared.Sum.{Sum}
-use Rattle.image_writer.specs.Over.{unsummed, summed_from, sum_cut, sum_turn, sum_end}
+use Rattle.image_writer.specs.Over.{summed_from, sum_cut, sum_turn, sum_end}
 use Rattle.image_writer.proofs.items_sum.Goals as goal
 
 -- the octets from i on, as `is_whole` and `transfer_head` were handed them
@@ -93,8 +92,7 @@ loop-left-preserved c =
     let t = c.transfer_head-t.result in
     let vs = take (n + t.len - n) (drop n s) in
     let m : n + t.len - n ≡ t.len = omega arith in
-    let next : k - v.left + 1 ≡ k - (v.left - 1) = omega arith in
-    (
+    let next : k - v.left + 1 ≡ k - (v.left - 1) = omega arith in (
       omega (arith, ends_here i s _ _ c.is_whole.ensures c.if-not-is_whole.false c.transfer_head-t.ensures),
       omega arith,
       omega (

@@ -1,22 +1,10 @@
 -- `items_sum` meets its contract. The invariant: what all transfer parameters come to, those left from i on come to, behind what is summed
 -- up.
-use Prim.Native.Nat.{ℕ, suc, ◌≤◌, ◌<◌, ◌+◌, ◌-◌, ◌*◌}
-use native.Mathlib.Omega.{arith}
-use mathlib.Core.Path.{◌≡◌, refl, sym, ap, ◌∙◌}
-use mathlib.Core.Bool.{true}
-use mathlib.Core.List.{List}
-use borrow.Author.Rules.{rules}
-use borrow.Author.Tests.{leb-true, not-true, not-false}
-use lib.Dec.{leb}
-use lib.ListN.{length, take, drop, length-take, length-drop}
-use lib.Seq.{get_or-drop}
-use Rattle.annex.specs.Records.{raw_item, item_from}
-use Rattle.annex.specs.Image.{head_front, item_size, items_front, octets_to_a_transfer_head}
-use Rattle.annex.specs.declared.Transfer.{Transfer}
-use Rattle.laws.specs.Laid.{own_values}
-use Rattle.laws.specs.Parts.{to_end}
-use Rattle.limits.specs.Limits.{contents_most}
-use Rattle.image_writer.specs.Over.{summed_from, sum_cut, sum_turn, sum_end}
+use Prim.Native.Nat.{◌≤◌, ◌-◌, ◌*◌}
+use mathlib.Core.Path.{◌≡◌}
+use lib.ListN.{length, drop}
+use Rattle.annex.specs.Image.{items_front}
+use Rattle.image_writer.specs.Over.{summed_from}
 use Rattle.image_writer.proofs.items_sum.Given as goal
 
 abbrev pub invariant-loop-left : goal.invariant-loop-left

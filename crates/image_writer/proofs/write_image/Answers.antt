@@ -1,12 +1,12 @@
 -- `write_image` meets its contract: what the walk gave is writing's answer where the image is a whole record within the limits, and where
 -- it accepts, the image is one.
-use Prim.Native.Nat.{ℕ, ◌≤◌, ◌<◌}
+use Prim.Native.Nat.{ℕ, ◌≤◌, ◌<◌, ◌-◌}
 use native.Mathlib.Omega.{arith}
 use mathlib.Core.Path.{◌≡◌, sym, ap, subst, ◌∙◌}
 use mathlib.Core.List.{List, []}
-use mathlib.Core.Bool.{true}
+use mathlib.Core.Bool.{Bool, true}
 use borrow.Author.Rules.{rules}
-use lib.ListN.{length, get_or, drop, length-drop}
+use lib.ListN.{length, get_or, take, drop, length-drop}
 use lib.Seq.{length-take-le}
 use Rattle.annex.specs.Heads.{most_octets}
 use Rattle.annex.specs.Allowed.{every, is_octet}
@@ -30,144 +30,81 @@ use Rattle.image_writer.specs.Answered.{
 }
 use Rattle.image_writer.proofs.write_image.Goals as goal
 
+-- the parameters' octets, as the walk was handed them
+abbrev behind : List ℕ → List ℕ
+behind m = take (length m - 1) (drop 1 m)
+
+-- what the walk gave, told by the answer
+gave : (m : List ℕ) (a b : Answer) (end : ℕ) (d : List ℕ) → PartsServed unseen 0 0 [] (parts_front (get_or m 0 0) (behind m)) a end d → a ≡ b
+    → Gave m b end d
+gave m a b end d h e =
+    subst (λ (z : Answer). Gave m z end d) e
+    (subst (λ (s : List ℕ). PartsServed unseen 0 0 [] (parts_front (get_or m 0 0) s) a end d) (to_end 1 m) h)
+
+-- where it is refused: whether the image is over the limits
+over-told : (m : List ℕ) (o b : Bool) → o ≡ over_by (length (behind m)) (parts_front (get_or m 0 0) (behind m)) → o ≡ b
+    → over_by (length (drop 1 m)) (parts_front (get_or m 0 0) (drop 1 m)) ≡ b
+over-told m o b h e = sym (h ∙ ap (λ (s : List ℕ). over_by (length s) (parts_front (get_or m 0 0) s)) (to_end 1 m)) ∙ e
+
+-- where it is accepted: the message fits the draft
+long : (m room : List ℕ) → 0 < length m → (n end : ℕ) (d : List ℕ) → Gave m (Accepted n) end d → end ≡ length (drop 1 m)
+    → every is_octet m ≡ true → length d ≡ most_octets → n ≤ length d
+long m room some n end d g all o l = omega (arith, l, (fit m room some n end d g all o).few)
+
 pub returns-then-image-eq0 : goal.returns-then-image-eq0
-returns-then-image-eq0 c =
-    let a = c.args in
-    none_written a.image.now a.room.now c.if-image-eq0.true
-
-pub overflow_cast-count : goal.overflow_cast-count
-overflow_cast-count c =
-    let count_small : get_or c.args.image.now 0 0 ≤ 255 =
-      omega (arith, c.shared_slice_known-1.given 0) in
-    omega (arith, count_small)
-
-pub lay_parts-step-requires : goal.lay_parts-step-requires
-lay_parts-step-requires c =
-    let count_small : get_or c.args.image.now 0 0 ≤ 255 =
-      omega (arith, c.shared_slice_known-1.given 0) in
-    count_small
-
-pub returns-then-step-image : goal.returns-then-step-image
-returns-then-step-image c =
-    let some : 0 < length c.args.image.now =
-      omega (arith, c.if-image-eq0.false) in
-    let took : Gave (image_of (walk_of c)) (Accepted (length_of c)) (walk_of c).lay-parts.result.octets (draftOf (walk_of c)) =
-      gave (walk_of c) (Accepted (length_of c)) c.in-Accepted.is in
-    let y = walk_of c.before.before in
-    left_written (image_of y) (roomOf y) (some (else_of y)) (length_of c.before.before) y.lay-parts.result.octets (draftOf y) (took)
-    (λ e. c.if-step-image.true (e ∙ length-drop 1 (image_of y)))
+returns-then-image-eq0 c = none_written c.args.image.now c.args.room.now c.if-image-eq0.true
 
 pub returns-then-is_over : goal.returns-then-is_over
 returns-then-is_over c =
-    let some : 0 < length c.args.image.now =
-      omega (arith, c.if-image-eq0.false) in
-    let over-told : (let m = image_of c.before.before.before.before.before in
-      c.is_over.result ≡ over_by (length (drop 1 m)) (parts_front (get_or m 0 0) (drop 1 m))) =
-      let m = image_of c.before.before.before.before.before in
-      c.is_over.ensures ∙ ap (λ (s : List ℕ). over_by (length s) (parts_front (get_or m 0 0) s)) (to_end 1 m) in
-    over_written (image_of c.before.before.before.before.before.before) (roomOf c.before.before.before.before.before.before) (some (else_of c.before.before.before.before.before.before)) (sym (over-told) ∙ c.if-is_over.true)
+    let m = c.args.image.now in
+    over_written m c.args.room.now (omega (arith, c.if-image-eq0.false)) (over-told m _ _ c.is_over.ensures c.if-is_over.true)
 
 pub returns-in_default : goal.returns-in_default
 returns-in_default c =
-    let some : 0 < length c.args.image.now =
-      omega (arith, c.if-image-eq0.false) in
-    let over-told : (let m = image_of c.before.before.before.before.before in
-      c.is_over.result ≡ over_by (length (drop 1 m)) (parts_front (get_or m 0 0) (drop 1 m))) =
-      let m = image_of c.before.before.before.before.before in
-      c.is_over.ensures ∙ ap (λ (s : List ℕ). over_by (length s) (parts_front (get_or m 0 0) s)) (to_end 1 m) in
+    let m = c.args.image.now in
     let e = c.in_default.is in
     rw e
-    (refused_written (image_of c.before.before.before.before.before.before) (roomOf c.before.before.before.before.before.before) (some (else_of c.before.before.before.before.before.before)) (sym (over-told) ∙ c.if-is_over.false) _ _
-    c.lay_parts-step.result.octets (draftOf c.before.before.before.before.before.before) (gave c.before.before.before.before.before.before _ e))
+    (refused_written m c.args.room.now (omega (arith, c.if-image-eq0.false)) (over-told m _ _ c.is_over.ensures c.if-is_over.false) _ _
+    c.lay_parts-step.result.octets c.lay_parts-step.new.draft (gave m _ _ _ _ c.lay_parts-step.ensures e))
 
-pub is_over-requires : goal.is_over-requires
-is_over-requires c =
-    let count_small : get_or c.args.image.now 0 0 ≤ 255 =
-      omega (arith, c.type_inv.s 0) in
-    count_small (known_of c.before.before.before.before)
+pub returns-then-step-image : goal.returns-then-step-image
+returns-then-step-image c =
+    let m = c.args.image.now in
+    left_written m c.args.room.now (omega (arith, c.if-image-eq0.false)) c.in-Accepted.n c.lay_parts-step.result.octets c.lay_parts-step.new.draft
+    (gave m _ _ _ _ c.lay_parts-step.ensures c.in-Accepted.is) (λ e. c.if-step-image.true (e ∙ length-drop 1 m))
 
 pub returns-then-room-n : goal.returns-then-room-n
 returns-then-room-n c =
-    let some : 0 < length c.args.image.now =
-      omega (arith, c.if-image-eq0.false) in
-    let octets : every is_octet c.args.image.now ≡ true =
-      octets_every c.args.image.now (λ i. omega (arith, c.type_inv.s i)) in
-    let took : Gave (image_of (walk_of c)) (Accepted (length_of c)) (walk_of c).lay-parts.result.octets (draftOf (walk_of c)) =
-      gave (walk_of c) (Accepted (length_of c)) c.in-Accepted.is in
-    let all : (let y =
-      walk_of c.before.before in y.lay-parts.result.octets ≡ length (drop 1 (image_of y))) =
-      c.if-step-image.false ∙ sym (length-drop 1 (image_of (walk_of c.before.before))) in
-    let y = walk_of c.before.before.before in
-    short_written (image_of y) (roomOf y) (some (else_of y)) (length_of c.before.before.before) y.lay-parts.result.octets (draftOf y) (took) (all)
-    (octets (known_of y)) c.if-room-n.true
-
-pub slice_bounds-copy_in-end : goal.slice_bounds-copy_in-end
-slice_bounds-copy_in-end c =
-    let some : 0 < length c.args.image.now =
-      omega (arith, c.if-image-eq0.false) in
-    let octets : every is_octet c.args.image.now ≡ true =
-      octets_every c.args.image.now (λ i. omega (arith, c.type_inv.s i)) in
-    let took : Gave (image_of (walk_of c)) (Accepted (length_of c)) (walk_of c).lay-parts.result.octets (draftOf (walk_of c)) =
-      gave (walk_of c) (Accepted (length_of c)) c.in-Accepted.is in
-    let all : (let y =
-      walk_of c.before.before in y.lay-parts.result.octets ≡ length (drop 1 (image_of y))) =
-      c.if-step-image.false ∙ sym (length-drop 1 (image_of (walk_of c.before.before))) in
-    let draft-long : length_of c.before.before ≤ length (draftOf (walk_of c.before.before)) =
-      let y = walk_of c.before.before in
-      let l : length (draftOf y) ≡ most_octets = search rules in
-      omega (
-      arith,
-      l,
-      (fit (image_of y) (roomOf y) (some (else_of y)) (length_of c.before.before) y.lay-parts.result.octets (draftOf y) (took) (all)
-      (octets (known_of y))
-      ).few,
-      ) in
-    sym (length-take-le (length_of c.before.before.before.before.before) (draftOf (walk_of c.before.before.before.before.before)) (draft-long))
+    let m = c.args.image.now in
+    short_written m c.args.room.now (omega (arith, c.if-image-eq0.false)) c.in-Accepted.n c.lay_parts-step.result.octets
+    c.lay_parts-step.new.draft (gave m _ _ _ _ c.lay_parts-step.ensures c.in-Accepted.is) (c.if-step-image.false ∙ sym (length-drop 1 m))
+    (octets_every m (λ i. omega (arith, c.type_inv.image i))) c.if-room-n.true
 
 pub slice_bounds-draft-end : goal.slice_bounds-draft-end
 slice_bounds-draft-end c =
-    let some : 0 < length c.args.image.now =
-      omega (arith, c.if-image-eq0.false) in
-    let octets : every is_octet c.args.image.now ≡ true =
-      octets_every c.args.image.now (λ i. omega (arith, c.type_inv.s i)) in
-    let took : Gave (image_of (walk_of c)) (Accepted (length_of c)) (walk_of c).lay-parts.result.octets (draftOf (walk_of c)) =
-      gave (walk_of c) (Accepted (length_of c)) c.in-Accepted.is in
-    let all : (let y =
-      walk_of c.before.before in y.lay-parts.result.octets ≡ length (drop 1 (image_of y))) =
-      c.if-step-image.false ∙ sym (length-drop 1 (image_of (walk_of c.before.before))) in
-    let draft-long : length_of c.before.before ≤ length (draftOf (walk_of c.before.before)) =
-      let y = walk_of c.before.before in
-      let l : length (draftOf y) ≡ most_octets = search rules in
-      omega (
-      arith,
-      l,
-      (fit (image_of y) (roomOf y) (some (else_of y)) (length_of c.before.before) y.lay-parts.result.octets (draftOf y) (took) (all)
-      (octets (known_of y))
-      ).few,
-      ) in
-    draft-long
+    let m = c.args.image.now in
+    let l : length c.lay_parts-step.new.draft ≡ most_octets = search rules in
+    long m c.args.room.now (omega (arith, c.if-image-eq0.false)) c.in-Accepted.n c.lay_parts-step.result.octets c.lay_parts-step.new.draft
+    (gave m _ _ _ _ c.lay_parts-step.ensures c.in-Accepted.is) (c.if-step-image.false ∙ sym (length-drop 1 m)) (octets_every m (λ i. omega (arith, c.type_inv.image i))) l
+
+pub slice_bounds-copy_in-end : goal.slice_bounds-copy_in-end
+slice_bounds-copy_in-end c =
+    let m = c.args.image.now in
+    let l : length c.lay_parts-step.new.draft ≡ most_octets = search rules in
+    sym
+    (length-take-le c.in-Accepted.n c.lay_parts-step.new.draft
+    (long m c.args.room.now (omega (arith, c.if-image-eq0.false)) c.in-Accepted.n c.lay_parts-step.result.octets c.lay_parts-step.new.draft
+    (gave m _ _ _ _ c.lay_parts-step.ensures c.in-Accepted.is) (c.if-step-image.false ∙ sym (length-drop 1 m)) (octets_every m (λ i. omega (arith, c.type_inv.image i))) l))
 
 pub returns : goal.returns
 returns c =
-    let some : 0 < length c.args.image.now =
-      omega (arith, c.if-image-eq0.false) in
-    let octets : every is_octet c.args.image.now ≡ true =
-      octets_every c.args.image.now (λ i. omega (arith, c.type_inv.s i)) in
-    let took : Gave (image_of (walk_of c)) (Accepted (length_of c)) (walk_of c).lay-parts.result.octets (draftOf (walk_of c)) =
-      gave (walk_of c) (Accepted (length_of c)) c.in-Accepted.is in
-    let all : (let y =
-      walk_of c.before.before in y.lay-parts.result.octets ≡ length (drop 1 (image_of y))) =
-      c.if-step-image.false ∙ sym (length-drop 1 (image_of (walk_of c.before.before))) in
-    let draft-long : length_of c.before.before ≤ length (draftOf (walk_of c.before.before)) =
-      let y = walk_of c.before.before in
-      let l : length (draftOf y) ≡ most_octets = search rules in
-      omega (
-      arith,
-      l,
-      (fit (image_of y) (roomOf y) (some (else_of y)) (length_of c.before.before) y.lay-parts.result.octets (draftOf y) (took) (all)
-      (octets (known_of y))
-      ).few,
-      ) in
-    let w = walk_of c.before.before.before.before.before.before.before.before in
-    done_written (image_of w) (roomOf w) (some (else_of w)) (length_of c.before.before.before.before.before.before.before.before) w.lay-parts.result.octets (draftOf w) (took) (all)
-    (octets (known_of w)) c.if-room-n.false (draft-long) c.copy_in.result _ c.copy_in.ensures
+    let m = c.args.image.now in
+    let room = c.args.room.now in
+    let d = c.lay_parts-step.new.draft in
+    let some : 0 < length m = omega (arith, c.if-image-eq0.false) in
+    let g = gave m _ _ _ _ c.lay_parts-step.ensures c.in-Accepted.is in
+    let all = c.if-step-image.false ∙ sym (length-drop 1 m) in
+    let o = octets_every m (λ i. omega (arith, c.type_inv.image i)) in
+    let l : length d ≡ most_octets = search rules in
+    done_written m room some c.in-Accepted.n c.lay_parts-step.result.octets d g all o c.if-room-n.false
+    (long m room some c.in-Accepted.n c.lay_parts-step.result.octets d g all o l) c.copy_in.result _ c.copy_in.ensures
