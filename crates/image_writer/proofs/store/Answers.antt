@@ -1,6 +1,5 @@
 -- `store` meets its contract: past the end nothing is stored.
 use mathlib.Core.Path.{sym}
-use borrow.Author.Rules.{rules}
 use lib.Seq.{set_out}
 use Rattle.image_writer.proofs.store.Goals as goal
 
