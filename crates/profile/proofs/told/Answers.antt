@@ -17,27 +17,18 @@ use Rattle.profile.specs.Keeping.{network_in, network_said}
 use Rattle.profile.specs.Telling.{pairs_taken, told_so}
 use Rattle.profile.proofs.told.Goals as goal
 
--- what 7E says
-module _ (c : goal.After-network_of-network) where
-  abbrev known : goal.After-shared_slice_known-1
-  known = c.before.before.before
-
-  abbrev m : List ℕ
-  m = known.before.args.m.now
-
-  network : c.network_of-network.result ≡ network_said (network_in m)
-  network =
-      c.network_of-network.ensures ∙ ap network_said (c.octet_at.ensures ∙ ap (λ (s : List ℕ). get_or s 0 0) c.contents.ensures)
-
--- D6's contents, which are pairs
-module _ (c : goal.After-contents-2) where
-  abbrev said : goal.After-network_of-network
-  said = c.before
-
-  pairs : pairs_right c.contents-2.result.now ≡ true
-  pairs =
-      let st = (known said).before in
-      ap pairs_right c.contents-2.ensures ∙ pairs_taken (m said) (octets (known said)) st.pre.0 st.pre.1
-
 pub open_pairs-opened-requires : goal.open_pairs-opened-requires
-open_pairs-opened-requires c = pairs c
+open_pairs-opened-requires c =
+    let octets = octets_every c.args.m.now (λ i. omega (arith, c.type_inv.m i)) in
+    ap pairs_right c.contents-2.ensures ∙ pairs_taken c.args.m.now octets c.requires.0 c.requires.1
+
+pub returns : goal.returns
+returns c =
+    let m = c.args.m.now in
+    let octets = octets_every m (λ i. omega (arith, c.type_inv.m i)) in
+    let network : c.network_of-network.result ≡ network_said (network_in m) =
+    c.network_of-network.ensures ∙ ap network_said (c.octet_at.ensures ∙ ap (λ (s : List ℕ). get_or s 0 0) c.contents.ensures) in
+    let told : (x : Network) (w : Opened) → Profile = λ x w. record { network = x; classes = w.count; class = w.class } in
+    ap (λ (x : Network). told x c.open_pairs-opened.result) network
+    ∙ ap (told (network_said (network_in m))) (c.open_pairs-opened.ensures ∙ ap (λ (s : List ℕ). opened_to (pairs_in s)) c.contents-2.ensures)
+    ∙ told_so m octets c.requires.0 c.requires.1

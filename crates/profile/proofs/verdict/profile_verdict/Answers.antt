@@ -19,19 +19,17 @@ returns-in_default c =
     let e = c.in_default.is in
     rw e (verdict_refused c.args.m.now _ _ (sym c.verdict-a.ensures ∙ e))
 
--- reading accepts
-module _ (c : goal.After-keeps) where
-  abbrev known : goal.After-shared_slice_known-1
-  known = c.before.before.before.before.before
+pub overflow_sub-result : goal.overflow_sub-result
+overflow_sub-result c = (end_last c.args.m.now c.in-Accepted.n (sym c.verdict-a.ensures ∙ c.in-Accepted.is)).0
 
-  abbrev m : List ℕ
-  m = known.before.args.m.now
+pub returns-then-not-keeps : goal.returns-then-not-keeps
+returns-then-not-keeps c =
+    let accepted = sym c.verdict-a.ensures ∙ c.in-Accepted.is in
+    let octets = octets_every c.args.m.now (λ i. omega (arith, c.type_inv.m i)) in
+    verdict_outside c.args.m.now octets c.in-Accepted.n accepted (sym c.keeps.ensures ∙ c.if-not-keeps.true)
 
-  abbrev n : ℕ
-  n = c.in-Accepted.n
-
-  accepted : verdict_of m ≡ Accepted n
-  accepted = sym c.verdict-a.ensures ∙ c.in-Accepted.is
-
-  octets : every is_octet m ≡ true
-  octets = octets_every m (λ i. omega (arith, known.shared-slice-known.given i))
+pub returns : goal.returns
+returns c =
+    let accepted = sym c.verdict-a.ensures ∙ c.in-Accepted.is in
+    let octets = octets_every c.args.m.now (λ i. omega (arith, c.type_inv.m i)) in
+    verdict_inside c.args.m.now octets c.in-Accepted.n accepted (sym c.keeps.ensures ∙ c.if-not-keeps.false)
