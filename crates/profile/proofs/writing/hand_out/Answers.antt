@@ -1,44 +1,36 @@
 -- `hand_out` meets its contract: the profile is asked first, and the message is copied where it fits.
-use Prim.Native.Nat.{ℕ}
 use mathlib.Core.Path.{◌≡◌, sym, ◌∙◌}
 use mathlib.Core.Bool.{true}
-use mathlib.Core.List.{List}
-use borrow.Author.Rules.{rules}
-use borrow.Author.Tests.{not-true, not-false}
 use lib.ListN.{take}
-use Rattle.annex.specs.declared.Answer.{Answer}
-use Rattle.annex.specs.declared.Answer.TheVariants.{Accepted}
 use Rattle.profile.specs.Keeping.{keeps_plain}
 use Rattle.profile.specs.Answering.{copied_short, copied_whole, within, front_long, hands_outside, hands_short, hands_done}
 use Rattle.profile.proofs.writing.hand_out.Goals as goal
 
--- writing accepted
-module _ (c : goal.In-Accepted) where
-  abbrev start : goal.Start
-  start = c.before.before.before.before.before
-
-  abbrev a : Answer
-  a = start.args.a
-
-  abbrev n : ℕ
-  n = c.in-Accepted.n
-
-  abbrev draft : List ℕ
-  draft = start.args.draft.now
-
-  abbrev room : List ℕ
-  room = start.args.room.now
-
-  accepted : a ≡ Accepted n
-  accepted = c.in-Accepted.is
-
 pub returns-then-not-keeps : goal.returns-then-not-keeps
 returns-then-not-keeps c =
-    hands_outside (a c.before.before.before) (n c.before.before.before) (accepted c.before.before.before) (draft c.before.before.before) (room c.before.before.before) (start c.before.before.before).requires
-    (sym c.keeps.ensures ∙ c.if-not-keeps.true)
+    let a = c.args in
+    hands_outside a.a c.in-Accepted.n c.in-Accepted.is a.draft.now a.room.now c.requires (sym c.keeps.ensures ∙ c.if-not-keeps.true)
+
+pub returns-then-not-copy_in : goal.returns-then-not-copy_in
+returns-then-not-copy_in c =
+    let a = c.args in
+    let n = c.in-Accepted.n in
+    let kept : keeps_plain (take n a.draft.now) ≡ true = sym c.keeps.ensures ∙ c.if-not-keeps.false in
+    let f = copied_short (take n a.draft.now) a.room.now _ _ c.copy_in.ensures c.if-not-copy_in.true in
+    let d = hands_short a.a n c.in-Accepted.is a.draft.now a.room.now c.requires kept f.0 in
+    (d.0, f.1 ∙ d.1)
+
+pub returns : goal.returns
+returns c =
+    let a = c.args in
+    let n = c.in-Accepted.n in
+    let kept : keeps_plain (take n a.draft.now) ≡ true = sym c.keeps.ensures ∙ c.if-not-keeps.false in
+    let f = copied_whole (take n a.draft.now) a.room.now _ _ c.copy_in.ensures c.if-not-copy_in.false in
+    let d = hands_done a.a n c.in-Accepted.is a.draft.now a.room.now c.requires kept f.0 in
+    (d.0, f.1 ∙ d.1)
 
 pub slice_bounds-m-end : goal.slice_bounds-m-end
-slice_bounds-m-end c = sym (front_long (a c.before) (n c.before) (accepted c.before) (draft c.before) (room c.before) (start c.before).requires)
+slice_bounds-m-end c = sym (front_long c.args.a c.in-Accepted.n c.in-Accepted.is c.args.draft.now c.args.room.now c.requires)
 
 pub overflow_sub-result : goal.overflow_sub-result
-overflow_sub-result c = (within (a c.before.before.before) (n c.before.before.before) (accepted c.before.before.before) (draft c.before.before.before) (room c.before.before.before) (start c.before.before.before).requires).0
+overflow_sub-result c = (within c.args.a c.in-Accepted.n c.in-Accepted.is c.args.draft.now c.args.room.now c.requires).0
