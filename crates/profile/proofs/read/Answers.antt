@@ -4,8 +4,6 @@ use native.Mathlib.Omega.{arith}
 use mathlib.Core.Path.{◌≡◌, sym, ap, ◌∙◌}
 use mathlib.Core.Bool.{true}
 use mathlib.Core.List.{List}
-use borrow.Author.Rules.{rules}
-use borrow.Author.Tests.{not-true, not-false}
 use Rattle.annex.specs.Allowed.{every, is_octet}
 use Rattle.annex.specs.Profile.{profile_verdict}
 use Rattle.annex.specs.Records.{reading_of}

@@ -1,5 +1,4 @@
 -- `refused` meets its contract: six places of zero beside the empty record.
-use borrow.Author.Rules.{rules}
 use Rattle.annex.specs.Records.{pad}
 use Rattle.annex.specs.Profile.{pairs_in, values_under}
 use Rattle.profile.proofs.refused.Goals as goal

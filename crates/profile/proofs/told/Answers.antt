@@ -2,11 +2,8 @@
 use Prim.Native.Nat.{ℕ}
 use native.Mathlib.Omega.{arith}
 use mathlib.Core.Path.{◌≡◌, ap, ◌∙◌}
-use mathlib.Core.Bool.{true}
 use mathlib.Core.List.{List}
-use borrow.Author.Rules.{rules}
 use lib.ListN.{get_or}
-use Rattle.annex.specs.Allowed.{every, is_octet}
 use Rattle.annex.specs.Profile.{pairs_in, pairs_right}
 use Rattle.annex.specs.declared.Network.{Network}
 use Rattle.annex.specs.declared.Profile.{Profile}

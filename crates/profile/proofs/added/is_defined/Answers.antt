@@ -1,6 +1,6 @@
 -- `is_defined` meets its contract: of each stretch of numbers all or none are defined.
 use native.Mathlib.Omega.{arith}
-use mathlib.Core.Bool.{Bool, true, false}
+use mathlib.Core.Bool.{Bool, false}
 use mathlib.Core.List.{[]}
 use Prim.Native.Nat.{ℕ}
 use Rattle.annex.specs.Heads.{among}

@@ -1,11 +1,7 @@
-use Prim.Native.Nat.{◌-◌, ◌≤◌}
 use native.Mathlib.Omega.{arith}
-use mathlib.Core.Path.{◌≡◌, refl, sym, ◌∙◌}
-use borrow.Author.Rules.{rules}
+use mathlib.Core.Path.{refl, sym, ◌∙◌}
 use borrow.Author.Tests.{eq-eqb, ne_eqb}
-use lib.ListN.{length, drop}
-use Rattle.annex.specs.Heads.{among}
-use Rattle.profile.specs.Pairs.{names_in, named_next, named_none}
+use Rattle.profile.specs.Pairs.{named_next, named_none}
 use Rattle.profile.proofs.added.is_named.Goals as goal
 
 pub returns-then-s-i : goal.returns-then-s-i

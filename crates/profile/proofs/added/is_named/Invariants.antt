@@ -1,12 +1,9 @@
 -- `is_named` meets its contract: whether the name stands among all pairs is whether it stands among those from here on.
 use Prim.Native.Nat.{◌-◌, ◌≤◌}
-use native.Mathlib.Omega.{arith}
-use mathlib.Core.Path.{◌≡◌, refl, sym, ◌∙◌}
-use borrow.Author.Rules.{rules}
-use borrow.Author.Tests.{eq-eqb, ne_eqb}
+use mathlib.Core.Path.{◌≡◌}
 use lib.ListN.{length, drop}
 use Rattle.annex.specs.Heads.{among}
-use Rattle.profile.specs.Pairs.{names_in, named_next, named_none}
+use Rattle.profile.specs.Pairs.{names_in}
 use Rattle.profile.proofs.added.is_named.Given as goal
 
 abbrev pub invariant-loop-i : goal.invariant-loop-i

@@ -1,7 +1,6 @@
 -- `contents` meets its contract: what was found lies within the message.
 use Prim.Native.Nat.{◌≤◌}
 use mathlib.Core.Path.{sym, ◌∙◌}
-use borrow.Author.Rules.{rules}
 use lib.ListN.{length}
 use Rattle.annex.specs.declared.Key.TheVariants.{Name}
 use Rattle.laws.specs.Finding.{plain_inside}
@@ -17,20 +16,20 @@ returns c =
 pub slice_bounds-result-count : goal.slice_bounds-result-count
 slice_bounds-result-count c =
     let within : (c.in-At.start ≤ c.in-At.end)
-      × (c.in-At.end ≤ length c.args.m.now) =
-      (plain_inside (Name _ _) _).at _ _ (sym c.sought.ensures ∙ c.in-At.is) in
+    × (c.in-At.end ≤ length c.args.m.now) =
+    (plain_inside (Name _ _) _).at _ _ (sym c.sought.ensures ∙ c.in-At.is) in
     (within).0
 
 pub slice_bounds-result-start : goal.slice_bounds-result-start
 slice_bounds-result-start c =
     let within : (c.in-At.start ≤ c.in-At.end)
-      × (c.in-At.end ≤ length c.args.m.now) =
-      (plain_inside (Name _ _) _).at _ _ (sym c.sought.ensures ∙ c.in-At.is) in
+    × (c.in-At.end ≤ length c.args.m.now) =
+    (plain_inside (Name _ _) _).at _ _ (sym c.sought.ensures ∙ c.in-At.is) in
     (within).0
 
 pub slice_bounds-result-end-2 : goal.slice_bounds-result-end-2
 slice_bounds-result-end-2 c =
     let within : (c.in-At.start ≤ c.in-At.end)
-      × (c.in-At.end ≤ length c.args.m.now) =
-      (plain_inside (Name _ _) _).at _ _ (sym c.sought.ensures ∙ c.in-At.is) in
+    × (c.in-At.end ≤ length c.args.m.now) =
+    (plain_inside (Name _ _) _).at _ _ (sym c.sought.ensures ∙ c.in-At.is) in
     (within).1

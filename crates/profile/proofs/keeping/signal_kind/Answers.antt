@@ -1,7 +1,6 @@
 -- `signal_kind` meets its contract: what was found lies within the message.
 use Prim.Native.Nat.{◌≤◌}
 use mathlib.Core.Path.{sym, ◌∙◌}
-use borrow.Author.Rules.{rules}
 use lib.ListN.{length}
 use Rattle.annex.specs.Heads.{signal_kind}
 use Rattle.laws.specs.Finding.{common_inside}
@@ -17,20 +16,20 @@ returns c =
 pub slice_bounds-octet_at-count : goal.slice_bounds-octet_at-count
 slice_bounds-octet_at-count c =
     let within : (c.in-At.start ≤ c.in-At.end)
-      × (c.in-At.end ≤ length c.args.m.now) =
-      (common_inside signal_kind _).at _ _ (sym c.common_by_length.ensures ∙ c.in-At.is) in
+    × (c.in-At.end ≤ length c.args.m.now) =
+    (common_inside signal_kind _).at _ _ (sym c.common_by_length.ensures ∙ c.in-At.is) in
     (within).0
 
 pub slice_bounds-octet_at-start : goal.slice_bounds-octet_at-start
 slice_bounds-octet_at-start c =
     let within : (c.in-At.start ≤ c.in-At.end)
-      × (c.in-At.end ≤ length c.args.m.now) =
-      (common_inside signal_kind _).at _ _ (sym c.common_by_length.ensures ∙ c.in-At.is) in
+    × (c.in-At.end ≤ length c.args.m.now) =
+    (common_inside signal_kind _).at _ _ (sym c.common_by_length.ensures ∙ c.in-At.is) in
     (within).0
 
 pub slice_bounds-octet_at-end : goal.slice_bounds-octet_at-end
 slice_bounds-octet_at-end c =
     let within : (c.in-At.start ≤ c.in-At.end)
-      × (c.in-At.end ≤ length c.args.m.now) =
-      (common_inside signal_kind _).at _ _ (sym c.common_by_length.ensures ∙ c.in-At.is) in
+    × (c.in-At.end ≤ length c.args.m.now) =
+    (common_inside signal_kind _).at _ _ (sym c.common_by_length.ensures ∙ c.in-At.is) in
     (within).1

@@ -1,5 +1,4 @@
 -- `sought` meets its contract: a header's name is its lower six bits.
-use borrow.Author.Rules.{rules}
 use Rattle.profile.proofs.keeping.sought.Goals as goal
 
 pub returns : goal.returns

@@ -1,5 +1,4 @@
 -- `stands` meets its contract.
-use borrow.Author.Rules.{rules}
 use Rattle.profile.proofs.keeping.stands.Goals as goal
 
 pub returns-in-At : goal.returns-in-At

@@ -1,14 +1,6 @@
 -- `profile_verdict` meets its contract: reading's verdict comes first, and of what it accepts the profile is asked.
-use Prim.Native.Nat.{ℕ}
 use native.Mathlib.Omega.{arith}
-use mathlib.Core.Path.{◌≡◌, sym, ◌∙◌}
-use mathlib.Core.Bool.{true}
-use mathlib.Core.List.{List}
-use borrow.Author.Rules.{rules}
-use borrow.Author.Tests.{not-true, not-false}
-use Rattle.annex.specs.Allowed.{every, is_octet}
-use Rattle.annex.specs.Reading.{verdict_of}
-use Rattle.annex.specs.declared.Answer.TheVariants.{Accepted}
+use mathlib.Core.Path.{sym, ◌∙◌}
 use Rattle.laws.specs.Written.{octets_every}
 use Rattle.theorems.specs.Profiles.{end_last}
 use Rattle.profile.specs.Answering.{verdict_refused, verdict_outside, verdict_inside}
