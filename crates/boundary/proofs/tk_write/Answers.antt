@@ -1,0 +1,8 @@
+-- `tk_write` meets its contract: it packs the answer that `write_image` promises, and the room is as `write_image` leaves it.
+use borrow.Author.Rules.{rules}
+use Rattle.boundary.proofs.tk_write.Goals as goal
+
+pub returns : goal.returns
+returns c =
+    let e = c.write_image.ensures in
+    (rw (← e.0) c.pack_answer.ensures, e.1)
