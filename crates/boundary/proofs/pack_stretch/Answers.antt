@@ -1,5 +1,4 @@
 -- `pack_stretch` meets its contract: its arms are the cases of the definition.
-use borrow.Author.Rules.{rules}
 use Rattle.boundary.proofs.pack_stretch.Goals as goal
 
 pub returns-in-Accepted : goal.returns-in-Accepted

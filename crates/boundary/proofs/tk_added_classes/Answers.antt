@@ -1,5 +1,4 @@
 -- `tk_added_classes` meets its contract: it packs the answer that `added_classes` promises, and the octets are as that leaves them.
-use borrow.Author.Rules.{rules}
 use Rattle.boundary.proofs.tk_added_classes.Goals as goal
 
 pub returns : goal.returns

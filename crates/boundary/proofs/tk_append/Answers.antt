@@ -1,5 +1,4 @@
 -- `tk_append` meets its contract: it packs the answer that `append` promises, and the buffer is as `append` leaves it.
-use borrow.Author.Rules.{rules}
 use Rattle.boundary.proofs.tk_append.Goals as goal
 
 pub returns : goal.returns

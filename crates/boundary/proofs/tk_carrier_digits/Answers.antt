@@ -1,5 +1,4 @@
 -- `tk_carrier_digits` meets its contract: it packs the answer that `carrier_digits` promises, and the octets are as that leaves them.
-use borrow.Author.Rules.{rules}
 use Rattle.boundary.proofs.tk_carrier_digits.Goals as goal
 
 pub returns : goal.returns

@@ -1,5 +1,4 @@
 -- `tk_carriers` meets its contract: it packs the answer that `carriers` promises, and the octets are as that leaves them.
-use borrow.Author.Rules.{rules}
 use Rattle.boundary.proofs.tk_carriers.Goals as goal
 
 pub returns : goal.returns

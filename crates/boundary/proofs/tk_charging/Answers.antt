@@ -1,5 +1,4 @@
 -- `tk_charging` meets its contract: it packs the answer that `octet_charging` promises, and the octets are as `octet_charging` leaves them.
-use borrow.Author.Rules.{rules}
 use Rattle.boundary.proofs.tk_charging.Goals as goal
 
 pub returns : goal.returns

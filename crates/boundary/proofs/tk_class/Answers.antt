@@ -1,5 +1,4 @@
 -- `tk_class` meets its contract: its arms are the cases of the definition.
-use borrow.Author.Rules.{rules}
 use Rattle.boundary.proofs.tk_class.Goals as goal
 
 pub returns-in-Is : goal.returns-in-Is

@@ -1,5 +1,4 @@
 -- `tk_find_transfer` meets its contract: the part's length and the answer are those that finding promises.
-use borrow.Author.Rules.{rules}
 use Rattle.boundary.proofs.tk_find_transfer.Goals as goal
 
 pub returns : goal.returns

@@ -1,5 +1,4 @@
 -- `tk_order` meets its contract: it packs the answer that `octet_order` promises, and the table is as `octet_order` leaves it.
-use borrow.Author.Rules.{rules}
 use Rattle.boundary.proofs.tk_order.Goals as goal
 
 pub returns : goal.returns

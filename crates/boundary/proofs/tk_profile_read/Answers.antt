@@ -1,6 +1,5 @@
 -- `tk_profile_read` meets its contract: it packs the answer that the profile's `read_image` promises, and the octets are as that leaves
 -- them.
-use borrow.Author.Rules.{rules}
 use Rattle.boundary.proofs.tk_profile_read.Goals as goal
 
 pub returns : goal.returns

@@ -1,5 +1,4 @@
 -- `tk_profile_write` meets its contract: it packs the answer that the profile's `write_image` promises, and the room is as that leaves it.
-use borrow.Author.Rules.{rules}
 use Rattle.boundary.proofs.tk_profile_write.Goals as goal
 
 pub returns : goal.returns

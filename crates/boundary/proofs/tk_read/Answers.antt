@@ -1,5 +1,4 @@
 -- `tk_read` meets its contract: it packs the answer that `read_image` promises, and the image is as `read_image` leaves it.
-use borrow.Author.Rules.{rules}
 use Rattle.boundary.proofs.tk_read.Goals as goal
 
 pub returns : goal.returns

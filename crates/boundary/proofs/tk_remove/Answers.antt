@@ -1,5 +1,4 @@
 -- `tk_remove` meets its contract: it packs the answer that `remove` promises, and the buffer is as `remove` leaves it.
-use borrow.Author.Rules.{rules}
 use Rattle.boundary.proofs.tk_remove.Goals as goal
 
 pub returns : goal.returns

@@ -1,5 +1,4 @@
 -- `tk_replace` meets its contract: it packs the answer that `replace` promises, and the buffer is as `replace` leaves it.
-use borrow.Author.Rules.{rules}
 use Rattle.boundary.proofs.tk_replace.Goals as goal
 
 pub returns : goal.returns

@@ -1,5 +1,4 @@
 -- `tk_rows` meets its contract: it packs the answer that `octet_spans` promises, and the table is as `octet_spans` leaves it.
-use borrow.Author.Rules.{rules}
 use Rattle.boundary.proofs.tk_rows.Goals as goal
 
 pub returns : goal.returns

@@ -1,5 +1,4 @@
 -- `tk_write` meets its contract: it packs the answer that `write_image` promises, and the room is as `write_image` leaves it.
-use borrow.Author.Rules.{rules}
 use Rattle.boundary.proofs.tk_write.Goals as goal
 
 pub returns : goal.returns
