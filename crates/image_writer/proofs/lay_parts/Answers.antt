@@ -47,7 +47,7 @@ returns-in_default c =
     let there : octets_to_a_common_head ≤ length (drop v.i s) = rw (length-drop v.i s) c.if-s-i-lt-COMMON_HEAD.false in
     let head : h ≡ common_front (drop v.i s) = c.common_head-c.ensures ∙ ap common_front (to_end v.i s) in
     let judged : part_writing (times_seen v.seen h.header) 0 (raw_part h []) ≡ c.head_refusal-a.result =
-      sym c.head_refusal-a.ensures in
+    sym c.head_refusal-a.ensures in
     let e = c.in_default.is in
     rw (c.of-in_default.ensures.0, c.of-in_default.ensures.1, c.placed.ensures, e)
     (v.invariant.4 _ _ v.draft v.invariant.3
@@ -57,7 +57,7 @@ pub overflow_add-seen : goal.overflow_add-seen
 overflow_add-seen c =
     let h = c.common_head-c.result in
     let judged : part_writing (times_seen c.loop-left.seen h.header) 0 (raw_part h []) ≡ c.head_refusal-a.result =
-      sym c.head_refusal-a.ensures in
+    sym c.head_refusal-a.ensures in
     omega (arith, (part_head_passed _ h _ (judged ∙ c.in-Accepted.is)).0)
 
 pub overflow_add-at : goal.overflow_add-at
@@ -65,7 +65,7 @@ overflow_add-at c =
     let v = c.loop-left in
     let h = c.common_head-c.result in
     let judged : part_writing (times_seen v.seen h.header) 0 (raw_part h []) ≡ c.head_refusal-a.result =
-      sym c.head_refusal-a.ensures in
+    sym c.head_refusal-a.ensures in
     let taken = part_head_passed _ h _ (judged ∙ c.in-Accepted.is) in
     omega (arith, taken.1, head_long h.header, v.invariant.2, c.requires)
 
@@ -80,21 +80,21 @@ loop-left-preserved-then-c c =
     let there : octets_to_a_common_head ≤ length (drop v.i s) = rw (length-drop v.i s) c.if-s-i-lt-COMMON_HEAD.false in
     let head : h ≡ common_front (drop v.i s) = c.common_head-c.ensures ∙ ap common_front (to_end v.i s) in
     let judged : part_writing (times_seen v.seen h.header) 0 (raw_part h []) ≡ c.head_refusal-a.result =
-      sym c.head_refusal-a.ensures in
+    sym c.head_refusal-a.ensures in
     let taken = part_head_passed _ h _ (judged ∙ c.in-Accepted.is) in
     let is : d ≡ laid_at (Accepted n) (layout_part (raw_part h [])) v.at v.draft =
-      keeps_laid v.draft v.at (layout_part (raw_part h [])) n c.lay_head.result d c.lay_head.ensures.0 c.lay_head.ensures.1 in
+    keeps_laid v.draft v.at (layout_part (raw_part h [])) n c.lay_head.result d c.lay_head.ensures.0 c.lay_head.ensures.1 in
     let next : c.args.count - (v.left - 1) ≡ suc (c.args.count - v.left) = omega (arith, c.loop-left-test.true, v.invariant.1) in
     let same : length d ≡ length c.args.draft.now =
-      ap (λ (z : List ℕ). length z) is ∙ laid_length v.draft v.at (layout_part (raw_part h [])) n ∙ v.invariant.3 in (
-    omega (arith, c.if-s-i-lt-COMMON_HEAD.false),
-    omega (arith, v.invariant.1),
-    omega (arith, taken.1, head_long h.header, next, v.invariant.2),
-    same,
-    λ b end z m w.
-        v.invariant.4 b end z m
-        (rw left (plain_turn v.seen v.at v.i (v.left - 1) s end z h head there _ judged n c.in-Accepted.is c.if-c.true v.draft
-        (m ∙ sym v.invariant.3) b (rw (← is) w))),
+    ap (λ (z : List ℕ). length z) is ∙ laid_length v.draft v.at (layout_part (raw_part h [])) n ∙ v.invariant.3 in (
+      omega (arith, c.if-s-i-lt-COMMON_HEAD.false),
+      omega (arith, v.invariant.1),
+      omega (arith, taken.1, head_long h.header, next, v.invariant.2),
+      same,
+      λ b end z m w.
+          v.invariant.4 b end z m
+          (rw left (plain_turn v.seen v.at v.i (v.left - 1) s end z h head there _ judged n c.in-Accepted.is c.if-c.true v.draft
+          (m ∙ sym v.invariant.3) b (rw (← is) w))),
     )
 
 pub returns-in_default-b : goal.returns-in_default-b
@@ -108,12 +108,12 @@ returns-in_default-b c =
     let there : octets_to_a_common_head ≤ length (drop v.i s) = rw (length-drop v.i s) c.if-s-i-lt-COMMON_HEAD.false in
     let head : h ≡ common_front (drop v.i s) = c.common_head-c.ensures ∙ ap common_front (to_end v.i s) in
     let judged : part_writing (times_seen v.seen h.header) 0 (raw_part h []) ≡ c.head_refusal-a.result =
-      sym c.head_refusal-a.ensures in
+    sym c.head_refusal-a.ensures in
     let long : length d ≡ length v.draft = search rules in
     let e = c.in_default-b.is in
     let gave = subst
-      (λ (z : Answer). DataServed v.at (take v.at v.draft) (items_front h.transfers (drop (v.i + octets_to_a_common_head) s)) z y.result.octets d) e
-      (rw (to_end (v.i + octets_to_a_common_head) s) at y.ensures.served) in
+    (λ (z : Answer). DataServed v.at (take v.at v.draft) (items_front h.transfers (drop (v.i + octets_to_a_common_head) s)) z y.result.octets d) e
+    (rw (to_end (v.i + octets_to_a_common_head) s) at y.ensures.served) in
     rw e
     (v.invariant.4 _ _ d (long ∙ v.invariant.3)
     (rw left (data_stop v.seen v.at v.i (v.left - 1) s _ d h head there _ judged _ c.in-Accepted.is c.if-c.false v.draft y.result.octets d _ _ gave)))
@@ -130,31 +130,31 @@ loop-left-preserved c =
     let there : octets_to_a_common_head ≤ length (drop v.i s) = rw (length-drop v.i s) c.if-s-i-lt-COMMON_HEAD.false in
     let head : h ≡ common_front (drop v.i s) = c.common_head-c.ensures ∙ ap common_front (to_end v.i s) in
     let judged : part_writing (times_seen v.seen h.header) 0 (raw_part h []) ≡ c.head_refusal-a.result =
-      sym c.head_refusal-a.ensures in
+    sym c.head_refusal-a.ensures in
     let long : length d ≡ length v.draft = search rules in
     let same : length d ≡ length c.args.draft.now = long ∙ v.invariant.3 in
     let gave = subst
-      (λ (z : Answer). DataServed v.at (take v.at v.draft) (items_front h.transfers (drop (v.i + octets_to_a_common_head) s)) z y.result.octets d)
-      c.in-Accepted-b.is
-      (rw (to_end (v.i + octets_to_a_common_head) s) at y.ensures.served) in
+    (λ (z : Answer). DataServed v.at (take v.at v.draft) (items_front h.transfers (drop (v.i + octets_to_a_common_head) s)) z y.result.octets d)
+    c.in-Accepted-b.is
+    (rw (to_end (v.i + octets_to_a_common_head) s) at y.ensures.served) in
     let most : n ≤ v.at + 257 =
-      data_most v.at (take v.at v.draft) (items_front h.transfers (drop (v.i + octets_to_a_common_head) s)) n y.result.octets d gave in
+    data_most v.at (take v.at v.draft) (items_front h.transfers (drop (v.i + octets_to_a_common_head) s)) n y.result.octets d gave in
     let ends : v.i + octets_to_a_common_head + y.result.octets ≤ length s =
-      omega (
+    omega (
       arith,
       rw (to_end (v.i + octets_to_a_common_head) s) at y.ensures.within,
       length-drop (v.i + octets_to_a_common_head) s,
       c.if-s-i-lt-COMMON_HEAD.false,
-      ) in
+    ) in
     let next : c.args.count - (v.left - 1) ≡ suc (c.args.count - v.left) = omega (arith, c.loop-left-test.true, v.invariant.1) in (
-    ends,
-    omega (arith, v.invariant.1),
-    omega (arith, most, next, v.invariant.2),
-    same,
-    λ b end z m w.
-        v.invariant.4 b end z m
-        (rw left (data_turn v.seen v.at v.i (v.left - 1) s end z h head there _ judged _ c.in-Accepted.is c.if-c.false v.draft
-        y.result.octets d n gave (m ∙ sym same) b w)),
+      ends,
+      omega (arith, v.invariant.1),
+      omega (arith, most, next, v.invariant.2),
+      same,
+      λ b end z m w.
+          v.invariant.4 b end z m
+          (rw left (data_turn v.seen v.at v.i (v.left - 1) s end z h head there _ judged _ c.in-Accepted.is c.if-c.false v.draft
+          y.result.octets d n gave (m ∙ sym same) b w)),
     )
 
 pub returns : goal.returns
