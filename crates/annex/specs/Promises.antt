@@ -81,7 +81,7 @@ SpansCheckPromise m room r = r ≡ spans_of m room
 abbrev pub SpansPromise : List ℕ → List Row → Answer → List Row → Type 0
 SpansPromise m table r now = (r ≡ spans_of m (length table)) × (now ≡ table_of m table)
 
--- rows::octets::octet_spans
+-- rows::in_octets::octet_spans
 abbrev pub OctetSpansPromise : List ℕ → List ℕ → Answer → List ℕ → Type 0
 OctetSpansPromise m table r now = (r ≡ octet_spans m (length table)) × (now ≡ octet_table m table)
 
@@ -93,7 +93,7 @@ OrderCheckPromise m room r = r ≡ order_answer m room
 abbrev pub OrderPromise : List ℕ → List Row → Answer → List Row → Type 0
 OrderPromise m table r now = (r ≡ order_answer m (length table)) × (now ≡ order_table m table)
 
--- rows::octets::octet_order
+-- rows::in_octets::octet_order
 abbrev pub OctetOrderPromise : List ℕ → List ℕ → Answer → List ℕ → Type 0
 OctetOrderPromise m table r now = (r ≡ octet_order m (length table)) × (now ≡ octet_order_table m table)
 

@@ -31,7 +31,10 @@ loop-i-smaller c = omega (arith, c.loop-i-test.true)
 
 pub returns-then-not-is_defined : goal.returns-then-not-is_defined
 returns-then-not-is_defined c =
-    sym (next c.args.s.now c.loop-i.i c.loop-i.invariant.1 c.loop-i-test.true ∙ rw (← c.is_defined.ensures, c.if-not-is_defined.true))
+    let s = c.args.s.now in
+    let i = c.loop-i.i in
+    let told : c.is_defined.result ≡ among (get_or s i 0) class_names = c.is_defined.ensures in
+    sym (next s i c.loop-i.invariant.1 c.loop-i-test.true ∙ rw (← told, c.if-not-is_defined.true))
 
 -- whether its name stands again behind it
 again : (s : List ℕ) (i : ℕ) (b : Bool) → b ≡ among (get_or s i 0) (names_in (take (length s - (i + 2)) (drop (i + 2) s)))
