@@ -49,7 +49,7 @@ fn value(sum: &str) -> usize {
 #[test]
 fn of_the_longest_image() {
     let proved = include_str!("../../../crates/boundary/specs/SmallImages.antt");
-    let proved = value(line(proved, "pub image-max : most-image ≡ ", '\n'));
+    let proved = value(line(proved, "pub image_max : most_image ≡ ", '\n'));
     assert_eq!(value(line(HEADER, "#define TK_IMAGE_MAX (", ')')), proved);
     assert_eq!(codec::IMAGE_MAX, proved);
 }
@@ -57,7 +57,7 @@ fn of_the_longest_image() {
 #[test]
 fn of_the_most_rows_of_an_order() {
     let proved = include_str!("../../../crates/annex/specs/Opened.antt");
-    let proved = value(line(proved, "most-order-rows = ", '\n'));
+    let proved = value(line(proved, "most_order_rows = ", '\n'));
     let header = line(HEADER, "#define TK_ORDER_ROWS_MAX ", '\n');
     assert_eq!(value(header), proved);
     assert_eq!(codec::ORDER_ROWS_MAX, proved);
@@ -66,18 +66,18 @@ fn of_the_most_rows_of_an_order() {
 #[test]
 fn of_the_most_carriers_their_rows_and_digits() {
     let proved = include_str!("../../../crates/annex/specs/Heads.antt");
-    let carriers = value(line(proved, "most-carriers = ", '\n'));
+    let carriers = value(line(proved, "most_carriers = ", '\n'));
     assert_eq!(
         value(line(HEADER, "#define TK_CARRIERS_MAX ", '\n')),
         carriers
     );
     assert_eq!(codec::CARRIERS_MAX, carriers);
     let proved = include_str!("../../../crates/annex/specs/Transit.antt");
-    let rows = value(line(proved, "most-carrier-rows = ", '\n'));
+    let rows = value(line(proved, "most_carrier_rows = ", '\n'));
     let header = line(HEADER, "#define TK_CARRIER_ROWS_MAX ", '\n');
     assert_eq!(value(header), rows);
     assert_eq!(codec::CARRIER_ROWS_MAX, rows);
-    let digits = value(line(proved, "most-carrier-digits = ", '\n'));
+    let digits = value(line(proved, "most_carrier_digits = ", '\n'));
     let header = line(HEADER, "#define TK_CARRIER_DIGITS_MAX (", ')');
     assert_eq!(value(header), digits);
     assert_eq!(codec::CARRIER_DIGITS_MAX, digits);
@@ -86,7 +86,7 @@ fn of_the_most_carriers_their_rows_and_digits() {
 #[test]
 fn of_the_most_octets_of_the_added_classes() {
     let proved = include_str!("../../../crates/boundary/specs/SmallProfile.antt");
-    let proved = value(line(proved, "pub added-max : most-added ≡ ", '\n'));
+    let proved = value(line(proved, "pub added_max : most_added ≡ ", '\n'));
     assert_eq!(value(line(HEADER, "#define TK_ADDED_MAX ", '\n')), proved);
     assert_eq!(codec::ADDED_MAX, proved);
 }
