@@ -1,7 +1,7 @@
 -- What a record may be: document 01, "Common part", "Transfer data" and "Writing", and of the sequence document 02, request d; one line for
 -- each rule. Nothing here mentions reading, and nothing but what is wrong with one parameter's values says in which order a refusal comes.
 use Rattle.std.specs.Prelude.{ℕ, suc, ◌+◌, ◌≤◌, ◌<◌, ◌≡◌, Bool, true, cond, ◌&&◌, List, [], ◌∷◌, ◌++◌, map, eqb, leb, ltb, length, get_or, drop}
-use Rattle.annex.specs.Answers.{bad_digit, formed_then, is_sound}
+use Rattle.annex.specs.Answers.{bad_digit, formed_then, is_sound, Fault, Sound, Bad}
 use Rattle.annex.specs.Units.{name_of, after_of, extent_of}
 use Rattle.annex.specs.Heads.{
   withheld,
@@ -33,8 +33,6 @@ use Rattle.annex.specs.Layout.{layout_items}
 use Rattle.annex.specs.declared.Extent.{Extent}
 use Rattle.annex.specs.declared.Extent.TheVariants.{Fixed, Counted}
 use Rattle.annex.specs.declared.CountingUnit.TheVariants.{HalfOctet, Octet}
-use Rattle.annex.specs.declared.Fault.{Fault}
-use Rattle.annex.specs.declared.Fault.TheVariants.{Sound, Bad}
 
 -- the test passes at each of the list; what holds of each of the list
 abbrev pub every : {A : Type 0} → (A → Bool) → List A → Bool

@@ -1,16 +1,50 @@
 -- Answers and refusals: document 01, "Refusal numbers and their order". The numbers are named here, and the number, place and value of
 -- every case of an answer, a class answer, a fault of contents and what was found.
-use Rattle.std.specs.Prelude.{ℕ, ◌+◌, Bool, true, false, cond, List, ◌++◌, eqb, drop}
-use Rattle.annex.specs.declared.Answer.{Answer}
-use Rattle.annex.specs.declared.Answer.TheVariants.{Accepted, Refused}
-use Rattle.annex.specs.declared.Fault.{Fault}
-use Rattle.annex.specs.declared.Fault.TheVariants.{Sound, Bad}
-use Rattle.annex.specs.declared.Found.{Found}
-use Rattle.annex.specs.declared.Found.TheVariants.{At, Nowhere}
+use Rattle.std.specs.Prelude.{ℕ, ◌+◌, Bool, true, false, cond, List, ◌++◌, eqb, drop, Option, Some, None, Result, Ok, Err}
+use Rattle.annex.specs.declared.Charges.{Charges}
 use Rattle.annex.specs.declared.Class.{Class}
 use Rattle.annex.specs.declared.Class.TheVariants.{Named, HeldBack, Spare}
-use Rattle.annex.specs.declared.ClassAnswer.{ClassAnswer}
-use Rattle.annex.specs.declared.ClassAnswer.TheVariants as classes
+use Rattle.annex.specs.declared.Flaw.{Flaw}
+use Rattle.annex.specs.declared.Refusal.{Refusal}
+
+-- what a call answers: accepted, with a count, or refused, with a number and a place; a class or charges, or a refusal
+abbrev pub Answer : Type 0
+Answer = Result ℕ Refusal
+
+abbrev pub ClassAnswer : Type 0
+ClassAnswer = Result Class Refusal
+
+abbrev pub ChargingAnswer : Type 0
+ChargingAnswer = Result Charges Refusal
+
+pattern abbrev pub Accepted : ℕ → Answer
+Accepted n = Ok n
+
+pattern abbrev pub Is : {A : Type 0} → A → Result A Refusal
+Is a = Ok a
+
+abbrev pub Refused : {A : Type 0} → ℕ → ℕ → Result A Refusal
+Refused k p = Err (k, p)
+
+-- what is wrong with contents: nothing, or the refusal's number and the offset of the octet
+abbrev pub Fault : Type 0
+Fault = Result Unit Flaw
+
+pattern abbrev pub Sound : Fault
+Sound = Ok tt
+
+abbrev pub Bad : ℕ → ℕ → Fault
+Bad k i = Err (k, i)
+
+-- where a parameter or its contents stand: from an octet to before another
+abbrev pub Found : Type 0
+Found = Option (ℕ × ℕ)
+
+pattern abbrev pub At : ℕ → ℕ → Found
+At s e = Some (s, e)
+
+pattern abbrev pub Nowhere : Found
+Nowhere = None
 
 -- 1: a message of no octets or of more than 272, or a record beyond what a record may hold
 abbrev pub over_the_limits : ℕ
@@ -93,32 +127,32 @@ wrong_order = 19
 abbrev pub outside_profile : ℕ
 outside_profile = 20
 
--- the number of an answer, 0 where accepted; its place, 0 where accepted; and the count that it gives, 0 where refused
-abbrev pub number_of : Answer → ℕ
-number_of (Accepted n) = 0
-number_of (Refused k p) = k
+-- the number of an answer of any kind, 0 where accepted; its place, 0 where accepted; and the count that it gives, 0 where refused
+abbrev pub number_of : {A : Type 0} → Result A Refusal → ℕ
+number_of (Ok a) = 0
+number_of (Err r) = r.0
 
-abbrev pub place_of : Answer → ℕ
-place_of (Accepted n) = 0
-place_of (Refused k p) = p
+abbrev pub place_of : {A : Type 0} → Result A Refusal → ℕ
+place_of (Ok a) = 0
+place_of (Err r) = r.1
 
 abbrev pub given_of : Answer → ℕ
 given_of (Accepted n) = n
-given_of (Refused k p) = 0
+given_of (Err r) = 0
 
 -- what lent room holds after an answer: so many elements written at its front and those past them as before; unchanged where refused
 abbrev pub room_after : {A : Type 0} → Answer → List A → List A → List A
 room_after (Accepted n) written room = written ++ drop n room
-room_after (Refused k p) written room = room
+room_after (Err r) written room = room
 
 -- the number of a fault, 0 where there is none, and the offset of the octet in the contents
 abbrev pub fault_number_of : Fault → ℕ
 fault_number_of Sound = 0
-fault_number_of (Bad k i) = k
+fault_number_of (Err r) = r.0
 
 abbrev pub offset_of : Fault → ℕ
 offset_of Sound = 0
-offset_of (Bad k i) = i
+offset_of (Err r) = r.1
 
 -- faults in their order: 12 where the form is not kept, and else another
 abbrev pub formed_then : Bool → Fault → Fault
@@ -131,12 +165,12 @@ formed b = formed_then b Sound
 -- one fault, and where there is none another
 abbrev pub fault_then : Fault → Fault → Fault
 fault_then Sound g = g
-fault_then (Bad k i) g = Bad k i
+fault_then (Err r) g = Err r
 
 -- nothing is wrong
 abbrev pub is_sound : Fault → Bool
 is_sound Sound = true
-is_sound (Bad k i) = false
+is_sound (Err r) = false
 
 -- where what was found starts and ends, the empty stretch where there is none
 abbrev pub start_of : Found → ℕ
@@ -147,23 +181,15 @@ abbrev pub stop_of : Found → ℕ
 stop_of (At s e) = e
 stop_of Nowhere = 0
 
--- the classes as numbers, and the number, place and class of a class answer
+-- the classes as numbers, and the class of a class answer
 abbrev pub class_value_of : Class → ℕ
 class_value_of Named = 0
 class_value_of HeldBack = 1
 class_value_of Spare = 2
 
-abbrev pub class_number_of : ClassAnswer → ℕ
-class_number_of (classes.Is c) = 0
-class_number_of (classes.Refused k p) = k
-
-abbrev pub class_place_of : ClassAnswer → ℕ
-class_place_of (classes.Is c) = 0
-class_place_of (classes.Refused k p) = p
-
 abbrev pub class_given_of : ClassAnswer → ℕ
-class_given_of (classes.Is c) = class_value_of c
-class_given_of (classes.Refused k p) = 0
+class_given_of (Is c) = class_value_of c
+class_given_of (Err r) = 0
 
 -- refused with the number k at the place p if the test holds, and else what follows
 abbrev pub refuse : Bool → ℕ → ℕ → Answer → Answer
@@ -173,7 +199,7 @@ refuse false k p a = a
 -- refused with a fault's number, at the place that `place` makes of number and offset, and else what follows
 abbrev pub sound_then : (ℕ → ℕ → ℕ) → Fault → Answer → Answer
 sound_then place Sound a = a
-sound_then place (Bad k i) a = Refused k (place k i)
+sound_then place (Err r) a = Refused r.0 (place r.0 r.1)
 
 -- a fault is told at the header, which stands at p: in writing and in editing
 abbrev pub header_at : ℕ → ℕ → ℕ → ℕ
@@ -187,14 +213,14 @@ reading_at start k i = cond (eqb k bad_digit) (start + i) 0
 -- what follows an accepted step; a refusal is passed on
 abbrev pub and_then : Answer → (ℕ → Answer) → Answer
 and_then (Accepted n) f = f n
-and_then (Refused k p) f = Refused k p
+and_then (Err r) f = Err r
 
 -- an answer about a part that starts at s, told of the whole
 abbrev pub shifted : ℕ → Answer → Answer
 shifted s (Accepted n) = Accepted n
-shifted s (Refused k p) = Refused k (s + p)
+shifted s (Err r) = Refused r.0 (s + r.1)
 
 -- the same answer, a refusal told at the place p
 abbrev pub placed_at : ℕ → Answer → Answer
 placed_at p (Accepted n) = Accepted n
-placed_at p (Refused k q) = Refused k p
+placed_at p (Err r) = Refused r.0 p

@@ -45,8 +45,7 @@ use Rattle.annex.specs.Editing.{Edit, edit_refusal, instead, edited_items, edite
 use Rattle.annex.specs.Editing.Edit.{Replacing, Appending, Removing}
 use Rattle.annex.specs.BadHalves.{pars_good, bad_at}
 use Rattle.annex.specs.Bench.{M, K, record_of_k}
-use Rattle.annex.specs.declared.Answer.{Answer}
-use Rattle.annex.specs.declared.Answer.TheVariants.{Accepted, Refused}
+use Rattle.annex.specs.Answers.{Answer, Accepted, Refused}
 
 -- transfer data in a message, and the answer; a message, and the answer; transfer parameters of a record, and the answer to writing it,
 -- room aside; an edit of a message with no room behind it, and the answer; a header and contents, and the offsets of the bad octets

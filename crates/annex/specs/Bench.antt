@@ -1,6 +1,6 @@
 -- The bench table: document 01, "The bench table", cases 1 to 15, with case 13 as document 02's request e changes it, and the examples of
 -- request d, under one statement. Case 1, M, is an example of request d too.
-use Rattle.std.specs.Prelude.{ℕ, ◌≡◌, refl, List, [], ◌∷◌, ◌++◌, map, length}
+use Rattle.std.specs.Prelude.{ℕ, ◌≡◌, refl, List, [], ◌∷◌, ◌++◌, map, length, Err}
 use Rattle.annex.specs.Units.{after_of, lead_of, common_extent_of, extent_of}
 use Rattle.annex.specs.Heads.{value_allowed, name_used, pli_right, often_of, zeroes_of, form_of}
 use Rattle.annex.specs.Digits.{halves, joined, digit_of, code_of, is_code, halves_fault, digits_fault, digits_of, packed, number_fault_in}
@@ -26,8 +26,7 @@ use Rattle.annex.specs.Reading.{
 }
 use Rattle.annex.specs.Editing.{Edit, edit_refusal, instead, edited_items, edited, record_editing, editing_of, buffer_of}
 use Rattle.annex.specs.Editing.Edit.{Replacing}
-use Rattle.annex.specs.declared.Answer.{Answer}
-use Rattle.annex.specs.declared.Answer.TheVariants.{Accepted, Refused}
+use Rattle.annex.specs.Answers.{Answer, Accepted, Refused}
 
 -- a message, the answer to it and the record beside the answer; or an edit of a buffer that holds a message, the answer and the buffer then
 pub data Case : Type 0 where
@@ -37,7 +36,7 @@ pub data Case : Type 0 where
 -- the record beside an answer: none where refused
 abbrev beside : Answer → List Part → List Part
 beside (Accepted n) r = r
-beside (Refused k p) r = []
+beside (Err w) r = []
 
 -- a case with what the definitions say in the place of what the table says
 abbrev as_defined : Case → Case

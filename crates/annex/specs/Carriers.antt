@@ -3,15 +3,13 @@
 -- entries may hold: one rule says for both what the form is (12), one where the first bad digit stands (13). The form of all of CC is
 -- looked at before any digit.
 use Rattle.std.specs.Prelude.{ℕ, ◌+◌, Bool, true, cond, not, ◌&&◌, List, [], ◌∷◌, eqb, leb, length, get_or, drop}
-use Rattle.annex.specs.Answers.{formed_then, fault_then}
+use Rattle.annex.specs.Answers.{formed_then, fault_then, Fault, Sound}
 use Rattle.annex.specs.Heads.{among}
 use Rattle.annex.specs.Digits.{digits_fault, digits_of, count_behind}
 use Rattle.annex.specs.Walk.{Par, Size, size_by, pars}
 use Rattle.annex.specs.declared.Alphabet.TheVariants.{Decimal}
 use Rattle.annex.specs.declared.CountingUnit.TheVariants.{Octet}
 use Rattle.annex.specs.declared.Extent.TheVariants.{Counted}
-use Rattle.annex.specs.declared.Fault.{Fault}
-use Rattle.annex.specs.declared.Fault.TheVariants.{Sound}
 use Rattle.annex.specs.declared.HalfOctets.{HalfOctets}
 
 -- ---- the tags

@@ -1,18 +1,13 @@
 -- The charging information of a message, beside its record: document 02, request a. Reading's numbers, then 16 where there is no F7, or
 -- what F7 says; and the same as octets for Rust and C.
-use Rattle.std.specs.Prelude.{ℕ, List, [], ◌∷◌, ◌++◌, map, ltb, length}
-use Rattle.annex.specs.Answers.{no_room, refuse, room_after}
+use Rattle.std.specs.Prelude.{ℕ, List, [], ◌∷◌, ◌++◌, map, ltb, length, Err}
+use Rattle.annex.specs.Answers.{no_room, refuse, room_after, Answer, Accepted, ChargingAnswer, Is, Found}
 use Rattle.annex.specs.Units.{name_of}
 use Rattle.annex.specs.Heads.{charging_information}
 use Rattle.annex.specs.Rates.{fields, charges_of, value_of}
 use Rattle.annex.specs.Finding.{transfer_found, find_answer, find_part}
 use Rattle.annex.specs.Image.{two_octets}
-use Rattle.annex.specs.declared.Answer.{Answer}
-use Rattle.annex.specs.declared.Answer.TheVariants as answers
 use Rattle.annex.specs.declared.Charges.{Charges}
-use Rattle.annex.specs.declared.ChargingAnswer.{ChargingAnswer}
-use Rattle.annex.specs.declared.ChargingAnswer.TheVariants.{Is, Refused}
-use Rattle.annex.specs.declared.Found.{Found}
 
 -- ---- the answer
 
@@ -22,8 +17,8 @@ charging_found m = transfer_found (name_of charging_information) 0 m
 
 -- what contents say that were found, or why they were not
 abbrev pub charging_by : Answer → List ℕ → ChargingAnswer
-charging_by (answers.Accepted n) s = Is (charges_of s)
-charging_by (answers.Refused k p) s = Refused k p
+charging_by (Accepted n) s = Is (charges_of s)
+charging_by (Err r) s = Err r
 
 -- of a message
 unfoldable pub charging_of : List ℕ → ChargingAnswer
@@ -31,22 +26,14 @@ charging_of m = charging_by (find_answer m (charging_found m)) (find_part m (cha
 
 -- ---- its numbers
 
--- the number of an answer, 0 where it is given; its place, 0 where it is given; and the numbers that it gives, none where refused
-abbrev pub charging_number_of : ChargingAnswer → ℕ
-charging_number_of (Is c) = 0
-charging_number_of (Refused k p) = k
-
-abbrev pub charging_place_of : ChargingAnswer → ℕ
-charging_place_of (Is c) = 0
-charging_place_of (Refused k p) = p
-
+-- the numbers that an answer gives, none where refused
 -- the fields in their order
 abbrev pub field_numbers : Charges → List ℕ
 field_numbers c = map (λ f. value_of f c) fields
 
 abbrev pub charging_given_of : ChargingAnswer → List ℕ
 charging_given_of (Is c) = c.kind ∷ field_numbers c
-charging_given_of (Refused k p) = []
+charging_given_of (Err r) = []
 
 -- ---- for Rust and C
 
@@ -65,13 +52,13 @@ charge_octets c = c.kind ∷ all_in_two (field_numbers c)
 
 -- how many octets are given, or number and place: 15 where the room is shorter comes last
 abbrev pub octet_charging_by : ChargingAnswer → ℕ → Answer
-octet_charging_by (Is c) room = refuse (ltb room charging_octets) no_room 0 (answers.Accepted charging_octets)
-octet_charging_by (Refused k p) room = answers.Refused k p
+octet_charging_by (Is c) room = refuse (ltb room charging_octets) no_room 0 (Accepted charging_octets)
+octet_charging_by (Err r) room = Err r
 
 -- the octets, and none where refused
 abbrev pub charge_octets_by : ChargingAnswer → List ℕ
 charge_octets_by (Is c) = charge_octets c
-charge_octets_by (Refused k p) = []
+charge_octets_by (Err r) = []
 
 -- of a message, for a room of so many octets
 unfoldable pub octet_charging : List ℕ → ℕ → Answer

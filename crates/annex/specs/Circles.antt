@@ -49,10 +49,7 @@ use Rattle.annex.specs.Editing.Edit.{Replacing, Appending}
 use Rattle.annex.specs.Opened.{order_listing, order_rows_of, order_answer, order_table}
 use Rattle.annex.specs.Packed.{rows_octets, octet_order, octet_order_table}
 use Rattle.annex.specs.Bench.{K}
-use Rattle.annex.specs.declared.Answer.{Answer}
-use Rattle.annex.specs.declared.Answer.TheVariants.{Accepted, Refused}
-use Rattle.annex.specs.declared.Fault.{Fault}
-use Rattle.annex.specs.declared.Fault.TheVariants.{Bad}
+use Rattle.annex.specs.Answers.{Answer, Accepted, Refused, Fault, Bad}
 use Rattle.annex.specs.declared.Row.{Row}
 
 -- ---- the grid

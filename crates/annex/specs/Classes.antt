@@ -1,11 +1,9 @@
 -- Classes of code values: document 01, "Classes of code values", and refusals 17 and 12, in that order.
 use Rattle.std.specs.Prelude.{ℕ, ◌/◌, ◌%◌, Bool, false, cond, ◌&&◌, ◌||◌, List, [], ◌∷◌, eqb, leb}
-use Rattle.annex.specs.Answers.{bad_form, no_class_list}
+use Rattle.annex.specs.Answers.{bad_form, no_class_list, ClassAnswer, Is, Refused}
 use Rattle.annex.specs.Heads.{clear, zeroes_of}
 use Rattle.annex.specs.declared.Class.{Class}
 use Rattle.annex.specs.declared.Class.TheVariants.{Named, HeldBack, Spare}
-use Rattle.annex.specs.declared.ClassAnswer.{ClassAnswer}
-use Rattle.annex.specs.declared.ClassAnswer.TheVariants.{Is, Refused}
 
 -- from one number to another, both included
 pub record Range : Type 0 where

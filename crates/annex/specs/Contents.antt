@@ -2,7 +2,7 @@
 -- b and g, with refusals 18 and 19. 12 comes before 13 and 13 before 18; in a connection order 19 comes first of each part. The offset is
 -- that of the octet in the contents.
 use Rattle.std.specs.Prelude.{ℕ, ◌+◌, ◌-◌, ◌/◌, ◌%◌, cond, not, ◌&&◌, List, eqb, ltb, length, get_or, drop}
-use Rattle.annex.specs.Answers.{formed_then, formed, fault_then, check_digit}
+use Rattle.annex.specs.Answers.{formed_then, formed, fault_then, check_digit, Fault, Sound, Bad}
 use Rattle.annex.specs.Units.{counted_by}
 use Rattle.annex.specs.Heads.{added_calling_number, withheld, clear, zeroes_of, form_of}
 use Rattle.annex.specs.declared.Check.{Check}
@@ -14,8 +14,6 @@ use Rattle.annex.specs.Orders.{order_fault}
 use Rattle.annex.specs.Carriers.{carriers_fault}
 use Rattle.annex.specs.Rates.{is_kind, drawn_for, kind_in, field_octets, drawn_fault, check_right}
 use Rattle.annex.specs.declared.Alphabet.TheVariants.{Dialled}
-use Rattle.annex.specs.declared.Fault.{Fault}
-use Rattle.annex.specs.declared.Fault.TheVariants.{Sound, Bad}
 
 -- a number's second octet: presentation (3-2)
 abbrev pub presentation_of : List ℕ → ℕ

@@ -1,12 +1,10 @@
 -- Digits in half-octets: document 01, "Transfer data", PLI 10 and D7.
 use Rattle.std.specs.Prelude.{ℕ, zero, suc, ◌+◌, ◌-◌, ◌*◌, ◌/◌, ◌%◌, Bool, cond, not, ◌&&◌, List, [], ◌∷◌, map, eqb, leb, ltb, length, get_or, take, drop}
-use Rattle.annex.specs.Answers.{bad_digit, formed_then}
+use Rattle.annex.specs.Answers.{bad_digit, formed_then, Fault, Sound, Bad}
 use Rattle.annex.specs.Units.{halves_of, halves_in}
 use Rattle.annex.specs.declared.HalfOctets.{HalfOctets}
 use Rattle.annex.specs.declared.Alphabet.{Alphabet}
 use Rattle.annex.specs.declared.Alphabet.TheVariants.{Dialled, Numbered, Decimal}
-use Rattle.annex.specs.declared.Fault.{Fault}
-use Rattle.annex.specs.declared.Fault.TheVariants.{Sound, Bad}
 
 -- the half-octets of octets: of each octet the low half comes first
 unfoldable pub halves : List ℕ → List ℕ

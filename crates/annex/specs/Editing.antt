@@ -1,6 +1,6 @@
 -- Editing in place: document 01, "Editing", and which of those with a name, document 02, request g: the refusals in their order, the record
 -- so edited, and what the buffer then holds.
-use Rattle.std.specs.Prelude.{ℕ, ◌-◌, cond, not, List, [], ◌∷◌, ◌++◌, map, eqb, ltb, leb, length, get_or, take, drop, replicate}
+use Rattle.std.specs.Prelude.{ℕ, ◌-◌, cond, not, List, [], ◌∷◌, ◌++◌, map, eqb, ltb, leb, length, get_or, take, drop, replicate, Err}
 use Rattle.annex.specs.Answers.{
   repeated_name,
   cut_contents,
@@ -11,6 +11,8 @@ use Rattle.annex.specs.Answers.{
   sound_then,
   header_at,
   and_then,
+  Answer,
+  Accepted,
 }
 use Rattle.annex.specs.Units.{name_of, after_of, extent_of, contents_in}
 use Rattle.annex.specs.Heads.{among, transfer_data, most_transfer_octets, often_of, kth}
@@ -20,8 +22,6 @@ use Rattle.annex.specs.Layout.{layout_items, layout}
 use Rattle.annex.specs.Allowed.{headers_of, items_in, names_of, times_in}
 use Rattle.annex.specs.Reading.{verdict_of, record_of}
 use Rattle.annex.specs.Writing.{head_writing}
-use Rattle.annex.specs.declared.Answer.{Answer}
-use Rattle.annex.specs.declared.Answer.TheVariants.{Accepted, Refused}
 
 -- an edit: a new parameter as octets, header first, in the place of one of its name, or last in C5; or one of a name taken out. Which of
 -- those with the name, counted from 0, is told behind it
@@ -108,7 +108,7 @@ holding buffer n message = message ++ cleared (n - length message) (drop (length
 -- what the buffer then holds; unchanged where refused
 abbrev pub buffer_by : Answer → List ℕ → List ℕ → List ℕ
 buffer_by (Accepted k) changed buffer = changed
-buffer_by (Refused k p) changed buffer = buffer
+buffer_by (Err r) changed buffer = buffer
 
 unfoldable pub buffer_of : Edit → List ℕ → ℕ → List ℕ
 buffer_of e buffer n =

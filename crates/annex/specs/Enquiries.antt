@@ -51,8 +51,7 @@ use Rattle.annex.specs.Profile.{
   classes_answer,
   classes_given,
 }
-use Rattle.annex.specs.declared.Answer.{Answer}
-use Rattle.annex.specs.declared.Answer.TheVariants.{Accepted, Refused}
+use Rattle.annex.specs.Answers.{Answer, Accepted, Refused}
 use Rattle.annex.specs.declared.Network.{Network}
 use Rattle.annex.specs.declared.Network.TheVariants.{Other, Phs, Mobile}
 use Rattle.annex.specs.declared.AddedClass.{AddedClass}

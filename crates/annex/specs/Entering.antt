@@ -2,14 +2,12 @@
 -- listing. `at` is the offset of the next tag, `end` where the carrier entry ends that it stands in; between carrier entries `end` is `at`.
 -- No rule of the documents; in contents of the right form the entries from the first cursor on are those of Carriers.
 use Rattle.std.specs.Prelude.{ℕ, ◌-◌, Bool, cond, ◌&&◌, List, ltb, length, get_or, take, drop}
-use Rattle.annex.specs.Answers.{start_of, stop_of}
+use Rattle.annex.specs.Answers.{start_of, stop_of, Found, At, Nowhere}
 use Rattle.annex.specs.Carriers.{holds_code}
-use Rattle.annex.specs.Walking.{stretch_at, cursor_to}
+use Rattle.annex.specs.Walking.{stretch_at, cursor_to, steps_from}
 use Rattle.annex.specs.declared.CountingUnit.TheVariants.{Octet}
 use Rattle.annex.specs.declared.Cursor.{Cursor}
 use Rattle.annex.specs.declared.Extent.TheVariants.{Counted}
-use Rattle.annex.specs.declared.Found.{Found}
-use Rattle.annex.specs.declared.Found.TheVariants.{At, Nowhere}
 
 -- behind the direction octet
 abbrev pub first_entry : Cursor
@@ -42,3 +40,7 @@ entry_inside s c =
 -- it holds a code
 abbrev pub is_code_here : List ℕ → Cursor → Bool
 is_code_here s c = in_carrier c && holds_code (get_or s c.at 0)
+
+-- the entries one after the other, a cursor to each
+unfoldable pub cursors_from : List ℕ → Cursor → List Cursor
+cursors_from s c = steps_from (entry_next s) (length s) c

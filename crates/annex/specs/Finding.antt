@@ -1,18 +1,16 @@
 -- Finding contents: document 01, "Finding contents", and which of those with a name, document 02, request g: where they stand, the part
 -- itself, and the answer to the second question; 16 comes after reading's numbers.
-use Rattle.std.specs.Prelude.{ℕ, ◌+◌, ◌-◌, cond, List, [], ◌∷◌, eqb, length, take, drop}
-use Rattle.annex.specs.Answers.{start_of, stop_of, absent, and_then}
+use Rattle.std.specs.Prelude.{ℕ, ◌+◌, ◌-◌, cond, List, [], ◌∷◌, eqb, length, take, drop, Result, Ok, Err}
+use Rattle.std.proofs.Common.{Bor}
+use Rattle.annex.specs.Answers.{start_of, stop_of, absent, and_then, Found, At, Nowhere, Answer, Accepted, Refused}
 use Rattle.annex.specs.Units.{name_of, lead_of, extent_of, common_extent_of}
 use Rattle.annex.specs.Heads.{end_mark, transfer_data, kth}
 use Rattle.annex.specs.Walk.{Par}
 use Rattle.annex.specs.Reading.{verdict_of, commons_of, transfers_of, data_in}
 use Rattle.annex.specs.declared.Extent.{Extent}
+use Rattle.annex.specs.declared.Refusal.{Refusal}
 use Rattle.annex.specs.declared.Key.{Key}
 use Rattle.annex.specs.declared.Key.TheVariants.{Header, Name}
-use Rattle.annex.specs.declared.Found.{Found}
-use Rattle.annex.specs.declared.Found.TheVariants.{At, Nowhere}
-use Rattle.annex.specs.declared.Answer.{Answer}
-use Rattle.annex.specs.declared.Answer.TheVariants.{Accepted, Refused}
 
 -- where the contents stand of a parameter, counted from s octets before the first place
 abbrev pub stretch_of : Extent → ℕ → Par → Found
@@ -61,7 +59,16 @@ found_part m f = take (stop_of f - start_of f) (drop (start_of f) m)
 
 abbrev pub part_by : Answer → List ℕ → Found → List ℕ
 part_by (Accepted n) m f = found_part m f
-part_by (Refused k p) m f = []
+part_by (Err r) m f = []
 
 abbrev pub find_part : List ℕ → Found → List ℕ
 find_part m f = part_by (verdict_of m) m f
+
+-- what one finding tells, start and part together: the answer, and the part, none where refused
+abbrev pub answer_told : Result (ℕ × Bor (List ℕ)) Refusal → Answer
+answer_told (Ok t) = Accepted t.0
+answer_told (Err r) = Err r
+
+abbrev pub part_told : Result (ℕ × Bor (List ℕ)) Refusal → List ℕ
+part_told (Ok t) = t.1.now
+part_told (Err r) = []

@@ -1,13 +1,12 @@
 -- A record's image as octets, for calls from Rust and C: the values of a record one after the other, and before what is counted its count.
 use Rattle.std.specs.Prelude.{ℕ, zero, suc, ◌+◌, ◌*◌, ◌/◌, ◌%◌, Bool, cond, ◌&&◌, List, [], ◌∷◌, ◌++◌, eqb, leb, length, get_or, take, drop}
-use Rattle.annex.specs.Answers.{over_the_limits}
+use Rattle.annex.specs.Answers.{over_the_limits, Accepted, Refused}
 use Rattle.annex.specs.Heads.{transfer_data, most_commons, most_transfers, most_transfer_octets, most_values}
 use Rattle.annex.specs.Items.{Item, Part, own_more_data}
 use Rattle.annex.specs.Allowed.{items_in}
 use Rattle.annex.specs.Records.{common_head, transfer_head, head_of, common_head_of, raw_item, raw_part, values_of, pack}
 use Rattle.annex.specs.declared.Common.{Common}
 use Rattle.annex.specs.declared.Transfer.{Transfer}
-use Rattle.annex.specs.declared.Answer.TheVariants.{Accepted, Refused}
 use Rattle.annex.specs.declared.Imaged.{Imaged}
 
 -- ---- from a record to its image

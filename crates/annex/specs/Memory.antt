@@ -1,6 +1,6 @@
 -- What lent memory holds after the functions that serve the codec: octets written over others, numbers at the front of lent room, a
 -- stretch of a message replaced in its buffer. No rule of document 01.
-use Rattle.std.specs.Prelude.{ℕ, ◌+◌, ◌-◌, ◌%◌, Bool, cond, ◌&&◌, List, [], ◌++◌, map, leb, length, take, drop}
+use Rattle.std.specs.Prelude.{ℕ, ◌+◌, ◌-◌, ◌%◌, Bool, cond, ◌&&◌, List, [], ◌++◌, map, leb, length, take, drop, Err}
 use Rattle.std.proofs.lemmas.List.Edits.{sets}
 use Rattle.annex.specs.Heads.{most_values}
 use Rattle.annex.specs.Digits.{digits_of, packed}
@@ -8,8 +8,7 @@ use Rattle.annex.specs.Layout.{layout_item, layout_part}
 use Rattle.annex.specs.Records.{raw_part, item_from}
 use Rattle.annex.specs.Editing.{holding}
 use Rattle.annex.specs.declared.Alphabet.{Alphabet}
-use Rattle.annex.specs.declared.Answer.{Answer}
-use Rattle.annex.specs.declared.Answer.TheVariants.{Accepted, Refused}
+use Rattle.annex.specs.Answers.{Answer, Accepted}
 use Rattle.annex.specs.declared.Common.{Common}
 use Rattle.annex.specs.declared.HalfOctets.{HalfOctets}
 use Rattle.annex.specs.declared.Transfer.{Transfer}
@@ -29,7 +28,7 @@ at_front xs room = low_octets xs ++ drop (length xs) room
 -- numbers written from index at on where an answer accepts and they fit there; else the room as it was
 abbrev pub laid_at : Answer → List ℕ → ℕ → List ℕ → List ℕ
 laid_at (Accepted n) xs at room = cond (leb (at + length xs) (length room)) (put room at (low_octets xs)) room
-laid_at (Refused k p) xs at room = room
+laid_at (Err r) xs at room = room
 
 -- the message in the first n octets of d, with its old octets from index from on replaced by new
 abbrev pub spliced_message : List ℕ → ℕ → ℕ → ℕ → List ℕ → List ℕ

@@ -1,15 +1,12 @@
 -- The connection order of a message, listed beside its record: document 02, request b. Reading's numbers, then 16 where there is no E0,
 -- then 15; a row to the form and one to each parameter: message offset, header, and how many octets follow it, of the form none.
 use Rattle.std.specs.Prelude.{ℕ, ◌+◌, List, [], ◌∷◌, map, ltb, length, get_or, drop}
-use Rattle.annex.specs.Answers.{start_of, no_room, refuse, and_then, room_after}
+use Rattle.annex.specs.Answers.{start_of, no_room, refuse, and_then, room_after, Answer, Accepted, Found}
 use Rattle.annex.specs.Units.{name_of}
 use Rattle.annex.specs.Heads.{connection_order}
 use Rattle.annex.specs.Orders.{OrderParameter, order_parameter, OpenedOrder, order_size}
 use Rattle.annex.specs.Walk.{Par, pars}
 use Rattle.annex.specs.Finding.{transfer_found, find_answer, find_part}
-use Rattle.annex.specs.declared.Answer.{Answer}
-use Rattle.annex.specs.declared.Answer.TheVariants.{Accepted}
-use Rattle.annex.specs.declared.Found.{Found}
 use Rattle.annex.specs.declared.Row.{Row}
 
 -- ---- contents opened

@@ -3,15 +3,13 @@
 -- and its listing follow from it. The headers are of an order alone: 41 to 43, 91 and CC to CF are not the transfer parameters
 -- of those numbers.
 use Rattle.std.specs.Prelude.{ℕ, zero, suc, ◌+◌, ◌%◌, Bool, true, false, cond, not, ◌&&◌, ◌||◌, List, [], ◌∷◌, ◌++◌, map, eqb, leb, length, get_or, take, drop}
-use Rattle.annex.specs.Answers.{bad_form, bad_digit, wrong_order, formed_then, formed, fault_then, is_sound}
+use Rattle.annex.specs.Answers.{bad_form, bad_digit, wrong_order, formed_then, formed, fault_then, is_sound, Fault, Sound, Bad}
 use Rattle.annex.specs.Units.{whole_count, octets_of}
 use Rattle.annex.specs.Heads.{among}
 use Rattle.annex.specs.Digits.{digits_fault, number_fault_in}
 use Rattle.annex.specs.Rates.{is_right}
 use Rattle.annex.specs.declared.Alphabet.TheVariants.{Dialled, Decimal}
 use Rattle.annex.specs.declared.Drawn.TheVariants.{Character}
-use Rattle.annex.specs.declared.Fault.{Fault}
-use Rattle.annex.specs.declared.Fault.TheVariants.{Sound, Bad}
 use Rattle.annex.specs.declared.OrderLayout.{OrderLayout}
 use Rattle.annex.specs.declared.OrderLayout.TheVariants.{
   TrunkKind,

@@ -1,18 +1,19 @@
 -- What the functions for Rust and C give, in numbers and octets alone: an answer as one number, the refusal's number times 2^32, the place
 -- times 2^16, and the value, number 0 where accepted (places and values are below 2^16); a record as its image; a row as five octets, one
 -- of carriers as eight.
-use Rattle.std.specs.Prelude.{ℕ, ◌+◌, ◌*◌, ◌/◌, ◌%◌, List, ◌∷◌, ◌++◌, ltb, length, drop}
+use Rattle.std.specs.Prelude.{ℕ, ◌+◌, ◌*◌, ◌/◌, ◌%◌, List, ◌∷◌, ◌++◌, ltb, length, drop, Err}
 use Rattle.annex.specs.Answers.{
   number_of,
   place_of,
   given_of,
-  class_number_of,
-  class_place_of,
   class_given_of,
   no_room,
   refuse,
   and_then,
   room_after,
+  Answer,
+  Accepted,
+  ClassAnswer,
 }
 use Rattle.annex.specs.Layout.{lay_all, layout}
 use Rattle.annex.specs.Reading.{verdict_of, record_of}
@@ -23,9 +24,6 @@ use Rattle.annex.specs.Spans.{rows_of, spans_of}
 use Rattle.annex.specs.Opened.{order_rows_of, order_answer}
 use Rattle.annex.specs.Transit.{carrier_rows_of, carriers_answer}
 use Rattle.annex.specs.Profile.{profile_verdict, profile_writing}
-use Rattle.annex.specs.declared.Answer.{Answer}
-use Rattle.annex.specs.declared.Answer.TheVariants.{Accepted, Refused}
-use Rattle.annex.specs.declared.ClassAnswer.{ClassAnswer}
 use Rattle.annex.specs.declared.CarrierRow.{CarrierRow}
 use Rattle.annex.specs.declared.Row.{Row}
 
@@ -41,14 +39,14 @@ packed_answer a = one_number (number_of a) (place_of a) (given_of a)
 -- where contents start and how many octets they have, or number and place
 abbrev pub packed_length : Answer → ℕ → ℕ
 packed_length (Accepted s) len = one_number 0 s len
-packed_length (Refused k p) len = one_number k p 0
+packed_length (Err r) len = one_number r.0 r.1 0
 
 abbrev pub packed_stretch : Answer → List ℕ → ℕ
 packed_stretch a part = packed_length a (length part)
 
 -- 0 named, 1 held back, 2 spare, or number and place
 abbrev pub packed_class : ClassAnswer → ℕ
-packed_class a = one_number (class_number_of a) (class_place_of a) (class_given_of a)
+packed_class a = one_number (number_of a) (place_of a) (class_given_of a)
 
 -- ---- a message read to its record's image
 
@@ -107,7 +105,7 @@ octet_spans m room = spans_of m (room / octets_to_a_row)
 -- what the table then holds, rows taking so many octets: the rows at its front, octets past the last as before; unchanged where refused
 abbrev pub octets_by : ℕ → Answer → List ℕ → List ℕ → List ℕ
 octets_by width (Accepted n) octets table = octets ++ drop (width * n) table
-octets_by width (Refused k p) octets table = table
+octets_by width (Err r) octets table = table
 
 unfoldable pub octet_table : List ℕ → List ℕ → List ℕ
 octet_table m table = octets_by octets_to_a_row (octet_spans m (length table)) (rows_octets (rows_of m)) table

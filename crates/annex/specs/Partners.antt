@@ -7,15 +7,7 @@ use Rattle.annex.specs.Heads.{value_allowed, name_used, pli_right, often_of, zer
 use Rattle.annex.specs.Digits.{halves, joined, digit_of, code_of, is_code, halves_fault, digits_fault, digits_of, packed, number_fault_in}
 use Rattle.annex.specs.Rates.{is_kind, fields_of, numbers_drawn, drawn_fault, check_right}
 use Rattle.annex.specs.Orders.{parameters_fault, order_fault}
-use Rattle.annex.specs.Carriers.{
-  entries_formed,
-  entries_fault,
-  code_formed,
-  code_fault,
-  code_digits,
-  carriers_formed,
-  carriers_fault,
-}
+use Rattle.annex.specs.Carriers.{entries_formed, entries_fault, code_formed, code_fault, code_digits, carriers_formed, carriers_fault}
 use Rattle.annex.specs.Contents.{calling_fault, generic_fault, dialled_fault, two_fault, charging_fault, fault_of}
 use Rattle.annex.specs.Items.{Item, plain_item, data_part, holding_of, item_of, contents_of}
 use Rattle.annex.specs.Layout.{layout_item, layout_items, layout_part, layout}
@@ -60,8 +52,7 @@ use Rattle.annex.specs.Transit.{
 use Rattle.annex.specs.BadHalves.{pars_good, bad_at}
 use Rattle.annex.specs.Packed.{carrier_rows_octets, octet_carriers, octet_carriers_table}
 use Rattle.annex.specs.Bench.{K, record_of_k}
-use Rattle.annex.specs.declared.Answer.{Answer}
-use Rattle.annex.specs.declared.Answer.TheVariants.{Accepted, Refused}
+use Rattle.annex.specs.Answers.{Answer, Accepted, Refused}
 use Rattle.annex.specs.declared.CarrierRow.{CarrierRow}
 
 pub data Case : Type 0 where

@@ -1,7 +1,7 @@
 -- The mobile call profile: document 02, request f, with the annex's figure 3.1 and item (35). What it asks of a record, apart from the
 -- order of refusals; then this order, in reading and in writing, and what is told beside the record.
-use Rattle.std.specs.Prelude.{ℕ, ◌-◌, ◌%◌, ◌≡◌, Bool, true, false, cond, not, ◌&&◌, ◌||◌, List, [], ◌∷◌, map, eqb, ltb, length, get_or}
-use Rattle.annex.specs.Answers.{outside_profile, no_room, absent, refuse, and_then, room_after}
+use Rattle.std.specs.Prelude.{ℕ, ◌-◌, ◌%◌, ◌≡◌, Bool, true, false, cond, not, ◌&&◌, ◌||◌, List, [], ◌∷◌, map, eqb, ltb, length, get_or, Err}
+use Rattle.annex.specs.Answers.{outside_profile, no_room, absent, refuse, and_then, room_after, Answer, Accepted}
 use Rattle.annex.specs.Heads.{among, signal_kind}
 use Rattle.annex.specs.Orders.{once}
 use Rattle.annex.specs.Items.{Item, Part}
@@ -10,8 +10,6 @@ use Rattle.annex.specs.Allowed.{every, Each, items_in}
 use Rattle.annex.specs.Reading.{verdict_of, record_of}
 use Rattle.annex.specs.Records.{pad, pack, view}
 use Rattle.annex.specs.Writing.{struct_writing}
-use Rattle.annex.specs.declared.Answer.{Answer}
-use Rattle.annex.specs.declared.Answer.TheVariants.{Accepted, Refused}
 use Rattle.annex.specs.declared.Record.{Record}
 use Rattle.annex.specs.declared.Network.{Network}
 use Rattle.annex.specs.declared.Network.TheVariants.{Other, Phs, Mobile}
@@ -170,7 +168,7 @@ profile_of r = record { network = network_of r; classes = length (classes_of r);
 -- reading by the profile: beside an accepted message its record, packed, and what that tells; beside a refusal those of nothing
 abbrev pub profile_by : Answer → List Part → ProfileReading
 profile_by (Accepted n) r = record { answer = Accepted n; «record» = pack r; profile = profile_of r }
-profile_by (Refused k p) r = record { answer = Refused k p; «record» = pack []; profile = profile_of [] }
+profile_by (Err w) r = record { answer = Err w; «record» = pack []; profile = profile_of [] }
 
 unfoldable pub profile_reading : List ℕ → ProfileReading
 profile_reading m = profile_by (profile_verdict m) (record_of m)

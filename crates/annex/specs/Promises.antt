@@ -12,14 +12,7 @@ use Rattle.annex.specs.Classes.{class_of}
 use Rattle.annex.specs.Charging.{charging_of, octet_charging, octet_charged}
 use Rattle.annex.specs.Opened.{order_answer, order_table}
 use Rattle.annex.specs.Transit.{digits_answer, digits_given}
-use Rattle.annex.specs.Profile.{
-  profile_verdict,
-  profile_writing,
-  profile_written,
-  profile_reading,
-  classes_answer,
-  classes_given,
-}
+use Rattle.annex.specs.Profile.{profile_verdict, profile_writing, profile_written, profile_reading, classes_answer, classes_given}
 use Rattle.annex.specs.Packed.{
   packed_answer,
   packed_stretch,
@@ -40,13 +33,11 @@ use Rattle.annex.specs.Packed.{
   octet_carriers_table,
 }
 use Rattle.annex.specs.Memory.{Request}
-use Rattle.annex.specs.declared.Answer.{Answer}
+use Rattle.annex.specs.Answers.{Answer, ClassAnswer, ChargingAnswer}
 use Rattle.annex.specs.declared.Record.{Record}
 use Rattle.annex.specs.declared.Reading.{Reading}
 use Rattle.annex.specs.declared.Imaged.{Imaged}
 use Rattle.annex.specs.declared.Row.{Row}
-use Rattle.annex.specs.declared.ClassAnswer.{ClassAnswer}
-use Rattle.annex.specs.declared.ChargingAnswer.{ChargingAnswer}
 use Rattle.annex.specs.declared.ProfileReading.{ProfileReading}
 
 -- reader::verdict::verdict

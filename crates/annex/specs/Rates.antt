@@ -1,15 +1,13 @@
 -- Charging information (F7): document 02, request a, with the annex's item (13). Two tables say how each field is drawn and which fields
 -- each kind has. How many octets there are, what each may be, what they add up to and what number a field holds follow from these.
 use Rattle.std.specs.Prelude.{ℕ, zero, suc, ◌+◌, ◌*◌, ◌/◌, ◌%◌, ◌^◌, ◌≡◌, Bool, true, false, cond, ◌&&◌, ◌||◌, List, [], ◌∷◌, ◌++◌, map, eqb, leb, ltb, get_or, take, drop, replicate}
-use Rattle.annex.specs.Answers.{bad_digit}
+use Rattle.annex.specs.Answers.{bad_digit, Fault, Sound, Bad}
 use Rattle.annex.specs.Heads.{among}
 use Rattle.annex.specs.Digits.{zero_from, zero_to}
 use Rattle.annex.specs.declared.Alphabet.TheVariants.{Dialled}
 use Rattle.annex.specs.declared.Charges.{Charges}
 use Rattle.annex.specs.declared.Drawn.{Drawn}
 use Rattle.annex.specs.declared.Drawn.TheVariants.{Whole, Halves, Character}
-use Rattle.annex.specs.declared.Fault.{Fault}
-use Rattle.annex.specs.declared.Fault.TheVariants.{Sound, Bad}
 use Rattle.annex.specs.declared.Field.{Field}
 use Rattle.annex.specs.declared.Field.TheVariants.{
   UnitFee,

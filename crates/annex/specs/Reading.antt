@@ -20,6 +20,8 @@ use Rattle.annex.specs.Answers.{
   reading_at,
   and_then,
   shifted,
+  Answer,
+  Accepted,
 }
 use Rattle.annex.specs.Units.{name_of, after_of, lead_of, extent_of, common_extent_of, contents_in}
 use Rattle.annex.specs.Heads.{
@@ -39,8 +41,6 @@ use Rattle.annex.specs.Heads.{
 use Rattle.annex.specs.Contents.{Rule, fault_of}
 use Rattle.annex.specs.Items.{Item, Part, part, value_part, octet_value, octet_part, item_of}
 use Rattle.annex.specs.Walk.{Seen, unseen, times_seen, Par, Step, walk, judging, listing}
-use Rattle.annex.specs.declared.Answer.{Answer}
-use Rattle.annex.specs.declared.Answer.TheVariants.{Accepted}
 
 -- ---- the common part, but for what C5 holds
 

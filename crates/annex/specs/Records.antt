@@ -1,6 +1,6 @@
 -- The record as a struct, and as the sequence of values that it stands for: document 01, "Writing". Two structs that stand for the same
 -- values are the same record; in a struct handed out all room that is not used is zero.
-use Rattle.std.specs.Prelude.{ℕ, ◌+◌, ◌-◌, ◌/◌, ◌%◌, Bool, cond, ◌&&◌, List, [], ◌∷◌, ◌++◌, map, eqb, leb, length, take, drop, replicate}
+use Rattle.std.specs.Prelude.{ℕ, ◌+◌, ◌-◌, ◌/◌, ◌%◌, Bool, cond, ◌&&◌, List, [], ◌∷◌, ◌++◌, map, eqb, leb, length, take, drop, replicate, Err}
 use Rattle.annex.specs.Heads.{transfer_data, most_commons, most_transfers, most_values}
 use Rattle.annex.specs.Items.{Item, Part, item, part, octet_value, octet_mark, own_of}
 use Rattle.annex.specs.Allowed.{items_in, own_part}
@@ -9,8 +9,7 @@ use Rattle.annex.specs.declared.Common.{Common}
 use Rattle.annex.specs.declared.Transfer.{Transfer}
 use Rattle.annex.specs.declared.Record.{Record}
 use Rattle.annex.specs.declared.Reading.{Reading}
-use Rattle.annex.specs.declared.Answer.{Answer}
-use Rattle.annex.specs.declared.Answer.TheVariants.{Accepted, Refused}
+use Rattle.annex.specs.Answers.{Answer, Accepted}
 
 -- ---- the parts of the struct
 
@@ -136,11 +135,22 @@ is_whole r =
 unfoldable pub view : Record → List Part
 view r = view_parts (commons_in r) r.transfer r.values
 
+-- ---- the struct's transfer parameters one by one
+
+-- heads, each with its part of the values
+unfoldable pub held_from : List Transfer → List ℕ → List (Transfer × List ℕ)
+held_from [] vs = []
+held_from (t ∷ ts) vs = (t, take t.len vs) ∷ held_from ts (drop t.len vs)
+
+-- the n of them from the place k on, or those of them that there are
+abbrev pub held_at : Record → ℕ → ℕ → List (Transfer × List ℕ)
+held_at r k n = held_from (take n (drop k r.transfer)) (drop (lengths_of (take k r.transfer)) r.values)
+
 -- ---- what reading gives: the record of an accepted message, packed; beside a refusal the record of nothing
 
 abbrev pub read_by : Answer → List Part → Reading
 read_by (Accepted n) r = record { answer = Accepted n; «record» = pack r }
-read_by (Refused k p) r = record { answer = Refused k p; «record» = pack [] }
+read_by (Err w) r = record { answer = Err w; «record» = pack [] }
 
 unfoldable pub reading_of : List ℕ → Reading
 reading_of m = read_by (verdict_of m) (record_of m)

@@ -42,8 +42,7 @@ use Rattle.annex.specs.Packed.{image_reading, image_read, image_writing, image_w
 use Rattle.annex.specs.Editing.{Edit, edit_refusal, instead, edited_items, edited, record_editing, editing_of, buffer_of}
 use Rattle.annex.specs.Editing.Edit.{Appending}
 use Rattle.annex.specs.Bench.{K, record_of_k}
-use Rattle.annex.specs.declared.Answer.{Answer}
-use Rattle.annex.specs.declared.Answer.TheVariants.{Accepted, Refused}
+use Rattle.annex.specs.Answers.{Answer, Accepted, Refused}
 
 -- the octet of 04 in a message, and the record; a message, and the answer; the number and mark of 04 in a record, and the octets that
 -- it is written to; a record, and the answer to writing it, room aside; a message, lent octets, the answer and the image there; an image,

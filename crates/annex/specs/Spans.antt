@@ -1,7 +1,7 @@
 -- Spans: document 01, "Spans": the rows of a message, those of C5 right behind its own, the end mark's last; 15 comes after reading's
 -- numbers; and what the table then holds. As reading is, they are by a rule of contents; the names at the end are by the rule in force.
 use Rattle.std.specs.Prelude.{ℕ, ◌+◌, ◌-◌, cond, List, [], ◌∷◌, ◌++◌, eqb, ltb, length}
-use Rattle.annex.specs.Answers.{no_room, refuse, and_then, room_after}
+use Rattle.annex.specs.Answers.{no_room, refuse, and_then, room_after, Answer, Accepted}
 use Rattle.annex.specs.Units.{lead_of, extent_of, common_extent_of}
 use Rattle.annex.specs.Heads.{transfer_data}
 use Rattle.annex.specs.Contents.{Rule, fault_of}
@@ -9,8 +9,6 @@ use Rattle.annex.specs.Walk.{Par}
 use Rattle.annex.specs.Reading.{data_in, verdict_by, commons_by, transfers_by}
 use Rattle.annex.specs.declared.Extent.{Extent}
 use Rattle.annex.specs.declared.Row.{Row}
-use Rattle.annex.specs.declared.Answer.{Answer}
-use Rattle.annex.specs.declared.Answer.TheVariants.{Accepted}
 
 -- Spans: offset of the header, header, how many octets the contents have
 abbrev pub par_row : Extent → ℕ → Par → Row

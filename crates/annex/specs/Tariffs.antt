@@ -3,17 +3,7 @@
 use Rattle.std.specs.Prelude.{ℕ, ◌≡◌, refl, List, [], ◌∷◌, ◌++◌, map, length, replicate}
 use Rattle.annex.specs.Units.{after_of, lead_of, common_extent_of, extent_of}
 use Rattle.annex.specs.Heads.{value_allowed, name_used, pli_right, often_of, zeroes_of, form_of}
-use Rattle.annex.specs.Rates.{
-  is_kind,
-  fields_of,
-  drawn_for,
-  numbers_drawn,
-  drawn_fault,
-  check_right,
-  decimal,
-  field_in,
-  charges_of,
-}
+use Rattle.annex.specs.Rates.{is_kind, fields_of, drawn_for, numbers_drawn, drawn_fault, check_right, decimal, field_in, charges_of}
 use Rattle.annex.specs.Contents.{charging_fault, fault_of}
 use Rattle.annex.specs.Items.{Part, plain_item, value_part, data_part, holding_of, item_of, contents_of}
 use Rattle.annex.specs.Layout.{layout_item, layout_items, layout_part, layout}
@@ -39,10 +29,7 @@ use Rattle.annex.specs.Editing.{Edit, edit_refusal, instead, edited_items, edite
 use Rattle.annex.specs.Editing.Edit.{Replacing, Appending}
 use Rattle.annex.specs.Charging.{charging_of, octet_charging, octet_charged}
 use Rattle.annex.specs.Bench.{K}
-use Rattle.annex.specs.declared.Answer.{Answer}
-use Rattle.annex.specs.declared.Answer.TheVariants as answers
-use Rattle.annex.specs.declared.ChargingAnswer.{ChargingAnswer}
-use Rattle.annex.specs.declared.ChargingAnswer.TheVariants.{Is, Refused}
+use Rattle.annex.specs.Answers.{Answer, Accepted, Refused, ChargingAnswer, Is}
 
 -- F7's contents in a message, and the answer; a message, and the answer; F7's contents in a message, lent octets, the answer and the octets
 -- then; an edit of a message with so much room behind it, and the answer; a record, and the answer to writing it, room aside
@@ -166,23 +153,23 @@ cases =
     Asked K (Refused 4 4) ∷
     Asked (K ++ (0xC5 ∷ 0x03 ∷ 0xF7 ∷ 0x02 ∷ 0x00 ∷ 0x00 ∷ [])) (Refused 11 6) ∷
     -- for Rust and C: octets behind the 23 stay; 15 where there are 22
-    Given (0x00 ∷ 0x05 ∷ 0x12 ∷ 0x31 ∷ []) (lent 25) (answers.Accepted 23) (given ++ lent 2) ∷
-    Given (0x00 ∷ 0x05 ∷ 0x12 ∷ 0x31 ∷ []) (lent 23) (answers.Accepted 23) given ∷
-    Given (0x00 ∷ 0x05 ∷ 0x12 ∷ 0x31 ∷ []) (lent 22) (answers.Refused 15 0) (lent 22) ∷
-    Given (0x00 ∷ 0x05 ∷ 0x12 ∷ 0x32 ∷ []) (lent 22) (answers.Refused 18 6) (lent 22) ∷
+    Given (0x00 ∷ 0x05 ∷ 0x12 ∷ 0x31 ∷ []) (lent 25) (Accepted 23) (given ++ lent 2) ∷
+    Given (0x00 ∷ 0x05 ∷ 0x12 ∷ 0x31 ∷ []) (lent 23) (Accepted 23) given ∷
+    Given (0x00 ∷ 0x05 ∷ 0x12 ∷ 0x31 ∷ []) (lent 22) (Refused 15 0) (lent 22) ∷
+    Given (0x00 ∷ 0x05 ∷ 0x12 ∷ 0x32 ∷ []) (lent 22) (Refused 18 6) (lent 22) ∷
     -- edits: at 0, for the new parameter
-    Edited (Replacing (f7 (0x00 ∷ 0x05 ∷ 0x12 ∷ 0x31 ∷ [])) 0) (with (0x00 ∷ 0x05 ∷ 0x1A ∷ 0x33 ∷ [])) 0 (answers.Accepted 13) ∷
-    Edited (Replacing (f7 (0x00 ∷ 0x06 ∷ [])) 0) (with (0x00 ∷ 0x02 ∷ [])) 0 (answers.Refused 12 0) ∷
-    Edited (Replacing (f7 (0x00 ∷ 0x05 ∷ 0x02 ∷ 0x31 ∷ [])) 0) (with (0x00 ∷ 0x02 ∷ [])) 0 (answers.Refused 13 0) ∷
-    Edited (Replacing (f7 (0x00 ∷ 0x05 ∷ 0x12 ∷ 0x32 ∷ [])) 0) (with (0x00 ∷ 0x02 ∷ [])) 0 (answers.Refused 18 0) ∷
-    Edited (Appending (f7 (0x00 ∷ 0x05 ∷ 0x12 ∷ 0x32 ∷ []))) (K ++ (0xC5 ∷ 0x00 ∷ 0x00 ∷ [])) 0 (answers.Refused 18 0) ∷
-    Edited (Appending (f7 (0x00 ∷ 0x02 ∷ []))) (K ++ (0xC5 ∷ 0x00 ∷ 0x00 ∷ [])) 4 (answers.Accepted 11) ∷
-    Edited (Appending (f7 (0x00 ∷ 0x02 ∷ []))) (K ++ (0xC5 ∷ 0x00 ∷ 0x00 ∷ [])) 3 (answers.Refused 15 0) ∷
+    Edited (Replacing (f7 (0x00 ∷ 0x05 ∷ 0x12 ∷ 0x31 ∷ [])) 0) (with (0x00 ∷ 0x05 ∷ 0x1A ∷ 0x33 ∷ [])) 0 (Accepted 13) ∷
+    Edited (Replacing (f7 (0x00 ∷ 0x06 ∷ [])) 0) (with (0x00 ∷ 0x02 ∷ [])) 0 (Refused 12 0) ∷
+    Edited (Replacing (f7 (0x00 ∷ 0x05 ∷ 0x02 ∷ 0x31 ∷ [])) 0) (with (0x00 ∷ 0x02 ∷ [])) 0 (Refused 13 0) ∷
+    Edited (Replacing (f7 (0x00 ∷ 0x05 ∷ 0x12 ∷ 0x32 ∷ [])) 0) (with (0x00 ∷ 0x02 ∷ [])) 0 (Refused 18 0) ∷
+    Edited (Appending (f7 (0x00 ∷ 0x05 ∷ 0x12 ∷ 0x32 ∷ []))) (K ++ (0xC5 ∷ 0x00 ∷ 0x00 ∷ [])) 0 (Refused 18 0) ∷
+    Edited (Appending (f7 (0x00 ∷ 0x02 ∷ []))) (K ++ (0xC5 ∷ 0x00 ∷ 0x00 ∷ [])) 4 (Accepted 11) ∷
+    Edited (Appending (f7 (0x00 ∷ 0x02 ∷ []))) (K ++ (0xC5 ∷ 0x00 ∷ 0x00 ∷ [])) 3 (Refused 15 0) ∷
     -- records
-    Written (record_with (0x00 ∷ 0x05 ∷ 0x12 ∷ 0x31 ∷ [])) (answers.Accepted 13) ∷
-    Written (record_with (0x00 ∷ 0x06 ∷ [])) (answers.Refused 12 6) ∷
-    Written (record_with (0x00 ∷ 0x05 ∷ 0x02 ∷ 0x31 ∷ [])) (answers.Refused 13 6) ∷
-    Written (record_with (0x00 ∷ 0x05 ∷ 0x12 ∷ 0x32 ∷ [])) (answers.Refused 18 6) ∷ []
+    Written (record_with (0x00 ∷ 0x05 ∷ 0x12 ∷ 0x31 ∷ [])) (Accepted 13) ∷
+    Written (record_with (0x00 ∷ 0x06 ∷ [])) (Refused 12 6) ∷
+    Written (record_with (0x00 ∷ 0x05 ∷ 0x02 ∷ 0x31 ∷ [])) (Refused 13 6) ∷
+    Written (record_with (0x00 ∷ 0x05 ∷ 0x12 ∷ 0x32 ∷ [])) (Refused 18 6) ∷ []
 
 -- what the definitions say of each case is what the table says
 pub tariffs : map as_defined cases ≡ cases

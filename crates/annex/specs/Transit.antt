@@ -2,7 +2,7 @@
 -- the entries of contents in their order; and for a message reading's numbers, then 16 where that CC is not there, then 15. A row to the
 -- direction and one to each entry, each dependent entry right behind the carrier entry that it stands in; and the digits of a code.
 use Rattle.std.specs.Prelude.{ℕ, ◌+◌, ◌*◌, ◌/◌, ◌%◌, Bool, true, cond, not, ◌&&◌, List, [], ◌∷◌, ◌++◌, map, eqb, leb, ltb, length, get_or}
-use Rattle.annex.specs.Answers.{start_of, no_room, absent, refuse, and_then, room_after}
+use Rattle.annex.specs.Answers.{start_of, no_room, absent, refuse, and_then, room_after, Answer, Accepted, Found}
 use Rattle.annex.specs.Units.{name_of}
 use Rattle.annex.specs.Heads.{carriers}
 use Rattle.annex.specs.Digits.{is_digit_in, packed}
@@ -23,10 +23,7 @@ use Rattle.annex.specs.Allowed.{every}
 use Rattle.annex.specs.Walk.{Par}
 use Rattle.annex.specs.Finding.{transfer_found, find_answer, find_part}
 use Rattle.annex.specs.declared.Alphabet.TheVariants.{Decimal}
-use Rattle.annex.specs.declared.Answer.{Answer}
-use Rattle.annex.specs.declared.Answer.TheVariants.{Accepted}
 use Rattle.annex.specs.declared.CarrierRow.{CarrierRow}
-use Rattle.annex.specs.declared.Found.{Found}
 
 -- ---- what a CC may say
 

@@ -2,11 +2,10 @@
 -- Nothing counts down but the list itself: after a header as many octets are passed over as its step says are its own. At the end a walk
 -- that asks nothing but how many these are: the listing of a connection order is an instance, in Opened, and so are the entries of
 -- carriers, in Carriers.
-use Rattle.std.specs.Prelude.{ℕ, zero, suc, ◌+◌, cond, List, [], ◌∷◌, leb, length, get_or, set, take, replicate}
+use Rattle.std.specs.Prelude.{ℕ, zero, suc, ◌+◌, cond, List, [], ◌∷◌, leb, length, get_or, set, take, replicate, Err}
 use Rattle.annex.specs.Heads.{name_count}
 use Rattle.annex.specs.Units.{name_of, after_of, extent_of, common_extent_of}
-use Rattle.annex.specs.declared.Answer.{Answer}
-use Rattle.annex.specs.declared.Answer.TheVariants.{Accepted, Refused}
+use Rattle.annex.specs.Answers.{Answer, Accepted, Refused}
 use Rattle.annex.specs.declared.Extent.{Extent}
 
 -- how often each name has been seen
@@ -41,7 +40,7 @@ pub record Walker (R : Type 0) : Type 0 where
 
 abbrev pub by_step : {R : Type 0} → Answer → (ℕ → ℕ → R) → (ℕ → R) → R
 by_step (Accepted n) stop f = f n
-by_step (Refused k p) stop f = stop k p
+by_step (Err r) stop f = stop r.0 r.1
 
 -- k octets still belong to the parameter before; `at` is the place of the next octet
 unfoldable pub walk : {R : Type 0} → Walker R → Seen → ℕ → ℕ → List ℕ → R

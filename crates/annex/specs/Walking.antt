@@ -1,14 +1,13 @@
 -- Octets gone over by the length rule alone, with no other check: what the functions give, on any octets, that serve reading, finding,
 -- listing and editing. No rule of document 01; in an accepted message it comes to what Finding and Spans say.
-use Rattle.std.specs.Prelude.{ℕ, ◌+◌, ◌-◌, Bool, cond, List, [], ◌∷◌, eqb, leb, ltb, length, get_or, take, drop}
+use Rattle.std.specs.Prelude.{ℕ, zero, suc, ◌+◌, ◌-◌, Bool, cond, List, [], ◌∷◌, map, eqb, leb, ltb, length, get_or, take, drop}
 use Rattle.annex.specs.Units.{name_of, after_of, lead_of, extent_of, common_extent_of}
 use Rattle.annex.specs.Heads.{end_mark, transfer_data, kth}
 use Rattle.annex.specs.Walk.{Par, size_by, pars}
 use Rattle.annex.specs.declared.Extent.{Extent}
 use Rattle.annex.specs.declared.Key.{Key}
 use Rattle.annex.specs.declared.Key.TheVariants.{Header, Name}
-use Rattle.annex.specs.declared.Found.{Found}
-use Rattle.annex.specs.declared.Found.TheVariants.{At, Nowhere}
+use Rattle.annex.specs.Answers.{Found, At, Nowhere}
 use Rattle.annex.specs.declared.Row.{Row}
 use Rattle.annex.specs.declared.Cursor.{Cursor}
 
@@ -128,3 +127,17 @@ next_behind m c Nowhere = cursor_to (length m) (length m)
 -- behind the next parameter, and behind a C5's header and length octet
 unfoldable pub next_of : List ℕ → Cursor → Cursor
 next_of m c = next_behind m c (stretch_here m c)
+
+-- ---- one after the other
+
+-- the cursors of a walk over n octets, from one on: each is the next of the one before, as long as it stands within the octets; so many at most
+abbrev pub steps_by : (Cursor → Cursor) → ℕ → ℕ → Cursor → List Cursor
+steps_by next n zero c = []
+steps_by next n (suc k) c = cond (ltb c.at n) (c ∷ steps_by next n k (next c)) []
+
+unfoldable pub steps_from : (Cursor → Cursor) → ℕ → Cursor → List Cursor
+steps_from next n c = steps_by next n (n - c.at) c
+
+-- the rows from a cursor on
+unfoldable pub rows_left : List ℕ → Cursor → List Row
+rows_left m c = map (row_here m) (steps_from (next_of m) (length m) c)

@@ -20,6 +20,8 @@ use Rattle.annex.specs.Answers.{
   header_at,
   and_then,
   room_after,
+  Answer,
+  Accepted,
 }
 use Rattle.annex.specs.Units.{name_of}
 use Rattle.annex.specs.Heads.{
@@ -40,8 +42,6 @@ use Rattle.annex.specs.Walk.{Seen, unseen, times_seen, counted}
 use Rattle.annex.specs.Reading.{whole_in}
 use Rattle.annex.specs.Records.{is_whole, view}
 use Rattle.annex.specs.declared.Record.{Record}
-use Rattle.annex.specs.declared.Answer.{Answer}
-use Rattle.annex.specs.declared.Answer.TheVariants.{Accepted}
 
 -- 8 and 9 of a header that is to be written, its place p, in a record or as the new parameter of an edit; and then what follows. A header
 -- that may be read and not written would be refused here, after 9

@@ -8,15 +8,15 @@ ghost use Rattle.annex.specs.Units.{counted_by, whole_count, octets_of, halves_i
 ghost use Rattle.annex.specs.Records.{value_head, octet_head, data_head, carried_head, dialled_head, number_head, no_common, no_transfer};
 ghost use Rattle.annex.specs.Profile.{no_class};
 
-// What a call answers: accepted, with a count, or refused, with a number and a place.
+// Why a call refuses: the refusal's number, and the place.
 #[derive(Clone, Copy)]
-pub enum Answer {
-    Accepted(usize),
-    Refused(u8, usize),
-}
+pub struct Refusal(pub u8, pub usize);
 
-// The refusal numbers.
-impl Answer {
+// What a call answers: accepted, with a count, or refused.
+pub type Answer = Result<usize, Refusal>;
+
+// The refusal numbers, no enum: the theorems speak of any number (tight: `Wrong.places_at_0`).
+impl Refusal {
     pub const OVER_LIMITS: u8 = 1;
 
     pub const UNLISTED: u8 = 2;
@@ -58,22 +58,22 @@ impl Answer {
     pub const PROFILE: u8 = 20;
 }
 
-// What is wrong with contents: nothing, or the refusal's number and the offset of the octet in the contents.
+// What is wrong with contents: the refusal's number, and the offset of the octet in the contents.
 #[derive(Clone, Copy)]
-pub enum Fault {
-    Sound,
-    Bad(u8, usize),
-}
+pub struct Flaw(pub u8, pub usize);
 
-impl Fault {
+// Sound contents, or what is wrong with them.
+pub type Fault = Result<(), Flaw>;
+
+impl Flaw {
     // Sound, or bad form.
-    pub fn formed(good: bool) -> Fault
+    pub fn unless(good: bool) -> Fault
         ensures { Gives (formed good) result }
     {
         if good {
-            Fault::Sound
+            Ok(())
         } else {
-            Fault::Bad(Answer::BAD_FORM, 0)
+            Err(Flaw(Refusal::BAD_FORM, 0))
         }
     }
 }
@@ -180,7 +180,7 @@ pub enum Holding {
     AsGeneric,
 }
 
-// A message.
+// A message. Its headers are octets with names, no enum: any octet may stand there, and is refused at its place.
 #[derive(Clone, Copy)]
 pub struct Message;
 
@@ -242,18 +242,18 @@ impl Common {
         ensures { Gives (octet_head header octet) result }
     {
         if header == Common::SEQUENCE {
-            return Common {
-                header: header,
+            Common {
+                header,
                 value: (octet % 128) as u32,
                 more_data: octet / 128,
-                transfers: 0,
-            };
-        }
-        Common {
-            header: header,
-            value: octet as u32,
-            more_data: 0,
-            transfers: 0,
+                ..Common::none()
+            }
+        } else {
+            Common {
+                header,
+                value: octet as u32,
+                ..Common::none()
+            }
         }
     }
 
@@ -262,10 +262,9 @@ impl Common {
         ensures { Gives (value_head header number) result }
     {
         Common {
-            header: header,
+            header,
             value: number,
-            more_data: 0,
-            transfers: 0,
+            ..Common::none()
         }
     }
 
@@ -275,9 +274,8 @@ impl Common {
     {
         Common {
             header: Common::TRANSFER_DATA,
-            value: 0,
-            more_data: 0,
-            transfers: transfers,
+            transfers,
+            ..Common::none()
         }
     }
 }
@@ -437,7 +435,7 @@ impl Transfer {
         ensures { Gives (carried_head header len) result }
     {
         Transfer {
-            header: header,
+            header,
             notification: 0,
             verification: 0,
             dialling: 0,
@@ -446,7 +444,7 @@ impl Transfer {
             plan: 0,
             presentation: 0,
             screening: 0,
-            len: len,
+            len,
         }
     }
 
@@ -461,16 +459,10 @@ impl Transfer {
         ensures { Gives (dialled_head header notification verification dialling len) result }
     {
         Transfer {
-            header: header,
-            notification: notification,
-            verification: verification,
-            dialling: dialling,
-            number_type: 0,
-            incomplete: 0,
-            plan: 0,
-            presentation: 0,
-            screening: 0,
-            len: len,
+            notification,
+            verification,
+            dialling,
+            ..Transfer::carried(header, len)
         }
     }
 
@@ -479,16 +471,12 @@ impl Transfer {
         ensures { Gives (number_head header first second len) result }
     {
         Transfer {
-            header: header,
-            notification: 0,
-            verification: 0,
-            dialling: 0,
             number_type: first % 128,
             incomplete: second / 128,
             plan: second / 16 % 8,
             presentation: second / 4 % 4,
             screening: second % 4,
-            len: len,
+            ..Transfer::carried(header, len)
         }
     }
 }
@@ -526,7 +514,7 @@ impl Signal {
 }
 
 // A record: the first `commons` of `common`; the parameters of its C5s one after the other in `transfer`; their values one after
-// the other in `values`. Unused room is zero in a record handed out.
+// the other in `values`. Unused room is zero in a record handed out. Arrays with counts, since memory is fixed and nothing is allocated.
 #[derive(Clone, Copy)]
 pub struct Record {
     pub commons: u8,
@@ -535,14 +523,15 @@ pub struct Record {
     pub values: [u8; Transfer::MOST_VALUES],
 }
 
-// What reading gives: the verdict, and the record beside it, empty where refused.
+// What reading gives: the verdict, and the record beside it, empty where refused, which demand 2 says (demands: `none`); so no `Result`.
 #[derive(Clone, Copy)]
 pub struct Reading {
     pub answer: Answer,
     pub record: Record,
 }
 
-// What a record's image gives: accepted with the count of common parameters, and the record; or refused, and the empty record.
+// What a record's image gives: accepted with the count of common parameters, and the record; or refused, and the empty record (tight:
+// `WrongPacked.refuses_images`).
 #[derive(Clone, Copy)]
 pub struct Imaged {
     pub answer: Answer,
@@ -570,11 +559,7 @@ pub enum Key {
 }
 
 // Where a parameter or its contents stand: from an octet to before another.
-#[derive(Clone, Copy)]
-pub enum Found {
-    At(usize, usize),
-    Nowhere,
-}
+pub type Found = Option<(usize, usize)>;
 
 // A row of a listing: offset of the header, header, length of the contents. Laid out as in C, so that any caller can lend a table of them.
 #[repr(C)]
@@ -666,11 +651,7 @@ impl Charges {
 }
 
 // What the charging information of a message says, or why there is none.
-#[derive(Clone, Copy)]
-pub enum ChargingAnswer {
-    Is(Charges),
-    Refused(u8, usize),
-}
+pub type ChargingAnswer = Result<Charges, Refusal>;
 
 // How a parameter of a connection order is laid out behind its header: one octet; a length octet, which is 1, and one octet; one octet with
 // bit 7 set; a whole octet of count and digits; and behind a length octet a number, what controls an ARE, what controls its logic, or
@@ -823,11 +804,7 @@ pub enum Class {
 }
 
 // What the class of a code value is, or why there is none.
-#[derive(Clone, Copy)]
-pub enum ClassAnswer {
-    Is(Class),
-    Refused(u8, usize),
-}
+pub type ClassAnswer = Result<Class, Refusal>;
 
 // The network that a call enquiry comes from, as the mobile call profile knows it.
 #[derive(Clone, Copy)]
@@ -880,7 +857,7 @@ impl AddedClass {
 }
 
 // What a call enquiry of the profile tells beside its record: its network, and the first `classes` of `class`, in the order of arrival.
-// Unused room is zero.
+// Unused room is zero. An array with its count, as in a record.
 #[derive(Clone, Copy)]
 pub struct Profile {
     pub network: Network,
@@ -888,7 +865,8 @@ pub struct Profile {
     pub class: [AddedClass; AddedClass::MOST],
 }
 
-// What reading by the profile gives: the verdict, and beside it the record and what it tells, those of nothing where refused.
+// What reading by the profile gives: the verdict, and beside it the record and what it tells, those of nothing where refused (demands:
+// `profile_none`).
 #[derive(Clone, Copy)]
 pub struct ProfileReading {
     pub answer: Answer,

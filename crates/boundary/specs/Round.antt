@@ -8,7 +8,7 @@ use Rattle.annex.specs.Writing.{written_of}
 use Rattle.annex.specs.Image.{image_of}
 use Rattle.annex.specs.Packed.{packed_answer, image_writing, image_written}
 use Rattle.annex.specs.Promises.{TkReadPromise, TkWritePromise}
-use Rattle.annex.specs.declared.Answer.TheVariants.{Accepted}
+use Rattle.annex.specs.Answers.{Accepted}
 use Rattle.theorems.specs.Messages.{read_then_laid}
 use Rattle.theorems.specs.Writings.{WrittenBack, read_then_written}
 use Rattle.theorems.specs.Images.{allowed_back}

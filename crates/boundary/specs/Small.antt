@@ -1,6 +1,6 @@
 -- Places and values are below 2^16 in every answer that is packed, so that nothing of it is lost: packed, its number, place and value can
 -- be told again.
-use Rattle.std.specs.Prelude.{ℕ, ◌+◌, ◌-◌, ◌/◌, ◌%◌, ◌≤◌, ◌<◌, ◌≡◌, refl, Bool, true, false, cond, List, [], ◌∷◌, eqb, ltb, length, take, drop}
+use Rattle.std.specs.Prelude.{ℕ, ◌+◌, ◌-◌, ◌/◌, ◌%◌, ◌≤◌, ◌<◌, ◌≡◌, refl, Bool, true, false, cond, List, [], ◌∷◌, eqb, ltb, length, take, drop, Err}
 use Rattle.std.proofs.Common.{arith, length-take, length-drop}
 use Rattle.annex.specs.Answers.{
   bad_form,
@@ -12,8 +12,16 @@ use Rattle.annex.specs.Answers.{
   refuse,
   and_then,
   class_value_of,
-  class_place_of,
   class_given_of,
+  Answer,
+  Accepted,
+  Refused,
+  ChargingAnswer,
+  Is,
+  Found,
+  At,
+  Nowhere,
+  ClassAnswer,
 }
 use Rattle.annex.specs.Units.{name_of}
 use Rattle.annex.specs.Heads.{clear, charging_information, connection_order, most_octets, zeroes_of}
@@ -25,28 +33,12 @@ use Rattle.annex.specs.Packed.{one_number, packed_answer, octets_to_a_row, octet
 use Rattle.annex.specs.Finding.{found_answer, found_part, find_answer, find_part, found_by}
 use Rattle.annex.specs.Spans.{rows_of, spans_by}
 use Rattle.annex.specs.Editing.{Edit, editing_of}
-use Rattle.annex.specs.Charging.{
-  charging_found,
-  charging_by,
-  charging_of,
-  charging_place_of,
-  charging_octets,
-  octet_charging_by,
-  octet_charging,
-}
+use Rattle.annex.specs.Charging.{charging_found, charging_by, charging_of, charging_octets, octet_charging_by, octet_charging}
 use Rattle.annex.specs.Classes.{ClassList, class_lists, class_by, class_in, class_of}
-use Rattle.annex.specs.declared.Answer.{Answer}
-use Rattle.annex.specs.declared.Answer.TheVariants.{Accepted, Refused}
-use Rattle.annex.specs.declared.ChargingAnswer.{ChargingAnswer}
-use Rattle.annex.specs.declared.ChargingAnswer.TheVariants as chargings
 use Rattle.annex.specs.declared.Key.{Key}
 use Rattle.annex.specs.declared.Key.TheVariants.{Name}
-use Rattle.annex.specs.declared.Found.{Found}
-use Rattle.annex.specs.declared.Found.TheVariants.{At, Nowhere}
 use Rattle.annex.specs.declared.Class.{Class}
 use Rattle.annex.specs.declared.Class.TheVariants.{Named, HeldBack, Spare}
-use Rattle.annex.specs.declared.ClassAnswer.{ClassAnswer}
-use Rattle.annex.specs.declared.ClassAnswer.TheVariants as classes
 use Rattle.laws.specs.Few.{rows_few, order_few}
 use Rattle.laws.specs.Offsets.{fault_within}
 use Rattle.laws.specs.Steps.{PlaceTo, refuse_place, then_place, place_told, place_up, verdict_place}
@@ -70,7 +62,7 @@ parts_back k p v h l = (omega arith, omega arith, omega arith)
 pub answer_back : (a : Answer) → Upto 65535 a
     → (packed_answer a / 4294967296 ≡ number_of a) × (packed_answer a / 65536 % 65536 ≡ place_of a) × (packed_answer a % 65536 ≡ given_of a)
 answer_back (Accepted n) u = parts_back 0 0 n (omega arith) (omega (arith, u.1))
-answer_back (Refused k p) u = parts_back k p 0 (omega (arith, u.0)) (omega arith)
+answer_back (Err r) u = parts_back r.0 r.1 0 (omega (arith, u.0)) (omega arith)
 
 -- ---- refusals in their order
 
@@ -83,7 +75,7 @@ upto_refuse false k p n a h u = u
 
 pub upto_then : (a : Answer) (f : ℕ → Answer) (k n : ℕ) → k ≤ n → Upto k a → ((q : ℕ) → q ≤ k → Upto n (f q)) → Upto n (and_then a f)
 upto_then (Accepted q) f k n h u g = g q u.1
-upto_then (Refused j p) f k n h u g = (omega (arith, u.0), omega arith)
+upto_then (Err r) f k n h u g = (omega (arith, u.0), omega arith)
 
 -- ---- reading
 
@@ -97,7 +89,7 @@ verdict_upto m = (place_told farthest (verdict_of m) (verdict_place fault_of fau
   where
     go : (a : Answer) → verdict_of m ≡ a → given_of a ≤ farthest
     go (Accepted n) e = omega (arith, (message_read m n e).length-given, (message_read m n e).few)
-    go (Refused k p) e = omega arith
+    go (Err r) e = omega arith
 
 -- ---- rows
 
@@ -130,7 +122,7 @@ module _ (m : List ℕ) where
       go (Accepted n) e u =
           let w = found_upto g i (message_read m n e).few in
           rw (e, same n e) ((omega (arith, w.0.0), omega (arith, w.0.1)), omega (arith, w.1))
-      go (Refused k p) e u = rw e ((u.0, omega arith), omega arith)
+      go (Err r) e u = rw e ((u.0, omega arith), omega arith)
 
   pub find_upto : (k : Key) → Told (found_by k m)
   find_upto k = told_by_lem (found_by k m) (plain_by k m) (plain_found k m) (plain_inside k m)
@@ -144,20 +136,20 @@ told_upto m k full n few =
 
 -- ---- charging information
 
-octets_upto : (a : ChargingAnswer) (room : ℕ) → charging_place_of a ≤ farthest → Upto farthest (octet_charging_by a room)
-octets_upto (chargings.Is c) room h =
+octets_upto : (a : ChargingAnswer) (room : ℕ) → place_of a ≤ farthest → Upto farthest (octet_charging_by a room)
+octets_upto (Is c) room h =
     let given = Accepted charging_octets in
     upto_refuse (ltb room charging_octets) no_room 0 farthest given (omega arith) (omega arith, omega arith)
-octets_upto (chargings.Refused k p) room h = (h, omega arith)
+octets_upto (Err r) room h = (h, omega arith)
 
 pub charging_upto : (m : List ℕ) (room : ℕ) → Upto farthest (octet_charging m room)
 unfolding octet_charging charging_of
 charging_upto m room =
     octets_upto (charging_of m) room (go (find_answer m (charging_found m)) (find_upto m (Name (name_of charging_information) 0)).0)
   where
-    go : (a : Answer) → Upto farthest a → charging_place_of (charging_by a (find_part m (charging_found m))) ≤ farthest
+    go : (a : Answer) → Upto farthest a → place_of (charging_by a (find_part m (charging_found m))) ≤ farthest
     go (Accepted n) u = omega arith
-    go (Refused k p) u = u.0
+    go (Err r) u = u.0
 
 -- ---- the rows of a connection order
 
@@ -187,7 +179,7 @@ editing_upto e d n o w = (place_told farthest (editing_of e d n) (editing_place 
     go (Accepted k) f =
         let t = edited_allowed e d n k o w f in
         rw f (omega (arith, t.1, (laid_then_read _ t.0).3))
-    go (Refused k p) f = rw f (omega arith)
+    go (Err r) f = rw f (omega arith)
 
 -- ---- classes
 
@@ -197,13 +189,13 @@ class_value HeldBack = omega arith
 class_value Spare = omega arith
 
 abbrev Few : ClassAnswer → Type 0
-Few a = (class_place_of a ≡ 0) × (class_given_of a ≤ 2)
+Few a = (place_of a ≡ 0) × (class_given_of a ≤ 2)
 
 pub class_few : (h x : ℕ) → Few (class_of h x)
 unfolding class_of
 class_few h x = among_few class_lists
   where
-    one : (b c : Bool) (k : Class) (rest : ClassAnswer) → Few rest → Few (cond b (cond c (classes.Is k) (classes.Refused bad_form 0)) rest)
+    one : (b c : Bool) (k : Class) (rest : ClassAnswer) → Few rest → Few (cond b (cond c (Is k) (Refused bad_form 0)) rest)
     one true true k rest u = (refl, class_value k)
     one true false k rest u = (refl, omega arith)
     one false c k rest u = u

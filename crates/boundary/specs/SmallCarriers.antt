@@ -1,10 +1,10 @@
 -- The places, counts and rows that the functions about carriers tell are below 2^16; and with room for the most rows
 -- or digits it is never 15.
-use Rattle.std.specs.Prelude.{ℕ, ◌*◌, ◌/◌, ◌≤◌, ◌≡◌, refl, Bool, true, false, not, List, ltb, length}
+use Rattle.std.specs.Prelude.{ℕ, ◌*◌, ◌/◌, ◌≤◌, ◌≡◌, refl, Bool, true, false, not, List, ltb, length, Err}
 use Rattle.std.proofs.Common.{arith}
 use Rattle.std.proofs.lemmas.List.{length-map}
 use Rattle.annex.specs.Allowed.{every, is_octet}
-use Rattle.annex.specs.Answers.{number_of, no_room, absent, refuse, and_then}
+use Rattle.annex.specs.Answers.{number_of, no_room, absent, refuse, and_then, Answer, Accepted, Refused}
 use Rattle.annex.specs.Finding.{find_answer, find_part}
 use Rattle.annex.specs.Heads.{carriers}
 use Rattle.annex.specs.Packed.{packed_answer, octets_to_a_carrier_row, octet_carriers}
@@ -22,8 +22,6 @@ use Rattle.annex.specs.Transit.{
   digits_answer,
 }
 use Rattle.annex.specs.Units.{name_of}
-use Rattle.annex.specs.declared.Answer.{Answer}
-use Rattle.annex.specs.declared.Answer.TheVariants.{Accepted, Refused}
 use Rattle.annex.specs.declared.Key.TheVariants.{Name}
 use Rattle.laws.specs.Entries.{code_few, entries_of_few}
 use Rattle.theorems.specs.Carried.{carriers_roomy, digits_roomy}
@@ -48,7 +46,7 @@ carriers_number m o which table l r now p =
   where
     go : (a : Answer) → packed_answer (and_then a (λ _. Accepted (length (carrier_rows_of which m)))) / 4294967296 ≡ number_of a
     go (Accepted n) = omega arith
-    go (Refused k q) = omega arith
+    go (Err r) = omega arith
 
 -- ---- digits
 
@@ -91,4 +89,4 @@ digits_number m o which row room l r now p =
         ≡ number_of (and_then a (λ _. refuse (not b) absent 0 (Accepted 0)))
     go (Accepted k) true = omega arith
     go (Accepted k) false = omega arith
-    go (Refused k q) b = omega arith
+    go (Err r) b = omega arith

@@ -1,7 +1,7 @@
 -- Places and values are below 2^16 where a message is read to an image, or written from one.
-use Rattle.std.specs.Prelude.{ℕ, ◌+◌, ◌-◌, ◌*◌, ◌/◌, ◌≤◌, ◌≡◌, refl, Bool, true, false, cond, not, ◌||◌, ◌&&◌, List, [], ◌∷◌, ◌++◌, eqb, ltb, length}
+use Rattle.std.specs.Prelude.{ℕ, ◌+◌, ◌-◌, ◌*◌, ◌/◌, ◌≤◌, ◌≡◌, refl, Bool, true, false, cond, not, ◌||◌, ◌&&◌, List, [], ◌∷◌, ◌++◌, eqb, ltb, length, Err}
 use Rattle.std.proofs.Common.{arith, ap, ◌∙◌, ltb-false, le-ltb, length-append}
-use Rattle.annex.specs.Answers.{over_the_limits, missing, transfer_over, no_room, number_of, refuse, and_then}
+use Rattle.annex.specs.Answers.{over_the_limits, missing, transfer_over, no_room, number_of, refuse, and_then, Answer, Accepted, Refused}
 use Rattle.annex.specs.Units.{extent_of}
 use Rattle.annex.specs.Heads.{among, common_headers, transfer_data, is_call, most_commons, most_transfers, most_transfer_octets}
 use Rattle.annex.specs.Items.{Item, Part}
@@ -25,8 +25,6 @@ use Rattle.annex.specs.Image.{Front, most_image, image_of, parts_front, no_image
 use Rattle.annex.specs.Image.Front.{Taken, Short}
 use Rattle.annex.specs.Packed.{packed_answer, image_reading, image_writing}
 use Rattle.annex.specs.Promises.{TkReadPromise}
-use Rattle.annex.specs.declared.Answer.{Answer}
-use Rattle.annex.specs.declared.Answer.TheVariants.{Accepted, Refused}
 use Rattle.annex.specs.declared.Record.{Record}
 use Rattle.laws.specs.Laid.{length-layout, lead_small}
 use Rattle.laws.specs.Places.{item_place}
@@ -54,7 +52,7 @@ read_roomy m room o l r now p = rw p.0 (go (verdict_of m) refl)
         → packed_answer (and_then a (λ _. refuse (ltb (length room) (length image)) no_room 0 (Accepted (length image)))) / 4294967296
         ≡ number_of a
     go (Accepted n) e = rw (le-ltb (length room) (length image) (omega (arith, image_most m o n e))) (omega arith)
-    go (Refused k q) e = omega arith
+    go (Err r) e = omega arith
 
 pub image_upto : (m : List ℕ) (room : ℕ) → every is_octet m ≡ true → Upto most_image (image_reading m room)
 unfolding image_reading image_of
@@ -67,7 +65,7 @@ image_upto m room o = go (verdict_of m) refl (verdict_upto m)
         let r = record_of m in
         upto_refuse (ltb room (length (image_of r))) no_room 0 most_image (Accepted (length (image_of r))) (omega arith)
         (omega arith, image_most m o n e)
-    go (Refused k p) e u = (omega (arith, u.0), omega arith)
+    go (Err r) e u = (omega (arith, u.0), omega arith)
 
 -- ---- writing
 
@@ -77,7 +75,7 @@ item_upto times p i = go (item_writing times p i) refl
   where
     go : (a : Answer) → item_writing times p i ≡ a → Upto (p + length (layout_item i)) a
     go (Accepted n) e = (omega arith, omega (arith, (item_written times p i n e).behind))
-    go (Refused k q) e = (omega (arith, (item_place times p i).at k q e), omega arith)
+    go (Err r) e = (omega (arith, (item_place times p i).at r.0 r.1 e), omega arith)
 
 items_upto : (is : List Item) (seen : Seen) (p : ℕ) → Upto (p + length (layout_items is)) (items_writing seen p is)
 unfolding items_writing layout_items

@@ -1,8 +1,8 @@
 -- Places and values are below 2^16 where a message is read or written by the mobile call profile; and twelve octets are room enough for the
 -- pairs of any D6 that it takes.
-use Rattle.std.specs.Prelude.{ℕ, ◌*◌, ◌-◌, ◌/◌, ◌≤◌, ◌≡◌, refl, Bool, true, false, cond, not, List, [], ◌∷◌, ltb, length}
+use Rattle.std.specs.Prelude.{ℕ, ◌*◌, ◌-◌, ◌/◌, ◌≤◌, ◌≡◌, refl, Bool, true, false, cond, not, List, [], ◌∷◌, ltb, length, Err}
 use Rattle.std.proofs.Common.{arith, le-ltb}
-use Rattle.annex.specs.Answers.{outside_profile, absent, no_room, number_of, refuse, and_then}
+use Rattle.annex.specs.Answers.{outside_profile, absent, no_room, number_of, refuse, and_then, Answer, Accepted, Refused}
 use Rattle.annex.specs.Items.{Item, Part}
 use Rattle.annex.specs.Allowed.{every, Each, is_octet, items_in}
 use Rattle.annex.specs.Reading.{verdict_of, record_of}
@@ -29,8 +29,6 @@ use Rattle.annex.specs.Profile.{
 }
 use Rattle.annex.specs.Packed.{packed_answer, image_reading, profile_image_reading, profile_image_writing}
 use Rattle.annex.specs.Promises.{TkClassesPromise}
-use Rattle.annex.specs.declared.Answer.{Answer}
-use Rattle.annex.specs.declared.Answer.TheVariants.{Accepted, Refused}
 use Rattle.theorems.specs.Profiles.{pairs_even, of_pairs, classes_few, profile_taken}
 use Rattle.boundary.specs.Small.{Upto, farthest, upto_refuse, upto_then, verdict_upto}
 use Rattle.boundary.specs.SmallImages.{image_upto, most_written, struct_upto, room_upto, imaged_upto}
@@ -102,7 +100,7 @@ classes_upto m room = go (profile_verdict m) refl (verdict_small m)
     go (Accepted n) e u =
         upto_refuse none absent 0 farthest _ (omega arith)
         (upto_refuse (ltb room k) no_room 0 farthest (Accepted k) (omega arith) (omega arith, omega (arith, classes_small m n e)))
-    go (Refused j p) e u = (u.0, omega arith)
+    go (Err r) e u = (u.0, omega arith)
 
 -- with so much room, the pairs are refused for what is wrong with the message alone, or for want of D6, never for want of room
 pub classes_roomy : (m room : List ℕ) → most_added ≤ length room → (r : ℕ) (now : List ℕ) → TkClassesPromise m room r now
@@ -124,4 +122,4 @@ classes_roomy m room l r now p = rw p.0 (go (profile_verdict m) refl)
         → packed_answer (and_then a (λ _. refuse none absent 0 (refuse (ltb (length room) k) no_room 0 (Accepted k)))) / 4294967296
         ≡ number_of (and_then a (λ _. refuse none absent 0 (Accepted 0)))
     go (Accepted n) e = rw (le-ltb (length room) k (omega (arith, classes_small m n e))) (by none)
-    go (Refused j q) e = omega arith
+    go (Err r) e = omega arith

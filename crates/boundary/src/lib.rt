@@ -2,7 +2,8 @@
 // and the value; number 0 where accepted.
 #![tactic(auto)]
 
-ghost use Rattle.std.specs.Prelude.{◌≡◌};
+ghost use Rattle.std.specs.Prelude.{◌≡◌, length};
+ghost use Rattle.annex.specs.Finding.{find_answer, find_part, found_by};
 ghost use Rattle.annex.specs.Answers.{class_value_of};
 ghost use Rattle.annex.specs.Editing.{Edit.Replacing, Edit.Appending, Edit.Removing};
 ghost use Rattle.annex.specs.Packed.{one_number, packed_answer, packed_length};
@@ -23,7 +24,7 @@ ghost use Rattle.annex.specs.Promises.{
   TkEditPromise,
 };
 
-use annex::{Answer, Class, ClassAnswer, Key};
+use annex::{Answer, Class, Key, Refusal};
 use carriers::carriers;
 use carriers::unpacking::carrier_digits;
 use charging::packing::octet_charging;
@@ -43,21 +44,28 @@ fn pack(number: u8, place: usize, value: usize) -> u64
     upper + middle + (value % 65536) as u64
 }
 
-fn pack_stretch(a: Answer, len: usize) -> u64
-    ensures { result ≡ packed_length a len }
+fn pack_refusal(refusal: Refusal) -> u64
+    ensures { result ≡ one_number refusal.0 refusal.1 0 }
 {
-    match a {
-        Answer::Accepted(s) => pack(0, s, len),
-        Answer::Refused(k, p) => pack(k, p, 0),
+    pack(refusal.0, refusal.1, 0)
+}
+
+fn pack_answer(answer: Answer) -> u64
+    ensures { result ≡ packed_answer answer }
+{
+    match answer {
+        Ok(n) => pack(0, 0, n),
+        Err(refusal) => pack_refusal(refusal),
     }
 }
 
-fn pack_answer(a: Answer) -> u64
-    ensures { result ≡ packed_answer a }
+// Where the contents of the parameter sought start, and how many octets they have.
+fn pack_found(m: &[u8], k: Key) -> u64
+    ensures { result ≡ packed_length (find_answer m.now (found_by k m.now)) (length (find_part m.now (found_by k m.now))) }
 {
-    match a {
-        Answer::Accepted(n) => pack(0, 0, n),
-        Answer::Refused(k, p) => pack(k, p, 0),
+    match find_both(m, k) {
+        Ok((start, contents)) => pack(0, start, contents.len()),
+        Err(refusal) => pack_refusal(refusal),
     }
 }
 
@@ -101,9 +109,7 @@ pub extern "C" fn tk_rows(message: &[u8], table: &mut [u8]) -> u64
 pub extern "C" fn tk_find_common(message: &[u8], header: u8) -> u64
     ensures { TkFindCommonPromise message.now header result }
 {
-    let found = find_both(message, Key::Header(header));
-    let a = found.answer;
-    pack_stretch(a, found.len)
+    pack_found(message, Key::Header(header))
 }
 
 // The contents of that one of the transfer parameters with this name, counted from 0.
@@ -111,9 +117,7 @@ pub extern "C" fn tk_find_common(message: &[u8], header: u8) -> u64
 pub extern "C" fn tk_find_transfer(message: &[u8], name: u8, which: usize) -> u64
     ensures { TkFindTransferPromise message.now name which result }
 {
-    let found = find_both(message, Key::Name(name, which));
-    let a = found.answer;
-    pack_stretch(a, found.len)
+    pack_found(message, Key::Name(name, which))
 }
 
 // The class of a code value.
@@ -121,10 +125,9 @@ pub extern "C" fn tk_find_transfer(message: &[u8], name: u8, which: usize) -> u6
 pub extern "C" fn tk_class(header: u8, octet: u8) -> u64
     ensures { TkClassPromise header octet result }
 {
-    let a = class_of(header, octet);
-    match a {
-        ClassAnswer::Is(c) => pack(0, 0, class_value(c)),
-        ClassAnswer::Refused(k, p) => pack(k, p, 0),
+    match class_of(header, octet) {
+        Ok(class) => pack(0, 0, class_value(class)),
+        Err(refusal) => pack_refusal(refusal),
     }
 }
 

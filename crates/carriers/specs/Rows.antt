@@ -1,15 +1,15 @@
 -- The rows of carriers as the code makes them, from a cursor: in contents of the right form they are those of the entries that are left.
-use Rattle.std.specs.Prelude.{ℕ, ◌+◌, ◌*◌, ◌/◌, ◌≤◌, ◌<◌, ◌≡◌, refl, Bool, true, false, cond, ◌&&◌, get_or, take, drop}
-use Rattle.std.proofs.Common.{arith, sym, ◌∙◌, get_or-take}
+use Rattle.std.specs.Prelude.{ℕ, zero, suc, ◌+◌, ◌*◌, ◌/◌, ◌≤◌, ◌<◌, ◌≡◌, refl, Bool, true, false, cond, ◌&&◌, ltb, get_or, take, drop}
+use Rattle.std.proofs.Common.{arith, sym, subst, ◌∙◌, get_or-take, drop-drop}
 use Rattle.std.proofs.Math.Path.{ap}
 use mathlib.Core.List.{List, [], ◌∷◌, map}
-use borrow.Author.Tests.{ltb-true, lt-ltb, le-ltb}
+use borrow.Author.Tests.{ltb-true, ltb-false, lt-ltb, le-ltb}
 use Rattle.std.proofs.Math.ListN.{length}
 use Rattle.std.proofs.lemmas.List.{length-map}
 use Rattle.std.proofs.lemmas.List.Edits.{sets}
-use Rattle.annex.specs.Answers.{start_of, no_room}
+use Rattle.annex.specs.Answers.{start_of, no_room, Accepted, Refused}
 use Rattle.annex.specs.Carriers.{holds_code, inside_of, code_count, carriers_formed}
-use Rattle.annex.specs.Entering.{first_entry, in_carrier, entry_inside, entry_next, is_code_here}
+use Rattle.annex.specs.Entering.{first_entry, in_carrier, entry_inside, entry_next, is_code_here, cursors_from}
 use Rattle.annex.specs.Finding.{find_answer, find_part}
 use Rattle.annex.specs.Packed.{octets_to_a_carrier_row, carrier_row_octets, carrier_rows_octets, octet_carriers, octet_carriers_table}
 use Rattle.annex.specs.Reading.{verdict_of}
@@ -24,7 +24,6 @@ use Rattle.annex.specs.Transit.{
   carrier_rows_of,
   carriers_answer,
 }
-use Rattle.annex.specs.declared.Answer.TheVariants.{Accepted, Refused}
 use Rattle.annex.specs.declared.CarrierRow.{CarrierRow}
 use Rattle.annex.specs.declared.Cursor.{Cursor}
 use Rattle.laws.specs.Bools.{and_left, and_right}
@@ -35,22 +34,8 @@ use Rattle.laws.specs.Fronts.{front_all}
 use Rattle.laws.specs.Runs.{Left, left_none, all_long, one_stored, one_fits}
 use Rattle.laws.specs.Steps.{then_passed}
 use Rattle.theorems.specs.Places.{found_at}
-use Rattle.entries.specs.Left.{
-  Lies,
-  entry_formed,
-  formed_left,
-  entries_left,
-  here,
-  entry_here,
-  formed_turn,
-  entries_turn,
-  held_here,
-  lies_next,
-  goes_on,
-  formed_start,
-  entries_first_left,
-  entries_past,
-}
+use Rattle.entries.specs.Entries.{cursors_more, cursors_none, entries_all}
+use Rattle.entries.specs.Left.{Lies, entry_formed, formed_left, entries_left, here, entry_here, formed_turn, entries_turn, held_here, lies_next, formed_start, entries_first_left}
 
 -- the row of the entry at a cursor of contents that start at the place p of a message
 abbrev pub here_row : List ℕ → Cursor → ℕ → CarrierRow
@@ -110,9 +95,6 @@ module _ (s : List ℕ) (c : Cursor) (g : Going s c) (l : c.at < length s) where
   pub going_on : Going s (entry_next s c)
   going_on = record { lies = lies_next s c g.lies l; formed = and_right (entry_formed s c) _ both }
 
-  pub onward : c.at < (entry_next s c).at
-  onward = goes_on s c g.lies l
-
   -- the first that is left, and the others
   pub entries_next : entries_left s c ≡ entry_here s c ∷ entries_left s (entry_next s c)
   entries_next = entries_turn s c g.lies l right_here
@@ -122,13 +104,60 @@ module _ (s : List ℕ) (c : Cursor) (g : Going s c) (l : c.at < length s) where
       ap (map (entry_row p)) entries_next
       ∙ ap (λ (r : CarrierRow). r ∷ rows_left p s (entry_next s c)) (here_row_lem s c g.lies l right_here p)
 
--- past the last none is left
-pub none_left : (s : List ℕ) (c : Cursor) → Going s c → length s ≤ c.at → entries_left s c ≡ []
-none_left s c g l = entries_past s c g.lies l
+-- ---- the cursors of all
+
+-- an entry, behind so many others
+pub record Reached (s : List ℕ) (number : ℕ) (c : Cursor) : Type 0 where
+  pub going : Going s c
+  pub here : c.at < length s
+  pub left : entries_left s c ≡ drop number (entries_left s first_entry)
+
+-- a cursor that the list of those from c on has stands at an entry
+module _ (s : List ℕ) (d : Cursor) where
+  some_here : (k : ℕ) (c : Cursor) → k < length (cursors_from s c) → c.at < length s
+  some_here k c h = go (ltb c.at (length s)) refl
+    where
+      go : (b : Bool) → ltb c.at (length s) ≡ b → c.at < length s
+      go true e = ltb-true _ _ e
+      go false e = absurd (omega (arith, h, ap length (cursors_none s c (ltb-false _ _ e))))
+
+  reached_from : (k : ℕ) (c : Cursor) → Going s c → k < length (cursors_from s c) →
+      let e = get_or (cursors_from s c) k d in
+      Going s e × (e.at < length s) × (entries_left s e ≡ drop k (entries_left s c))
+  reached_from zero c g h = let l = some_here zero c h in rw (cursors_more s c l) (g, l, refl)
+  reached_from (suc k) c g h =
+      let l = some_here (suc k) c h in
+      let r = reached_from k (entry_next s c) (going_on s c g l) (omega (arith, h, ap length (cursors_more s c l))) in
+      rw (cursors_more s c l, entries_next s c g l) r
+
+pub reached : (s : List ℕ) → carriers_formed s ≡ true → (k : ℕ) (c : Cursor)
+    → (k < length (cursors_from s first_entry)) × (c ≡ get_or (cursors_from s first_entry) k c) → Reached s k c
+reached s f k c h =
+    let r = reached_from s c k first_entry (going_first s f) h.0 in
+    subst (Reached s k) (sym h.1) (record { going = r.0; here = r.1; left = r.2 })
+
+-- as many as there are entries
+pub cursors_count : (s : List ℕ) → carriers_formed s ≡ true → length (cursors_from s first_entry) ≡ length (entries_left s first_entry)
+cursors_count s f =
+    let g = going_first s f in
+    sym (length-map (cursors_from s first_entry) (entry_here s)) ∙ ap length (entries_all s first_entry g.lies g.formed)
+
+-- the rows of all but so many
+abbrev pub rows_behind : ℕ → List ℕ → ℕ → List CarrierRow
+rows_behind p s k = map (entry_row p) (drop k (entries_left s first_entry))
+
+-- at an entry its row is the first of them
+pub rows_at : (s : List ℕ) (k : ℕ) (c : Cursor) → Reached s k c → (p : ℕ) → rows_behind p s k ≡ here_row s c p ∷ rows_behind p s (k + 1)
+rows_at s k c r p =
+    let all = entries_left s first_entry in
+    let l = r.here in
+    let more : drop (k + 1) all ≡ entries_left s (entry_next s c) =
+    sym (drop-drop 1 k all) ∙ ap (drop 1) (sym r.left ∙ entries_next s c r.going l) in
+    rw (← r.left, more) (rows_next s c r.going l p)
 
 -- behind the direction's row come those from the first cursor on
 pub rows_first : (s : List ℕ) (p : ℕ)
-    → map (entry_row p) (entries_of s) ≡ entry_row p (direction_entry (get_or s 0 0)) ∷ rows_left p s first_entry
+    → map (entry_row p) (entries_of s) ≡ entry_row p (direction_entry (get_or s 0 0)) ∷ rows_behind p s 0
 unfolding entries_of
 rows_first s p = ap (λ (es : List Entry). map (entry_row p) (direction_entry (get_or s 0 0) ∷ es)) (sym (entries_first_left s))
 
@@ -167,19 +196,19 @@ left_over at now l = (left_none l refl).put
 -- the direction's row, and behind it the others
 pub rows_stored : (s : List ℕ) (p : ℕ) (table first after : List ℕ)
     → first ≡ sets table 0 (carrier_row_octets (entry_row p (direction_entry (get_or s 0 0))))
-    → after ≡ sets first octets_to_a_carrier_row (carrier_rows_octets (rows_left p s first_entry)) → after ≡ sets table 0 (rows_octets_of p s)
+    → after ≡ sets first octets_to_a_carrier_row (carrier_rows_octets (rows_behind p s 0)) → after ≡ sets table 0 (rows_octets_of p s)
 unfolding carrier_rows_octets
 rows_stored s p table first after e f =
     let x = carrier_row_octets (entry_row p (direction_entry (get_or s 0 0))) in
-    f ∙ ap (λ (t : List ℕ). sets t octets_to_a_carrier_row (carrier_rows_octets (rows_left p s first_entry))) e
-    ∙ sym (sets-append x (carrier_rows_octets (rows_left p s first_entry)) table 0)
+    f ∙ ap (λ (t : List ℕ). sets t octets_to_a_carrier_row (carrier_rows_octets (rows_behind p s 0))) e
+    ∙ sym (sets-append x (carrier_rows_octets (rows_behind p s 0)) table 0)
     ∙ ap (λ (rs : List CarrierRow). sets table 0 (carrier_rows_octets rs)) (sym (rows_first s p))
 
 -- where there is room for all rows there is for those
 pub rows_fit : (s : List ℕ) (p room : ℕ) → octets_to_a_carrier_row * length (entries_of s) ≤ room
-    → octets_to_a_carrier_row + length (carrier_rows_octets (rows_left p s first_entry)) ≤ room
+    → octets_to_a_carrier_row + length (carrier_rows_octets (rows_behind p s 0)) ≤ room
 rows_fit s p room l =
-    omega (arith, entries_counted s, length-rows (rows_left p s first_entry), length-map (entries_left s first_entry) (entry_row p))
+    omega (arith, entries_counted s, length-rows (rows_behind p s 0), length-map (entries_left s first_entry) (entry_row p))
 
 -- ---- of a message
 

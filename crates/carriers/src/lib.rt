@@ -1,7 +1,6 @@
 // The carriers of a message (CC), told beside its record: a row to the direction and one to each entry, eight octets each.
 #![tactic(auto)]
 
-pub mod part;
 pub mod unpacking;
 
 ghost use Rattle.std.specs.Prelude.{◌≡◌, true, cond, ◌+◌, ◌*◌, ◌^◌, ◌≤◌, ◌<◌, length, get_or};
@@ -13,11 +12,10 @@ ghost use Rattle.annex.specs.Promises.{CarriersPromise};
 ghost use Rattle.annex.specs.Transit.{direction_entry, entries_of, entry_row};
 ghost use Rattle.carriers.specs.Rows.{here_row, rows_octets_of};
 
-use annex::{Answer, CarrierRow, Cursor, Found, Key, Transfer};
+use annex::{Answer, CarrierRow, Cursor, Key, Refusal, Transfer};
 use entries::code::code_count;
-use entries::cursor::{first, inside, is_code, next};
-use octets::octet_at;
-use part::stretch_from;
+use entries::cursor::{entries, inside, is_code};
+use octets::{copy_in, octet_at};
 use reader::finding::find_both;
 
 // The level of the entry at a cursor.
@@ -31,28 +29,25 @@ fn level_here(c: Cursor) -> u8
     }
 }
 
-// How many octets it holds, none where it is cut.
-fn held_here(s: &[u8], c: Cursor) -> usize
-    ensures { result ≡ length (entry_inside s.now c) }
+// The octets that it holds, none where it is cut.
+fn held(s: &[u8], c: Cursor) -> &[u8]
+    ensures { result.now ≡ entry_inside s.now c }
 {
-    let Found::At(from, to) = inside(s, c) else {
-        return 0;
-    };
-    to - from
+    match inside(s, c) {
+        Some((from, to)) => &s[from..to],
+        None => &[],
+    }
 }
 
 // How many digits, where it holds a code.
 fn digits_here(s: &[u8], c: Cursor) -> usize
     ensures { result ≡ cond (is_code_here s.now c) (code_count (entry_inside s.now c)).0 0 }
 {
-    if !is_code(s, c) {
-        return 0;
+    if is_code(s, c) {
+        code_count(held(s, c)).0
+    } else {
+        0
     }
-    let Found::At(from, to) = inside(s, c) else {
-        return 0;
-    };
-    let count = code_count(&s[from..to]);
-    count.0
 }
 
 // Its row, where the contents s start at the place `start` of the message.
@@ -60,12 +55,11 @@ fn row_here(s: &[u8], c: Cursor, start: usize) -> CarrierRow
     requires { start + c.at < 2 ^ 64 }
     ensures { result ≡ here_row s.now c start }
 {
-    let at = c.at;
     CarrierRow {
         level: level_here(c),
-        tag: octet_at(s, at),
-        offset: start + at,
-        len: held_here(s, c),
+        tag: octet_at(s, c.at),
+        offset: start + c.at,
+        len: held(s, c).len(),
         digits: digits_here(s, c),
     }
 }
@@ -85,35 +79,39 @@ fn direction_row(s: &[u8], start: usize) -> CarrierRow
 }
 
 // How many rows contents of the right form have.
+#[tactic(auto, using(entries::specs::Entries::cursors_few))]
 fn count(s: &[u8]) -> usize
     requires { carriers_formed s.now ≡ true }
     ensures { result ≡ length (entries_of s.now) }
 {
-    let mut n: usize = 1;
-    let mut c = first();
-    while c.at < s.len() {
-        n += 1;
-        c = next(s, c);
-    }
-    n
+    1 + entries(s).count()
 }
 
-// Writes a row from `at` on: level, tag, and in two octets each, least first, the offset, how many octets it holds, and how many digits.
+// A row: level, tag, and in two octets each, least first, the offset, how many octets it holds, and how many digits.
+fn octets_of(row: CarrierRow) -> [u8; CarrierRow::OCTETS]
+    ensures { result ≡ carrier_row_octets row }
+{
+    let [offset_low, offset_high, ..] = row.offset.to_le_bytes();
+    let [len_low, len_high, ..] = row.len.to_le_bytes();
+    let [digits_low, digits_high, ..] = row.digits.to_le_bytes();
+    [
+        row.level,
+        row.tag,
+        offset_low,
+        offset_high,
+        len_low,
+        len_high,
+        digits_low,
+        digits_high,
+    ]
+}
+
+// Writes a row from `at` on.
 fn put_row(row: CarrierRow, at: usize, table: &mut [u8])
     requires { at + octets_to_a_carrier_row ≤ length table.old }
     ensures { table.new ≡ sets table.old at (carrier_row_octets row) }
 {
-    let offset = row.offset;
-    let len = row.len;
-    let digits = row.digits;
-    table[at] = row.level;
-    table[at + 1] = row.tag;
-    table[at + 2] = (offset % 256) as u8;
-    table[at + 3] = (offset / 256 % 256) as u8;
-    table[at + 4] = (len % 256) as u8;
-    table[at + 5] = (len / 256 % 256) as u8;
-    table[at + 6] = (digits % 256) as u8;
-    table[at + 7] = (digits / 256 % 256) as u8;
+    copy_in(table, at, &octets_of(row));
 }
 
 // Writes the rows of contents of the right form from the table's front on.
@@ -123,12 +121,11 @@ fn put_rows(s: &[u8], start: usize, table: &mut [u8])
     ensures { table.new ≡ sets table.old 0 (rows_octets_of start s.now) }
 {
     put_row(direction_row(s, start), 0, table);
-    let mut place: usize = CarrierRow::OCTETS;
-    let mut c = first();
-    while c.at < s.len() {
+    // by enumerate the place would be (i + 1) * OCTETS, which is no plainer
+    let mut place = CarrierRow::OCTETS;
+    for c in entries(s) {
         put_row(row_here(s, c, start), place, table);
         place += CarrierRow::OCTETS;
-        c = next(s, c);
     }
 }
 
@@ -137,17 +134,11 @@ fn put_rows(s: &[u8], start: usize, table: &mut [u8])
 pub fn carriers(m: &[u8], which: usize, table: &mut [u8]) -> Answer
     ensures { CarriersPromise m.now which table.old result table.new }
 {
-    let found = find_both(m, Key::Name(Transfer::CARRIERS % 64, which));
-    let answer = found.answer;
-    let len = found.len;
-    let Answer::Accepted(start) = answer else {
-        return answer;
-    };
-    let s = stretch_from(m, start, len);
+    let (start, s) = find_both(m, Key::Name(Transfer::CARRIERS % 64, which))?;
     let n = count(s);
     if table.len() / CarrierRow::OCTETS < n {
-        return Answer::Refused(Answer::NO_ROOM, 0);
+        return Err(Refusal(Refusal::NO_ROOM, 0));
     }
     put_rows(s, start, table);
-    Answer::Accepted(n)
+    Ok(n)
 }

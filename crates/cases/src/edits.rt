@@ -6,49 +6,42 @@ use editor::{append, remove, replace};
 use octets::copy_in;
 use std::io;
 
-// The kinds of case; a removal is the third.
-const REPLACE: u8 = 0;
-
-const APPEND: u8 = 1;
-
-fn edit(kind: u8, buffer: &mut [u8], n: usize, which: usize, new: &[u8]) -> Answer {
-    if kind == REPLACE {
-        return replace(buffer, n, new, which);
-    }
-    if kind == APPEND {
-        return append(buffer, n, new);
-    }
-    if new.len() == 0 {
-        return remove(buffer, n, 255, which);
-    }
-    remove(buffer, n, new[0], which)
+#[derive(Clone, Copy)]
+pub enum Kind {
+    Replace,
+    Append,
+    Remove,
 }
 
-fn shown(
-    rt: &impl Print,
-    kind: u8,
-    buffer: &mut [u8],
-    n: usize,
-    which: usize,
-    new: &[u8],
-) -> io::Result<()> {
-    let a = edit(kind, buffer, n, which, new);
-    print_outcome(rt, a, buffer)
+// An edit of the first n octets of a buffer that holds those given, by the new octets, for a removal the name first.
+#[derive(Clone, Copy)]
+pub struct Case<'a> {
+    pub kind: Kind,
+    pub n: usize,
+    pub which: usize,
+    pub given: &'a [u8],
+    pub new: &'a [u8],
 }
 
-pub fn case(
-    rt: &impl Print,
-    kind: u8,
-    n: usize,
-    which: usize,
-    given: &[u8],
-    new: &[u8],
-) -> io::Result<()> {
-    let mut room = [0u8; MOST];
-    let len = given.len();
-    if MOST < len {
-        return Ok(());
+impl Case<'_> {
+    fn edit(self, buffer: &mut [u8]) -> Answer {
+        match self.kind {
+            Kind::Replace => replace(buffer, self.n, self.new, self.which),
+            Kind::Append => append(buffer, self.n, self.new),
+            Kind::Remove => {
+                let name = self.new.first().copied().unwrap_or(255);
+                remove(buffer, self.n, name, self.which)
+            }
+        }
     }
-    copy_in(&mut room, 0, given);
-    shown(rt, kind, &mut room[..len], n, which, new)
+
+    pub fn print(self, rt: &impl Print) -> io::Result<()> {
+        let mut room = [0u8; MOST];
+        let Some(buffer) = room.get_mut(..self.given.len()) else {
+            return Ok(());
+        };
+        copy_in(buffer, 0, self.given);
+        let a = self.edit(buffer);
+        print_outcome(rt, a, buffer)
+    }
 }

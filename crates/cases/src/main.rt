@@ -9,87 +9,96 @@ mod edits;
 mod printing;
 mod records;
 
-ghost use Rattle.std.specs.Prelude.{◌≤◌, ◌<◌, length};
+ghost use Rattle.std.specs.Prelude.{◌<◌, IfSome, length};
 
 use input::read_full;
+use records::Change;
 use std::io;
 
 // the longest buffer and room
 const MOST: usize = 400;
 
-const HEADS: usize = 9;
-
 // the longest input
 const INPUT: usize = 131072;
 
-// the first kind that writes a record
-const WRITE: u8 = 3;
-
-fn wide(x: u8) -> usize
-    ensures { result < 256 }
-{
-    x as usize
+// What a case does.
+#[derive(Clone, Copy)]
+enum Kind {
+    Edit(edits::Kind),
+    Write(Change),
 }
 
-// Two octets, least first; 0 past the end.
-fn pair(s: &[u8], i: usize) -> usize
-    ensures { result < 65536 }
-{
-    if s.len() < 2 {
-        return 0;
+impl From<u8> for Kind {
+    fn from(octet: u8) -> Kind {
+        match octet {
+            0 => Kind::Edit(edits::Kind::Replace),
+            1 => Kind::Edit(edits::Kind::Append),
+            2 => Kind::Edit(edits::Kind::Remove),
+            4 => Kind::Write(Change::Commons),
+            5 => Kind::Write(Change::Transfers),
+            6 => Kind::Write(Change::Values),
+            _ => Kind::Write(Change::Nothing),
+        }
     }
-    if s.len() - 2 < i {
-        return 0;
-    }
-    wide(s[i]) + 256 * wide(s[i + 1])
 }
 
-// How many octets of a case come before the last that it has: an edit's buffer.
-fn buffer_len(kind: u8, len: usize) -> usize
-    ensures { result ≤ len }
-{
-    if kind < WRITE { len } else { 0 }
+#[derive(Clone, Copy)]
+enum Case<'a> {
+    Edit(edits::Case<'a>),
+    Write(records::Case<'a>),
 }
 
-// The case at the front of s: how many octets it has, or 0 where it is cut; and whether all that it prints was written.
-fn first_case(rt: &impl Print, s: &[u8]) -> (usize, io::Result<()>)
-    ensures { result.0 ≤ length s.now }
+// The number in the first two octets of s, least first, and what is behind it.
+fn first_number(s: &[u8]) -> Option<(u16, &[u8])>
+    ensures { IfSome result (λ r. length r.1.now < length s.now) }
 {
-    if s.len() < HEADS {
-        return (0, Ok(()));
+    let (octets, behind) = s.split_first_chunk::<2>()?;
+    Some((u16::from_le_bytes(*octets), behind))
+}
+
+// The case at the front of s, and what is behind it; none where it is cut.
+fn first_case(s: &[u8]) -> Option<(Case<'_>, &[u8])>
+    ensures { IfSome result (λ r. length r.1.now < length s.now) }
+{
+    let (kind, left) = s.split_first()?;
+    let (first, left) = first_number(left)?;
+    let (second, left) = first_number(left)?;
+    let (third, left) = first_number(left)?;
+    let (fourth, left) = first_number(left)?;
+    match Kind::from(*kind) {
+        Kind::Edit(kind) => {
+            let (given, left) = left.split_at_checked(usize::from(second))?;
+            let (new, behind) = left.split_at_checked(usize::from(third))?;
+            let case = edits::Case {
+                kind,
+                n: usize::from(first),
+                which: usize::from(fourth),
+                given,
+                new,
+            };
+            Some((Case::Edit(case), behind))
+        }
+        Kind::Write(change) => {
+            let (image, behind) = left.split_at_checked(usize::from(third))?;
+            let case = records::Case {
+                change,
+                to: first,
+                len: usize::from(second),
+                image,
+            };
+            Some((Case::Write(case), behind))
+        }
     }
-    let kind = s[0];
-    let first = pair(s, 1);
-    let second = pair(s, 3);
-    let middle = HEADS + buffer_len(kind, second);
-    let end = middle + pair(s, 5);
-    if s.len() < end {
-        return (0, Ok(()));
-    }
-    let printed = if kind < WRITE {
-        edits::case(
-            rt,
-            kind,
-            first,
-            pair(s, 7),
-            &s[HEADS..middle],
-            &s[middle..end],
-        )
-    } else {
-        records::case(rt, kind, first, second, &s[middle..end])
-    };
-    (end, printed)
 }
 
 fn run(rt: &impl Print, s: &[u8]) -> io::Result<()> {
-    let mut i = 0;
-    while i < s.len() {
-        let (k, printed) = first_case(rt, &s[i..]);
-        printed?;
-        if k == 0 {
-            break;
+    let mut left = s;
+    while let Some((case, behind)) = first_case(left) {
+        match case {
+            Case::Edit(edit) => edit.print(rt)?,
+            Case::Write(write) => write.print(rt)?,
         }
-        i += k;
+        left = behind;
     }
     Ok(())
 }

@@ -1,7 +1,7 @@
 // Records written, each in a room of its own.
 use super::MOST;
 use super::printing::print_outcome;
-use annex::{Common, Record};
+use annex::Record;
 use from_image::from_image;
 use std::io;
 use writer::write;
@@ -9,51 +9,47 @@ use writer::write;
 // what the room holds before
 const BEFORE: u8 = 0xEE;
 
-// The kinds of case: what is changed of the struct. Any other changes nothing.
-const COMMONS: u8 = 4;
+// What is changed of the struct: its count of common parameters, the first one's count of transfer parameters, the first transfer
+// parameter's count of values.
+#[derive(Clone, Copy)]
+pub enum Change {
+    Nothing,
+    Commons,
+    Transfers,
+    Values,
+}
 
-const TRANSFERS: u8 = 5;
-
-const VALUES: u8 = 6;
-
-// A struct whose counts need not be right.
-fn changed(held: Record, what: u8, to: usize) -> Record {
-    let mut q = held;
-    if what == COMMONS {
-        q.commons = (to % 256) as u8;
-        return q;
+impl Change {
+    // A struct whose counts need not be right.
+    fn of(self, held: Record, to: u16) -> Record {
+        let mut q = held;
+        match self {
+            Change::Nothing => {}
+            Change::Commons => q.commons = (to % 256) as u8,
+            Change::Transfers => q.common[0].transfers = (to % 256) as u8,
+            Change::Values => q.transfer[0].len = to,
+        }
+        q
     }
-    if what == TRANSFERS {
-        let c = q.common[0];
-        let d = Common {
-            header: c.header,
-            value: c.value,
-            more_data: c.more_data,
-            transfers: (to % 256) as u8,
+}
+
+// The struct of a record's image, changed, and written in room of so many octets.
+#[derive(Clone, Copy)]
+pub struct Case<'a> {
+    pub change: Change,
+    pub to: u16,
+    pub len: usize,
+    pub image: &'a [u8],
+}
+
+impl Case<'_> {
+    pub fn print(self, rt: &impl Print) -> io::Result<()> {
+        let mut memory = [BEFORE; MOST];
+        let Some(room) = memory.get_mut(..self.len) else {
+            return Ok(());
         };
-        q.common[0] = d;
-        return q;
+        let held = from_image(self.image).held;
+        let a = write(self.change.of(held, self.to), room);
+        print_outcome(rt, a, room)
     }
-    if what == VALUES {
-        let mut t = q.transfer[0];
-        t.len = (to % 65536) as u16;
-        q.transfer[0] = t;
-        return q;
-    }
-    q
-}
-
-fn shown(rt: &impl Print, held: Record, room: &mut [u8]) -> io::Result<()> {
-    let a = write(held, room);
-    print_outcome(rt, a, room)
-}
-
-pub fn case(rt: &impl Print, what: u8, to: usize, len: usize, given: &[u8]) -> io::Result<()> {
-    let mut room = [BEFORE; MOST];
-    if MOST < len {
-        return Ok(());
-    }
-    let imaged = from_image(given);
-    let held = imaged.held;
-    shown(rt, changed(held, what, to), &mut room[..len])
 }

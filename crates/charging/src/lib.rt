@@ -5,8 +5,7 @@ pub mod packing;
 
 ghost use Rattle.annex.specs.Promises.{ChargingPromise};
 
-use annex::{Answer, ChargingAnswer, Key, Transfer};
-use octets::octets_from;
+use annex::{ChargingAnswer, Key, Transfer};
 use rates::opening::charges;
 use reader::finding::find_both;
 
@@ -14,14 +13,6 @@ use reader::finding::find_both;
 pub fn charging(m: &[u8]) -> ChargingAnswer
     ensures { ChargingPromise m.now result }
 {
-    let found = find_both(m, Key::Name(Transfer::CHARGING_INFORMATION % 64, 0));
-    let answer = found.answer;
-    let len = found.len;
-    match answer {
-        Answer::Accepted(start) => {
-            let rest = octets_from(m, start);
-            ChargingAnswer::Is(charges(&rest[..len]))
-        }
-        Answer::Refused(k, p) => ChargingAnswer::Refused(k, p),
-    }
+    let (_, contents) = find_both(m, Key::Name(Transfer::CHARGING_INFORMATION % 64, 0))?;
+    Ok(charges(contents))
 }

@@ -4,54 +4,43 @@ ghost use Rattle.annex.specs.Charging.{charge_octets};
 ghost use Rattle.annex.specs.Promises.{OctetChargingPromise};
 
 use crate::charging;
-use annex::{Answer, Charges, ChargingAnswer};
+use annex::{Answer, Charges, Refusal};
 use octets::copy_in;
 
 // The kind, and each field in two octets, the least first.
 fn octets_of(c: Charges) -> [u8; Charges::OCTETS]
     ensures { result ≡ charge_octets c }
 {
-    [
-        c.kind,
-        (c.unit_fee % 256) as u8,
-        (c.unit_fee / 256 % 256) as u8,
-        (c.initial_units % 256) as u8,
-        (c.initial_units / 256 % 256) as u8,
-        (c.day % 256) as u8,
-        (c.day / 256 % 256) as u8,
-        (c.night % 256) as u8,
-        (c.night / 256 % 256) as u8,
-        (c.late_night_1 % 256) as u8,
-        (c.late_night_1 / 256 % 256) as u8,
-        (c.late_night_2 % 256) as u8,
-        (c.late_night_2 / 256 % 256) as u8,
-        (c.mbi % 256) as u8,
-        (c.mbi / 256 % 256) as u8,
-        (c.information_interval % 256) as u8,
-        (c.information_interval / 256 % 256) as u8,
-        (c.information_units % 256) as u8,
-        (c.information_units / 256 % 256) as u8,
-        (c.free_time % 256) as u8,
-        (c.free_time / 256 % 256) as u8,
-        (c.check_digit % 256) as u8,
-        (c.check_digit / 256 % 256) as u8,
-    ]
+    let fields = [
+        c.unit_fee,
+        c.initial_units,
+        c.day,
+        c.night,
+        c.late_night_1,
+        c.late_night_2,
+        c.mbi,
+        c.information_interval,
+        c.information_units,
+        c.free_time,
+        c.check_digit,
+    ];
+    let mut octets = [0u8; Charges::OCTETS];
+    octets[0] = c.kind;
+    for (k, field) in fields.iter().enumerate() {
+        let [low, high] = field.to_le_bytes();
+        octets[1 + 2 * k] = low;
+        octets[2 + 2 * k] = high;
+    }
+    octets
 }
 
 // What the charging information says, as octets at the front of the room: how many there are. A refusal leaves the room as it was.
 pub fn octet_charging(m: &[u8], room: &mut [u8]) -> Answer
     ensures { OctetChargingPromise m.now room.old result room.new }
 {
-    let a = charging(m);
-    match a {
-        ChargingAnswer::Refused(k, p) => Answer::Refused(k, p),
-        ChargingAnswer::Is(c) => {
-            if room.len() < Charges::OCTETS {
-                return Answer::Refused(Answer::NO_ROOM, 0);
-            }
-            let octets = octets_of(c);
-            copy_in(room, 0, &octets);
-            Answer::Accepted(Charges::OCTETS)
-        }
+    let octets = octets_of(charging(m)?);
+    if !copy_in(room, 0, &octets) {
+        return Err(Refusal(Refusal::NO_ROOM, 0));
     }
+    Ok(Charges::OCTETS)
 }

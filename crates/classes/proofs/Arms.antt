@@ -1,4 +1,5 @@
 -- Laws for the arms of a `match` on an octet under a header: what the class is over an arm is one test that antt computes.
+use Rattle.std.specs.Prelude.{Err}
 use mathlib.Core.Path.{◌≡◌, refl, ap}
 use mathlib.Core.Bool.{Bool, true, false, cond, not, ◌&&◌, ◌||◌}
 use mathlib.Core.List.{List, [], ◌∷◌}
@@ -6,13 +7,11 @@ use Prim.Native.Nat.{ℕ, ◌+◌, ◌*◌, ◌/◌, ◌%◌, ◌≤◌, ◌<◌
 use native.Mathlib.Omega.{arith}
 use lib.Dec.{T, eqb, eqb→eq}
 use types.Run.{OneOf}
-use Rattle.annex.specs.Answers.{no_class_list, class_value_of}
+use Rattle.annex.specs.Answers.{no_class_list, class_value_of, ClassAnswer, Is, Refused}
 use Rattle.annex.specs.Heads.{among}
 use Rattle.annex.specs.Classes.{ClassList, class_by}
 use Rattle.annex.specs.declared.Class.{Class}
 use Rattle.annex.specs.declared.Class.TheVariants.{Named, HeldBack, Spare}
-use Rattle.annex.specs.declared.ClassAnswer.{ClassAnswer}
-use Rattle.annex.specs.declared.ClassAnswer.TheVariants.{Is, Refused}
 use Rattle.laws.specs.Bools.{T_true, true_t, and_left, and_right}
 use Rattle.laws.specs.Octet.{all, all_of, among_any, None, range, span_by_lem, one_of_by}
 use Rattle.classes.specs.Listed.{listed_in, listed_class}
@@ -35,19 +34,19 @@ same_class_lem Spare Spare t = refl
 -- and the two answers
 abbrev pub same_answer : ClassAnswer → ClassAnswer → Bool
 same_answer (Is a) (Is b) = same_class a b
-same_answer (Is a) (Refused l q) = false
-same_answer (Refused k p) (Is b) = false
-same_answer (Refused k p) (Refused l q) = eqb k l && eqb p q
+same_answer (Is a) (Err r) = false
+same_answer (Err r) (Is b) = false
+same_answer (Err r) (Err w) = eqb r.0 w.0 && eqb r.1 w.1
 
 pub same_answer_lem : (a b : ClassAnswer) → T (same_answer a b) → a ≡ b
 same_answer_lem (Is a) (Is b) t = ap Is (same_class_lem a b t)
-same_answer_lem (Is a) (Refused l q) t = absurd t
-same_answer_lem (Refused k p) (Is b) t = absurd t
-same_answer_lem (Refused k p) (Refused l q) t =
-    let both = T_true (eqb k l && eqb p q) t in
-    let e = eqb→eq k l (true_t (eqb k l) (and_left (eqb k l) (eqb p q) both)) in
-    let f = eqb→eq p q (true_t (eqb p q) (and_right (eqb k l) (eqb p q) both)) in
-    cc
+same_answer_lem (Is a) (Err r) t = absurd t
+same_answer_lem (Err r) (Is b) t = absurd t
+same_answer_lem (Err r) (Err w) t =
+    let both = T_true (eqb r.0 w.0 && eqb r.1 w.1) t in
+    let e = eqb→eq r.0 w.0 (true_t (eqb r.0 w.0) (and_left (eqb r.0 w.0) (eqb r.1 w.1) both)) in
+    let f = eqb→eq r.1 w.1 (true_t (eqb r.1 w.1) (and_right (eqb r.0 w.0) (eqb r.1 w.1) both)) in
+    rw (e, f)
 
 -- an arm of a range, or a `_`, with the keys of the arms before it
 pub in_range : (h : ℕ) (v : ClassAnswer) (kss : List (List ℕ)) (lo n : ℕ)

@@ -4,10 +4,10 @@
 
 ghost use Rattle.std.specs.Prelude.{◌≡◌};
 ghost use Rattle.annex.specs.Promises.{ClassPromise};
-ghost use Rattle.annex.specs.declared.ClassAnswer.TheVariants.{Is};
+ghost use Rattle.annex.specs.Answers.{Is};
 ghost use Rattle.classes.specs.Listed.{listed_class};
 
-use annex::{Answer, Class, ClassAnswer, Transfer};
+use annex::{Class, ClassAnswer, Refusal, Transfer};
 use heads::head_of;
 
 // 42
@@ -139,21 +139,19 @@ fn class_in(header: u8, octet: u8) -> ClassAnswer
     ensures { result ≡ listed_class header octet }
 {
     match header {
-        Transfer::RELEASE_EVENT => ClassAnswer::Is(release_event(octet)),
-        Transfer::INITIAL_SETTING => ClassAnswer::Is(initial_setting(octet)),
-        Transfer::CALLING_USER_CLASS => ClassAnswer::Is(calling_user_class(octet)),
-        Transfer::CHARGING_FORM => ClassAnswer::Is(charging_form(octet)),
-        Transfer::REJECTED_CALL => ClassAnswer::Is(rejected_call(octet)),
-        Transfer::CHANNEL_REQUEST => ClassAnswer::Is(channel_request(octet)),
-        Transfer::ISUP_LINK => ClassAnswer::Is(isup_link(octet)),
-        Transfer::SECTION_MBI => ClassAnswer::Is(section_mbi(octet)),
-        Transfer::CONNECTION_RESULT | Transfer::ARE_RESULT => ClassAnswer::Is(result_event(octet)),
-        Transfer::CHARGING_ORDER => ClassAnswer::Is(charging_order(octet)),
-        Transfer::ADJACENT_NETWORK => ClassAnswer::Is(adjacent_network(octet)),
-        Transfer::CALLING_USER_NUMBER | Transfer::CALLING_NUMBER => ClassAnswer::Is(number_type(
-            octet,
-        )),
-        _ => ClassAnswer::Refused(Answer::NO_CLASS_LIST, 0),
+        Transfer::RELEASE_EVENT => Ok(release_event(octet)),
+        Transfer::INITIAL_SETTING => Ok(initial_setting(octet)),
+        Transfer::CALLING_USER_CLASS => Ok(calling_user_class(octet)),
+        Transfer::CHARGING_FORM => Ok(charging_form(octet)),
+        Transfer::REJECTED_CALL => Ok(rejected_call(octet)),
+        Transfer::CHANNEL_REQUEST => Ok(channel_request(octet)),
+        Transfer::ISUP_LINK => Ok(isup_link(octet)),
+        Transfer::SECTION_MBI => Ok(section_mbi(octet)),
+        Transfer::CONNECTION_RESULT | Transfer::ARE_RESULT => Ok(result_event(octet)),
+        Transfer::CHARGING_ORDER => Ok(charging_order(octet)),
+        Transfer::ADJACENT_NETWORK => Ok(adjacent_network(octet)),
+        Transfer::CALLING_USER_NUMBER | Transfer::CALLING_NUMBER => Ok(number_type(octet)),
+        _ => Err(Refusal(Refusal::NO_CLASS_LIST, 0)),
     }
 }
 
@@ -162,12 +160,12 @@ pub fn class_of(header: u8, octet: u8) -> ClassAnswer
     ensures { ClassPromise header octet result }
 {
     let answer = class_in(header, octet);
-    let ClassAnswer::Is(_) = answer else {
+    let Ok(_) = answer else {
         return answer;
     };
     let asked = head_of(header);
     if octet & asked.zeroes != 0 {
-        return ClassAnswer::Refused(Answer::BAD_FORM, 0);
+        return Err(Refusal(Refusal::BAD_FORM, 0));
     }
     answer
 }

@@ -15,10 +15,10 @@ fn octet_of(c: Common) -> u8
 {
     let low = c.value % 256;
     if c.header == Common::SEQUENCE {
-        let mark = c.more_data as u32;
-        return ((128 * mark + low) % 256) as u8;
+        ((128 * c.more_data as u32 + low) % 256) as u8
+    } else {
+        low as u8
     }
-    low as u8
 }
 
 // Writes the parameter from index at on, each number modulo 256: its header, then a call number's octets or its own, and of a C5 the length
@@ -26,16 +26,12 @@ fn octet_of(c: Common) -> u8
 pub fn lay_head(c: Common, room: &mut [u8], at: usize) -> bool
     ensures { Keeps (laying_head c room.old at) result room.new }
 {
-    let header = c.header;
-    if header == Common::TRANSFER_DATA {
-        let octets = [header, 0];
-        return copy_in(room, at, &octets);
+    if c.header == Common::TRANSFER_DATA {
+        copy_in(room, at, &[c.header, 0])
+    } else if is_call(c.header) {
+        let [low, middle, high] = call_octets(c.value);
+        copy_in(room, at, &[c.header, low, middle, high])
+    } else {
+        copy_in(room, at, &[c.header, octet_of(c)])
     }
-    if is_call(header) {
-        let own = call_octets(c.value);
-        let octets = [header, own[0], own[1], own[2]];
-        return copy_in(room, at, &octets);
-    }
-    let octets = [header, octet_of(c)];
-    copy_in(room, at, &octets)
 }

@@ -2,39 +2,17 @@
 // that changes with each turn, and the message. It prints the sum of the common parameters read.
 #![tactic(auto)]
 
-ghost use Rattle.std.specs.Prelude.{◌<◌};
-
 use input::read_full;
 use reader::reading::read;
 use std::io;
 
-fn wide(x: u8) -> usize
-    ensures { result < 256 }
-{
-    x as usize
-}
-
-fn store(m: &mut [u8], at: usize, x: u8) {
-    if at < m.len() {
-        m[at] = x;
-    }
-}
-
-fn commons(m: &[u8]) -> u64
-    ensures { result < 256 }
-{
-    let r = read(m);
-    let held = r.record;
-    held.commons as u64
-}
-
-fn turns(m: &mut [u8], at: usize, count: usize) -> u64 {
-    let mut sum: u64 = 0;
-    let mut k: usize = 0;
-    while k < count {
-        store(m, at, (k % 256) as u8);
-        sum = (sum % 1000000000) + commons(m);
-        k += 1;
+fn turns(m: &mut [u8], at: usize, count: u32) -> u64 {
+    let mut sum = 0;
+    for k in 0..count {
+        if let Some(octet) = m.get_mut(at) {
+            *octet = (k % 256) as u8;
+        }
+        sum = sum % 1000000000 + u64::from(read(m).record.commons);
     }
     sum
 }
@@ -42,11 +20,11 @@ fn turns(m: &mut [u8], at: usize, count: usize) -> u64 {
 fn main(rt: HostRuntime) -> io::Result<()> {
     let mut input = [0u8; 276];
     let n = read_full(&mut rt.reader(), &mut input)?;
-    if n < 4 {
+    let Some((heads, m)) = input[..n].split_first_chunk_mut::<4>() else {
         return Ok(());
-    }
-    let count = wide(input[0]) + 256 * wide(input[1]) + 65536 * wide(input[2]);
-    let at = wide(input[3]);
-    let sum = turns(&mut input[4..n], at, count);
+    };
+    let [low, middle, high, at] = *heads;
+    let count = u32::from_le_bytes([low, middle, high, 0]);
+    let sum = turns(m, usize::from(at), count);
     println!(rt; "{sum}")
 }

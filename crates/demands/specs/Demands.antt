@@ -4,7 +4,7 @@
 -- A function answers `r`; `now` is what it leaves in the memory it was lent. A slice of octets is a list of numbers, each below 256
 -- (`Octetwise`), and a struct has arrays of their lengths, with numbers that fit their fields (`FitsStruct`): that is what the types say.
 use Rattle.std.specs.Prelude.{ℕ, ◌+◌, ◌*◌, ◌/◌, ◌%◌, ◌≤◌, ◌<◌, ◌≡◌, Bool, true, false, List, [], ◌∷◌, ◌++◌, ◌↔◌, length, get_or, take, drop}
-use Rattle.annex.specs.Answers.{bad_digit, absent, outside_profile, number_of, class_number_of}
+use Rattle.annex.specs.Answers.{bad_digit, absent, outside_profile, number_of, Answer, Accepted, Refused, ChargingAnswer, Is, ClassAnswer, Sound}
 use Rattle.annex.specs.Units.{name_of}
 use Rattle.annex.specs.Heads.{among, end_mark, sequence, sequence_number, charging_information, connection_order, carriers}
 use Rattle.annex.specs.Rates.{charges_of, charged_contents, Chargeable}
@@ -82,13 +82,7 @@ use Rattle.annex.specs.Promises.{
   ClassPromise,
   ChargingPromise,
 }
-use Rattle.annex.specs.declared.Answer.{Answer}
-use Rattle.annex.specs.declared.Answer.TheVariants.{Accepted, Refused}
 use Rattle.annex.specs.declared.Charges.{Charges}
-use Rattle.annex.specs.declared.ChargingAnswer.{ChargingAnswer}
-use Rattle.annex.specs.declared.ChargingAnswer.TheVariants as chargings
-use Rattle.annex.specs.declared.ClassAnswer.{ClassAnswer}
-use Rattle.annex.specs.declared.Fault.TheVariants.{Sound}
 use Rattle.annex.specs.declared.Profile.{Profile}
 use Rattle.annex.specs.declared.ProfileReading.{ProfileReading}
 use Rattle.annex.specs.declared.Reading.{Reading}
@@ -111,7 +105,7 @@ abbrev pub IsAccepted : Answer → Type 0
 IsAccepted a = (n : ℕ) × (a ≡ Accepted n)
 
 abbrev pub IsGiven : ChargingAnswer → Type 0
-IsGiven a = (c : Charges) × (a ≡ chargings.Is c)
+IsGiven a = (c : Charges) × (a ≡ Is c)
 
 -- ---- Demand 1
 
@@ -164,7 +158,7 @@ pub record Showing (m : List ℕ) : Type 0 where
   pub find_transfer : (x which p : ℕ) → FindTransferAnswerPromise m x which (Refused bad_digit p) → ShownAt m p
   pub check : (room p : ℕ) → SpansCheckPromise m room (Refused bad_digit p) → ShownAt m p
   pub check_order : (room p : ℕ) → OrderCheckPromise m room (Refused bad_digit p) → ShownAt m p
-  pub charging : (p : ℕ) → ChargingPromise m (chargings.Refused bad_digit p) → ShownAt m p
+  pub charging : (p : ℕ) → ChargingPromise m (Refused bad_digit p) → ShownAt m p
   pub profile_verdict : (p : ℕ) → ProfileVerdictPromise m (Refused bad_digit p) → ShownAt m p
   pub profile_read : (q : Record) (t : Profile) (p : ℕ)
       → ProfileReadPromise m (record { answer = Refused bad_digit p; «record» = q; profile = t }) → ShownAt m p
@@ -237,7 +231,7 @@ pub record Demand1 : Type 0 where
   pub tk_find_common : (m : List ℕ) (h : ℕ) → PackedAnswering (number_of (find_answer m (common_found h m))) (TkFindCommonPromise m h)
   pub tk_find_transfer : (m : List ℕ) (x which : ℕ)
       → PackedAnswering (number_of (find_answer m (transfer_found x which m))) (TkFindTransferPromise m x which)
-  pub tk_class : (h x : ℕ) → PackedAnswering (class_number_of (class_of h x)) (TkClassPromise h x)
+  pub tk_class : (h x : ℕ) → PackedAnswering (number_of (class_of h x)) (TkClassPromise h x)
   pub tk_charging : (m room : List ℕ) → PackedLending room (octet_charging m (length room)) (TkChargingPromise m room)
   pub tk_order : (m table : List ℕ) → PackedLending table (octet_order m (length table)) (TkOrderPromise m table)
   pub tk_carriers : (m : List ℕ) (which : ℕ) (table : List ℕ)
@@ -312,12 +306,12 @@ pub record Demand2 : Type 0 where
   pub charged : (s : List Part) → Allowed s → (front : List Item) (one : Item) (back : List Item) → items_in s ≡ front ++ (one ∷ back)
       → one.header ≡ charging_information → times_in (name_of charging_information) (names_of front) ≡ 0
       → (r : ChargingAnswer) → ChargingPromise (layout s) r
-      → (r ≡ chargings.Is (charges_of one.values)) × Chargeable (charges_of one.values)
+      → (r ≡ Is (charges_of one.values)) × Chargeable (charges_of one.values)
       × (charged_contents (get_or one.values 0 0) (charges_of one.values) ≡ one.values)
   pub charged_so : (s : List Part) → Allowed s → (front : List Item) (one : Item) (back : List Item) → items_in s ≡ front ++ (one ∷ back)
       → one.header ≡ charging_information → times_in (name_of charging_information) (names_of front) ≡ 0
       → (x : ℕ) → x < 256 → (c : Charges) → Chargeable c → one.values ≡ charged_contents x c
-      → (r : ChargingAnswer) → ChargingPromise (layout s) r → r ≡ chargings.Is c
+      → (r : ChargingAnswer) → ChargingPromise (layout s) r → r ≡ Is c
   pub charging_there : (s : List Part) → Allowed s → (r : ChargingAnswer) → ChargingPromise (layout s) r
       → IsGiven r ↔ (0 < times_in (name_of charging_information) (names_of (items_in s)))
   -- And its connection order is told beside it (document 02, request b). Nothing is wrong with contents of E0 exactly if some order that

@@ -1,8 +1,8 @@
 -- The three demands hold, by what stands in `theorems` and `tight`.
-use Rattle.std.specs.Prelude.{ℕ, ◌+◌, ◌≤◌, ◌<◌, ◌≡◌, refl, true, List, [], ◌∷◌, ◌++◌, ◌↔◌, ◌⊎◌, ltb, length, get_or, take, drop}
+use Rattle.std.specs.Prelude.{ℕ, ◌+◌, ◌≤◌, ◌<◌, ◌≡◌, refl, true, List, [], ◌∷◌, ◌++◌, ◌↔◌, ◌⊎◌, ltb, length, get_or, take, drop, Err}
 use Rattle.std.proofs.Common.{arith, sym, ap, ◌∙◌, inl, inr, ltb-true, ltb-false, le-ltb, lt-ltb, ne_eqb, take_at}
 use Rattle.std.proofs.Math.Seq.{take-append_seam}
-use Rattle.annex.specs.Answers.{bad_digit, absent, room_after, number_of, start_of, class_number_of}
+use Rattle.annex.specs.Answers.{bad_digit, absent, room_after, number_of, start_of, Answer, Accepted, Refused, ChargingAnswer, Is, Found, At, Nowhere, ClassAnswer}
 use Rattle.annex.specs.Units.{name_of}
 use Rattle.annex.specs.Rates.{charges_of}
 use Rattle.annex.specs.Orders.{OpenedOrder, lay_order, order_right}
@@ -52,13 +52,7 @@ use Rattle.annex.specs.Promises.{
   OrderCheckPromise,
   OrderPromise,
 }
-use Rattle.annex.specs.declared.Answer.{Answer}
-use Rattle.annex.specs.declared.Answer.TheVariants.{Accepted, Refused}
-use Rattle.annex.specs.declared.ChargingAnswer.{ChargingAnswer}
-use Rattle.annex.specs.declared.ChargingAnswer.TheVariants as chargings
 use Rattle.annex.specs.declared.Check.TheVariants.{Charging}
-use Rattle.annex.specs.declared.Found.{Found}
-use Rattle.annex.specs.declared.Found.TheVariants.{At, Nowhere}
 use Rattle.annex.specs.declared.ProfileReading.{ProfileReading}
 use Rattle.annex.specs.declared.Reading.{Reading}
 use Rattle.annex.specs.declared.Record.{Record}
@@ -68,7 +62,6 @@ use Rattle.annex.specs.Contents.{fault_of}
 use Rattle.annex.specs.BadHalves.{ShownAt}
 use Rattle.annex.specs.Walking.{no_row}
 use Rattle.annex.specs.Classes.{class_of}
-use Rattle.annex.specs.declared.ClassAnswer.{ClassAnswer}
 use Rattle.annex.specs.declared.Imaged.{Imaged}
 use Rattle.laws.specs.Leaves.{as_they_are}
 use Rattle.laws.specs.Members.{sum_of}
@@ -204,11 +197,11 @@ use Rattle.demands.specs.ProvedProfile.{
 -- an answer that refuses leaves the room
 after_refusal : {A : Type 0} (a : Answer) (written room : List A) → Kept a room (room_after a written room)
 after_refusal (Accepted n) written room k p e = absurd (let z : ◌≡◌ {A = ℕ} 0 1 = cc in omega arith)
-after_refusal (Refused j q) written room k p e = refl
+after_refusal (Err r) written room k p e = refl
 
 octets_kept : (width : ℕ) (a : Answer) (octets table : List ℕ) → Kept a table (octets_by width a octets table)
 octets_kept width (Accepted n) octets table k p e = absurd (let z : ◌≡◌ {A = ℕ} 0 1 = cc in omega arith)
-octets_kept width (Refused j q) octets table k p e = refl
+octets_kept width (Err r) octets table k p e = refl
 
 -- a promise that says what the answer is, and what lent memory then holds
 answering : {d : Answer} → HasNumber d → Answering (λ r. r ≡ d)
@@ -225,13 +218,13 @@ lending h w =
 
 packed_number_lem : (a : Answer) → packed_number (packed_answer a) ≡ number_of a
 packed_number_lem (Accepted n) = omega arith
-packed_number_lem (Refused k p) = omega arith
+packed_number_lem (Err r) = omega arith
 
 length_number : (a : Answer) (len : ℕ) → packed_number (packed_length a len) ≡ number_of a
 length_number (Accepted s) len = omega arith
-length_number (Refused k p) len = omega arith
+length_number (Err r) len = omega arith
 
-class_number : (a : ClassAnswer) → packed_number (packed_class a) ≡ class_number_of a
+class_number : (a : ClassAnswer) → packed_number (packed_class a) ≡ number_of a
 class_number a = omega arith
 
 packed_answering : {n k : ℕ} → packed_number n ≡ k → PackedAnswering k (λ r. r ≡ n)
@@ -239,7 +232,7 @@ packed_answering e = record { fixed = λ r s p q. p ∙ sym q; told = λ r p. rw
 
 packed_kept : (a : Answer) (before left : List ℕ) → Kept a before left → 0 < number_of a → left ≡ before
 packed_kept (Accepted n) before left w h = absurd (omega arith)
-packed_kept (Refused k p) before left w h = w k p refl
+packed_kept (Err r) before left w h = w r.0 r.1 refl
 
 packed_lending : {d : Answer} {before left : List ℕ} → HasNumber d → Kept d before left
     → PackedLending before d (λ r now. (r ≡ packed_answer d) × (now ≡ left))
@@ -268,9 +261,9 @@ packed_shown m k p e v =
 refused_shown : (m : List ℕ) (a : Answer) → Passes m a → (r : ℕ) → packed_number r ≡ number_of a
     → ((k p : ℕ) → a ≡ Refused k p → r ≡ one_number k p 0) → packed_number r ≡ bad_digit → ShownAt m (packed_place r)
 refused_shown m (Accepted n) w r e h f = absurd (omega arith)
-refused_shown m (Refused k p) w r e h f =
-    let number : k ≡ bad_digit = sym e ∙ f in
-    rw (h k p refl) (packed_shown m k p number (w p (rw number)))
+refused_shown m (Err g) w r e h f =
+    let number : g.0 ≡ bad_digit = sym e ∙ f in
+    rw (h g.0 g.1 refl) (packed_shown m g.0 g.1 number (w g.1 (rw number)))
 
 answer_shown : (m : List ℕ) (a : Answer) → Passes m a → (r : ℕ) → r ≡ packed_answer a → packed_number r ≡ bad_digit
     → ShownAt m (packed_place r)
@@ -305,10 +298,10 @@ edit_packed e d n r f g = go (editing_of e d n) refl f
     go : (a : Answer) → editing_of e d n ≡ a → r ≡ packed_answer a → (v : Answer) → v ≡ verdict_of (take n d)
         → (IsAccepted v → packed_place r ≡ 0) × ((k q : ℕ) → v ≡ Refused k q → ShownAt (take n d) (packed_place r))
     go (Accepted k) h s = absurd (let i = rw s at g in omega arith)
-    go (Refused k p) h s =
-        let number : k ≡ bad_digit = sym (packed_number_lem (Refused k p)) ∙ rw s at g in
-        edit_shown e d n p (packed_place r) (h ∙ rw number) (λ z. rw (s, z) (omega arith))
-        (λ i. rw s (packed_shown (take n d) k p number i))
+    go (Err w) h s =
+        let number : w.0 ≡ bad_digit = sym (packed_number_lem (Err w)) ∙ rw s at g in
+        edit_shown e d n w.1 (packed_place r) (h ∙ rw number) (λ z. rw (s, z) (omega arith))
+        (λ i. rw s (packed_shown (take n d) w.0 w.1 number i))
 
 shows : (m : List ℕ) → Showing m
 shows m =
@@ -428,7 +421,7 @@ none_read m r p k q e = rw p (by (verdict_of m) (sym (read_verdict m r p) ∙ e)
   where
     by : (a : Answer) → a ≡ Refused k q → (read_by a (record_of m)).«record» ≡ pack []
     by (Accepted n) f = absurd (let z : ◌≡◌ {A = ℕ} 0 1 = cc in omega arith)
-    by (Refused j i) f = refl
+    by (Err r) f = refl
 
 accepted_so : (m : List ℕ) → Octetwise m → (r : Reading) → ReadPromise m r
     → IsAccepted r.answer ↔ ((s : List Part) × Allowed s × (layout s ≡ m))
@@ -498,7 +491,7 @@ empty_so m f k p q = go (verdict_of m) refl f q
     go : (a : Answer) → verdict_of m ≡ a → (f : Found) → Refused k p ≡ find_answer m f → find_part m f ≡ []
     go (Accepted n) e (At b c) q = absurd (let s = rw e at q in let z : ◌≡◌ {A = ℕ} 0 1 = cc in omega arith)
     go (Accepted n) e Nowhere q = rw e
-    go (Refused i j) e f q = rw e
+    go (Err r) e f q = rw e
 
 common_so : (s : List Part) → Allowed s → (h : ℕ) → (h ≡ end_mark → ⊥) → (r : Answer) → FindCommonAnswerPromise (layout s) h r
     → IsAccepted r ↔ (among h (headers_of s) ≡ true)
@@ -519,7 +512,7 @@ transfer_so s a x which r p =
 -- charging information is given exactly if F7 is found
 given_so : (a : Answer) (part : List ℕ) (r : ChargingAnswer) → r ≡ charging_by a part → IsGiven r ↔ IsAccepted a
 given_so (Accepted n) part r p = (λ w. (n, refl), λ w. (charges_of part, p))
-given_so (Refused k q) part r p = (
+given_so (Err g) part r p = (
   λ w. let s = w.1 in absurd (let z : ◌≡◌ {A = ℕ} 0 1 = cc in omega arith),
   λ w. let s = w.1 in absurd (let z : ◌≡◌ {A = ℕ} 0 1 = cc in omega arith),
 )
@@ -535,7 +528,7 @@ charging_so s a r p =
 
 charged_first : (s : List Part) → Allowed s → (front : List Item) (one : Item) (back : List Item) → items_in s ≡ front ++ (one ∷ back)
     → one.header ≡ charging_information → times_in (name_of charging_information) (names_of front) ≡ 0
-    → (r : ChargingAnswer) → ChargingPromise (layout s) r → r ≡ chargings.Is (charges_of one.values)
+    → (r : ChargingAnswer) → ChargingPromise (layout s) r → r ≡ Is (charges_of one.values)
 unfolding charging_of form_of
 charged_first s a front one back w h b r p =
     let m = layout s in
@@ -630,7 +623,7 @@ demand_2 =
           let d = item_charged one i h in
           (charged_first s a front one back w h b r p, d.0, d.1);
       charged_so = λ s a front one back w h b x l c k e r p.
-          charged_first s a front one back w h b r p ∙ ap (λ t. chargings.Is (charges_of t)) e ∙ ap chargings.Is (said_again x l c k).1;
+          charged_first s a front one back w h b r p ∙ ap (λ t. Is (charges_of t)) e ∙ ap Is (said_again x l c k).1;
       charging_there = charging_so;
       order_contents = λ t. rw (order_asked t) (says t).sound;
       order_only = λ o q r t e. sym ((says (lay_order q)).only o r e) ∙ (says (lay_order q)).only q t refl;

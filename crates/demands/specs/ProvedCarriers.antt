@@ -6,7 +6,7 @@ use Rattle.std.proofs.Math.Bool.{true}
 use mathlib.Core.List.{List, [], ◌∷◌, ◌++◌, map}
 use borrow.Author.Tests.{le-ltb, lt-ltb, ltb-true, ltb-false}
 use Rattle.std.proofs.Math.ListN.{length, get_or}
-use Rattle.annex.specs.Answers.{start_of, absent, no_room, refuse, and_then}
+use Rattle.annex.specs.Answers.{start_of, absent, no_room, refuse, and_then, Answer, Accepted, Refused, Found, At, Nowhere}
 use Rattle.annex.specs.Units.{name_of}
 use Rattle.annex.specs.Heads.{carriers}
 use Rattle.annex.specs.Items.{Item, Part}
@@ -33,10 +33,6 @@ use Rattle.annex.specs.Transit.{
 }
 use Rattle.annex.specs.Packed.{octets_to_a_carrier_row, carrier_rows_octets, octet_carriers, octet_carriers_table}
 use Rattle.annex.specs.Promises.{FindTransferAnswerPromise, CarriersPromise, CarrierDigitsPromise}
-use Rattle.annex.specs.declared.Answer.{Answer}
-use Rattle.annex.specs.declared.Answer.TheVariants.{Accepted, Refused}
-use Rattle.annex.specs.declared.Found.{Found}
-use Rattle.annex.specs.declared.Found.TheVariants.{At, Nowhere}
 use Rattle.laws.specs.Steps.{then_passed}
 use Rattle.theorems.specs.Lists.{times_append, times_here}
 use Rattle.theorems.specs.Records.{item_allowed, names_append}

@@ -1,12 +1,12 @@
 -- What demand 2 says of the mobile call profile (document 02, request f) holds, by what stands in `theorems`.
-use Rattle.std.specs.Prelude.{ℕ, ◌-◌, ◌≤◌, ◌<◌, ◌≡◌, Bool, false, not, ◌||◌, List, [], ◌∷◌, ◌++◌, ◌↔◌, eqb, ltb, get_or, take, drop}
+use Rattle.std.specs.Prelude.{ℕ, ◌-◌, ◌≤◌, ◌<◌, ◌≡◌, Bool, false, not, ◌||◌, List, [], ◌∷◌, ◌++◌, ◌↔◌, eqb, ltb, get_or, take, drop, Err}
 use Rattle.std.proofs.Common.{arith, ◌∙◌, take_at}
 use Rattle.std.proofs.Math.Path.{refl, sym, ap}
 use Rattle.std.proofs.Math.Bool.{true, and-true}
 use borrow.Author.Tests.{eqb-true, ltb-true, ltb-false, le-ltb}
 use Rattle.std.proofs.Math.ListN.{length}
 use Rattle.std.proofs.Math.Seq.{take-append_seam}
-use Rattle.annex.specs.Answers.{absent, no_room, outside_profile, refuse, number_of}
+use Rattle.annex.specs.Answers.{absent, no_room, outside_profile, refuse, number_of, Answer, Accepted, Refused}
 use Rattle.annex.specs.Units.{name_of, extent_of}
 use Rattle.annex.specs.Heads.{end_mark, often_of, form_of}
 use Rattle.annex.specs.Items.{Item, Part, holding_of, contents_of}
@@ -39,8 +39,6 @@ use Rattle.annex.specs.Profile.{
   classes_given,
 }
 use Rattle.annex.specs.Promises.{VerdictPromise, RecordRefusalPromise, ProfileReadPromise, ProfileWritePromise, ClassesPromise}
-use Rattle.annex.specs.declared.Answer.{Answer}
-use Rattle.annex.specs.declared.Answer.TheVariants.{Accepted, Refused}
 use Rattle.annex.specs.declared.Check.TheVariants.{Nothing}
 use Rattle.annex.specs.declared.ProfileReading.{ProfileReading}
 use Rattle.annex.specs.declared.Record.{Record}
@@ -108,7 +106,7 @@ profile_none_so m r p k q e = rw p (by (profile_verdict m) (sym (profile_verdict
     by : (a : Answer) → a ≡ Refused k q
         → ((profile_by a (record_of m)).«record» ≡ pack []) × ((profile_by a (record_of m)).profile ≡ profile_of [])
     by (Accepted n) f = absurd (let z : ◌≡◌ {A = ℕ} 0 1 = cc in omega arith)
-    by (Refused j i) f = (refl, refl)
+    by (Err r) f = (refl, refl)
 
 -- ---- writing
 

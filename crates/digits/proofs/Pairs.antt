@@ -10,7 +10,7 @@ use Rattle.annex.specs.Digits.{halves, digit_of, code_of, is_code, halves_fault,
 use Rattle.annex.specs.Allowed.{every}
 use Rattle.annex.specs.declared.HalfOctets.{HalfOctets}
 use Rattle.annex.specs.declared.Alphabet.{Alphabet}
-use Rattle.annex.specs.declared.Fault.TheVariants.{Sound}
+use Rattle.annex.specs.Answers.{Sound}
 use Rattle.laws.specs.Bools.{and_left, and_right}
 use Rattle.laws.specs.Joined.{code_small}
 use Rattle.laws.specs.Halves.{halves_even, halves_odd, digits_of_at}

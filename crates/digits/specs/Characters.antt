@@ -1,10 +1,8 @@
 -- Characters as the code goes over them: figures alone, or those of an ARE's parameters too.
 use Rattle.std.specs.Prelude.{ℕ, ◌+◌, ◌≤◌, ◌<◌, ◌≡◌, refl, Bool, true, false, cond, ◌&&◌, ◌||◌, List, eqb, length, get_or, drop}
 use Rattle.std.proofs.Common.{ap, drop_of_length-le}
-use Rattle.annex.specs.Answers.{bad_digit}
+use Rattle.annex.specs.Answers.{bad_digit, Fault, Sound, Bad}
 use Rattle.annex.specs.Orders.{is_figure, is_are_character, outside_fault}
-use Rattle.annex.specs.declared.Fault.{Fault}
-use Rattle.annex.specs.declared.Fault.TheVariants.{Sound, Bad}
 use Rattle.laws.specs.Parts.{octet_next}
 
 -- by whether an ARE's are meant

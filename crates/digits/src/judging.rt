@@ -3,11 +3,12 @@ ghost use Rattle.std.specs.Prelude.{◌≡◌, true, cond, ℕ, ◌+◌, ◌^◌
 ghost use Rattle.annex.specs.Promises.{Gives};
 ghost use Rattle.annex.specs.Digits.{is_code, digits_fault};
 ghost use Rattle.annex.specs.Allowed.{every};
-ghost use Rattle.annex.specs.declared.Fault.TheVariants.{Sound};
+ghost use Rattle.annex.specs.Answers.{Sound};
 ghost use Rattle.digits.specs.Pairs.{is_pair};
 
-use annex::{Alphabet, Answer, Fault, HalfOctets};
+use annex::{Alphabet, Fault, Flaw, HalfOctets, Refusal};
 use codes::{half_at, is_code};
+use octets::octets_from;
 
 // A half-octet that must be a digit, or else filler.
 fn half_right(z: Alphabet, digit: bool, h: u8) -> bool
@@ -16,7 +17,7 @@ fn half_right(z: Alphabet, digit: bool, h: u8) -> bool
     if digit { is_code(z, h) } else { h == 0 }
 }
 
-// Whether both halves of an octet are digits.
+// Whether both halves of an octet are digits. Both are looked at, so that the compiler can take many octets at once.
 fn pair_right(z: Alphabet, x: u8) -> bool
     ensures { result ≡ is_pair z x }
 {
@@ -27,32 +28,18 @@ fn pair_right(z: Alphabet, x: u8) -> bool
 fn are_pairs(z: Alphabet, s: &[u8]) -> bool
     ensures { result ≡ every (is_pair z) s.now }
 {
-    let mut good = true;
-    let mut i: usize = 0;
-    while i < s.len() {
-        good = good & pair_right(z, s[i]);
-        i += 1;
-    }
-    good
+    s.iter()
+        .copied()
+        .fold(true, |good, x| good & pair_right(z, x))
 }
 
 // True only where the octets hold n digits and filler: they are as many as n digits take, and nothing in them is wrong.
 fn are_sound(z: Alphabet, n: HalfOctets, s: &[u8]) -> bool
     ensures { result ≡ true → (at : ℕ) → digits_fault z n at s.now ≡ Sound }
 {
-    let octets = n.octets();
-    if s.len() != octets.0 {
-        return false;
-    }
     let k = n.0 / 2;
-    if !are_pairs(z, &s[..k]) {
-        return false;
-    }
-    if n.0 % 2 == 0 {
-        return true;
-    }
-    // the last octet holds one digit, and no code is over 12: its high half is then the filler, 0
-    is_code(z, s[k])
+    // of an odd count the last octet holds one digit, and no code is over 12: its high half is then the filler, 0
+    s.len() == n.octets().0 && are_pairs(z, &s[..k]) && (n.0 % 2 == 0 || is_code(z, s[k]))
 }
 
 // The place of the first half-octet that is not as it must be.
@@ -60,28 +47,23 @@ fn first_fault(z: Alphabet, n: HalfOctets, at: usize, s: &[u8]) -> Fault
     requires { at + length s.now < 2 ^ 64 }
     ensures { result ≡ digits_fault z n at s.now }
 {
-    let halves = HalfOctets::of(s);
-    let end = halves.0;
-    let mut i: usize = 0;
-    while i < end {
+    let end = HalfOctets::of(s).0;
+    for i in 0..end {
         let h = half_at(s, i);
         if !half_right(z, i < n.0, h) {
-            return Fault::Bad(Answer::BAD_DIGIT, at + i / 2);
+            return Err(Flaw(Refusal::BAD_DIGIT, at + i / 2));
         }
-        i += 1;
     }
-    Fault::Sound
+    Ok(())
 }
 
 // The octets of the contents s from the offset `at` on hold n digits and filler. The place is looked for only where something is wrong.
 pub fn digits_fault(z: Alphabet, n: HalfOctets, s: &[u8], at: usize) -> Fault
     ensures { Gives (digits_fault z n at (drop at s.now)) result }
 {
-    if s.len() <= at {
-        return Fault::Sound;
+    let rest = octets_from(s, at);
+    if are_sound(z, n, rest) {
+        return Ok(());
     }
-    if are_sound(z, n, &s[at..]) {
-        return Fault::Sound;
-    }
-    first_fault(z, n, at, &s[at..])
+    first_fault(z, n, at, rest)
 }

@@ -7,9 +7,7 @@ use Rattle.annex.specs.Heads.{among, transfer_data, often_of}
 use Rattle.annex.specs.Allowed.{every, is_octet, headers_of, items_in}
 use Rattle.annex.specs.Reading.{transfers_verdict, record_of}
 use Rattle.annex.specs.Editing.{new_header}
-use Rattle.annex.specs.declared.Answer.TheVariants.{Accepted}
-use Rattle.annex.specs.declared.Found.{Found}
-use Rattle.annex.specs.declared.Found.TheVariants.{At, Nowhere}
+use Rattle.annex.specs.Answers.{start_of, stop_of, Accepted, Found, At, Nowhere}
 use Rattle.laws.specs.Finding.{common_plain_lem}
 use Rattle.theorems.specs.Lists.{every_take}
 use Rattle.theorems.specs.Reasons.{EditRight, edited_in, edit_passed, edit_answer}
@@ -33,7 +31,7 @@ stretch before front old back after l s k p q =
 
 free_end_lem : (l : ℕ) (f : Found) (from to : ℕ) → free_end l f ≡ At from to → (from ≡ l) × (to ≡ l)
 free_end_lem l (At s e) from to g = absurd (let z : ◌≡◌ {A = ℕ} 0 1 = cc in omega arith)
-free_end_lem l Nowhere from to g = (cc, cc)
+free_end_lem l Nowhere from to g = (sym (ap start_of g), sym (ap stop_of g))
 
 -- where the edit is made and what it brings, by what its theorem tells: the parameter old is taken out, or old is empty and the last
 module _ (m front old put back : List ℕ) (s j from to : ℕ) (v : transfers_verdict (front ++ (old ++ back)) ≡ Accepted j) where
@@ -42,7 +40,7 @@ module _ (m front old put back : List ℕ) (s j from to : ℕ) (v : transfers_ve
   stood x which w f =
       let g : At (length front) (length front + length old) ≡ At from to =
       sym (whole_stands x which m (front ++ (old ++ back)) s (length front) old j v w) ∙ f in
-      (cc, cc)
+      (sym (ap start_of g), sym (ap stop_of g))
 
   spot_is : (k : Kind) (new : List ℕ) → Brings k new → Told (edit_of k new) m (front ++ (old ++ back)) s (length front) old put back
       → spot_in k new (front ++ (old ++ back)) ≡ At from to → (from ≡ length front) × (to ≡ length front + length old) × (new ≡ put)
@@ -77,8 +75,8 @@ cut k new d n s t a z j b o w f r =
     let l = length (y.front ++ (y.old ++ y.back)) in
     let g : At (length y.before + 2) (length y.before + 2 + l) ≡ At s t =
     sym y.found ∙ common_plain_lem transfer_data m _ v ∙ w.found in
-    let p : s ≡ length y.before + 2 = cc in
-    let q : t ≡ length y.before + 2 + l = cc in
+    let p : s ≡ length y.before + 2 = sym (ap start_of g) in
+    let q : t ≡ length y.before + 2 + l = sym (ap stop_of g) in
     let long : t - s ≡ l = omega arith in
     let part-is : take (t - s) (drop s d) ≡ y.front ++ (y.old ++ y.back) =
     sym (data_part_lem d n _ w.octets v s t w.found) ∙ ap (λ (x : List ℕ). take (t - s) (drop s x)) y.was

@@ -2,15 +2,13 @@
 -- edit, it keeps the edit's promise.
 use Rattle.std.specs.Prelude.{ℕ, ◌+◌, ◌-◌, ◌≤◌, ◌<◌, ◌≡◌, false, List, ◌++◌, ltb, length, take, drop, set}
 use Rattle.std.proofs.Common.{arith, sym, ap, ◌∙◌, leb-false, le-leb, length-append, take-take, length-take-le}
-use Rattle.annex.specs.Answers.{transfer_over, no_room, refuse}
+use Rattle.annex.specs.Answers.{transfer_over, no_room, refuse, Answer, Accepted}
 use Rattle.annex.specs.Heads.{most_transfer_octets}
 use Rattle.annex.specs.Layout.{layout_items, layout}
 use Rattle.annex.specs.Allowed.{items_in}
 use Rattle.annex.specs.Editing.{Edit, editing_of, holding, buffer_by, buffer_of}
 use Rattle.annex.specs.Promises.{EditPromise}
 use Rattle.annex.specs.Memory.{splice_fits, spliced}
-use Rattle.annex.specs.declared.Answer.{Answer}
-use Rattle.annex.specs.declared.Answer.TheVariants.{Accepted}
 use Rattle.octets.specs.Splice.{Fitting, set-spliced}
 use Rattle.theorems.specs.Reasons.{edited_in}
 use Rattle.theorems.specs.Splices.{Spliced, length-becomes, length_transfer, octets_become}

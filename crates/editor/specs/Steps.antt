@@ -1,9 +1,9 @@
 -- The steps of an edit in the order in which the code takes them, each an answer by itself. They come to what document 01 says.
-use Rattle.std.specs.Prelude.{ℕ, ◌-◌, ◌≤◌, ◌≡◌, Bool, true, false, cond, not, List, [], ◌∷◌, eqb, leb, ltb, take, drop}
+use Rattle.std.specs.Prelude.{ℕ, ◌-◌, ◌≤◌, ◌≡◌, Bool, true, false, cond, not, List, [], ◌∷◌, eqb, leb, ltb, take, drop, Err}
 use Rattle.std.proofs.Common.{arith, ◌∙◌, length-take, take-take, leb-true, leb-false, lt-ltb, le-ltb, ne_eqb}
 use Rattle.std.proofs.Math.Path.{refl, sym, ap}
 use Rattle.std.proofs.Math.ListN.{length}
-use Rattle.annex.specs.Answers.{repeated_name, transfer_over, no_room, absent, refuse, and_then}
+use Rattle.annex.specs.Answers.{repeated_name, transfer_over, no_room, absent, refuse, and_then, Answer, Accepted, Refused, Found, At, Nowhere}
 use Rattle.annex.specs.Units.{name_of}
 use Rattle.annex.specs.Heads.{among, transfer_data, most_transfer_octets, often_of}
 use Rattle.annex.specs.Layout.{layout_items, layout}
@@ -14,10 +14,6 @@ use Rattle.annex.specs.Editing.{Edit, new_header, new_head, new_contents, edit_r
 use Rattle.annex.specs.Editing.Edit.{Replacing, Appending, Removing}
 use Rattle.annex.specs.Promises.{EditPromise}
 use Rattle.annex.specs.Walking.{common_plain, moved, transfer_search}
-use Rattle.annex.specs.declared.Answer.{Answer}
-use Rattle.annex.specs.declared.Answer.TheVariants.{Accepted, Refused}
-use Rattle.annex.specs.declared.Found.{Found}
-use Rattle.annex.specs.declared.Found.TheVariants.{At, Nowhere}
 use Rattle.laws.specs.Steps.{head_then_lem}
 use Rattle.laws.specs.Parts.{from_to}
 use Rattle.laws.specs.Finding.{common_inside, common_plain_lem, transfer_plain_lem}
@@ -194,7 +190,7 @@ module _ (k : Kind) (new : List ℕ) (b : Brings k new) (d : List ℕ) (n : ℕ)
           → and_then a (λ _. record_editing (edit_of k new) (record_of (take n d)) (length d))
           ≡ and_then a (λ _. data_answer k new d n (common_plain transfer_data (take n d)))
       go (Accepted j) v = record_steps j o v
-      go (Refused i p) v = refl
+      go (Err r) v = refl
 
   -- a step that refuses keeps the promise, with the buffer unchanged
   pub refused : (r : Answer) (i p : ℕ) → every is_octet d ≡ true → r ≡ Refused i p → steps_answer k new d n ≡ r

@@ -6,10 +6,8 @@ use Rattle.annex.specs.Layout.{layout_item}
 use Rattle.annex.specs.Allowed.{times_in}
 use Rattle.annex.specs.Walk.{Par}
 use Rattle.annex.specs.Reading.{transfers_verdict}
-use Rattle.annex.specs.declared.Answer.TheVariants.{Accepted}
+use Rattle.annex.specs.Answers.{Accepted, Found, At, Nowhere}
 use Rattle.annex.specs.declared.Key.TheVariants.{Name}
-use Rattle.annex.specs.declared.Found.{Found}
-use Rattle.annex.specs.declared.Found.TheVariants.{At, Nowhere}
 use Rattle.annex.specs.Contents.{fault_of}
 use Rattle.annex.specs.Walking.{is_sought, sought_in, search_in, contents_at, transfer_search}
 use Rattle.laws.specs.Plain.{transfers_plain}

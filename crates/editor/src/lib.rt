@@ -9,7 +9,7 @@ ghost use Rattle.annex.specs.Promises.{EditPromise};
 ghost use Rattle.editor.specs.Steps.{edit_of, Brings};
 ghost use Rattle.editor.specs.Splicing.{Placed, SplicePromise};
 
-use annex::{Answer, Common, Found, Transfer};
+use annex::{Answer, Common, Refusal, Transfer};
 use octets::splice;
 use reader::finding::common_by_length;
 use reader::verdict::verdict;
@@ -33,13 +33,13 @@ fn splice_in(
     let was = end - start;
     let length = was - old + new.len();
     if Transfer::MOST_OCTETS < length {
-        return Answer::Refused(Answer::TRANSFER_OVER, 0);
+        return Err(Refusal(Refusal::TRANSFER_OVER, 0));
     }
     if !splice(buffer, n, start + from, old, new) {
-        return Answer::Refused(Answer::NO_ROOM, 0);
+        return Err(Refusal(Refusal::NO_ROOM, 0));
     }
     buffer[start - 1] = (length % 256) as u8;
-    Answer::Accepted(n - old + new.len())
+    Ok(n - old + new.len())
 }
 
 // The edit of this kind that brings new; a removal brings nothing.
@@ -48,26 +48,17 @@ fn edit(buffer: &mut [u8], n: usize, kind: Kind, new: &[u8]) -> Answer
     ensures { EditPromise (edit_of kind new.now) buffer.old n result buffer.new }
 {
     if buffer.len() < n {
-        return Answer::Refused(Answer::NO_ROOM, 0);
+        return Err(Refusal(Refusal::NO_ROOM, 0));
     }
-    let message = verdict(&buffer[..n]);
-    let Answer::Accepted(_) = message else {
-        return message;
+    verdict(&buffer[..n])?;
+    let Some((start, end)) = common_by_length(&buffer[..n], Common::TRANSFER_DATA) else {
+        return Err(Refusal(Refusal::ABSENT, 0));
     };
-    let Found::At(start, end) = common_by_length(&buffer[..n], Common::TRANSFER_DATA) else {
-        return Answer::Refused(Answer::ABSENT, 0);
+    head_answer(kind, new)?;
+    let Some((from, to)) = spot_in(&buffer[start..end], kind, new) else {
+        return Err(Refusal(no_spot(kind), 0));
     };
-    let head = head_answer(kind, new);
-    let Answer::Accepted(_) = head else {
-        return head;
-    };
-    let Found::At(from, to) = spot_in(&buffer[start..end], kind, new) else {
-        return Answer::Refused(no_spot(kind), 0);
-    };
-    let contents = contents_answer(new);
-    let Answer::Accepted(_) = contents else {
-        return contents;
-    };
+    contents_answer(new)?;
     splice_in(buffer, n, start, end, from, to, new)
 }
 

@@ -2,10 +2,10 @@
 ghost use Rattle.std.specs.Prelude.{◌≡◌};
 ghost use Rattle.annex.specs.Editing.{new_head};
 ghost use Rattle.annex.specs.Promises.{Gives};
-ghost use Rattle.annex.specs.declared.Answer.TheVariants.{Accepted};
+ghost use Rattle.annex.specs.Answers.{Accepted};
 ghost use Rattle.editor.specs.Steps.{head_answer, spot_in, no_spot, contents_answer};
 
-use annex::{Answer, Found, Key};
+use annex::{Answer, Found, Key, Refusal};
 use heads::{head_writing, often_of};
 use octets::octet_at;
 use parameter::contents::{at_header, contents_fault};
@@ -13,7 +13,7 @@ use reader::finding::search_by_length;
 use units::{extent_of, lead, octets_after};
 
 // The kinds of edit. One that removes is told the name, the others have it in the octets that they bring; one that replaces or removes is
-// told which of those with the name, counted from 0.
+// told which of those with the name, counted from 0. An enum and no closures: its cases are those of the definition (`Editing.Edit`).
 #[derive(Clone, Copy)]
 pub enum Kind {
     Replacing(usize),
@@ -26,7 +26,7 @@ fn new_head(new: &[u8]) -> Answer
     ensures { result ≡ new_head new.now (Accepted 0) }
 {
     if new.len() == 0 {
-        return Answer::Refused(Answer::CUT_CONTENTS, 0);
+        return Err(Refusal(Refusal::CUT_CONTENTS, 0));
     }
     head_writing(new[0])
 }
@@ -38,7 +38,7 @@ pub fn head_answer(kind: Kind, new: &[u8]) -> Answer
     match kind {
         Kind::Replacing(_) => new_head(new),
         Kind::Appending => new_head(new),
-        Kind::Removing(_, _) => Answer::Accepted(0),
+        Kind::Removing(_, _) => Ok(0),
     }
 }
 
@@ -48,13 +48,13 @@ pub fn contents_answer(new: &[u8]) -> Answer
     ensures { Gives (contents_answer new.now) result }
 {
     if new.len() == 0 {
-        return Answer::Accepted(0);
+        return Ok(0);
     }
     let header = new[0];
     let e = extent_of(header);
     let n = octets_after(e, octet_at(new, 1));
     if new.len() - 1 != n {
-        return Answer::Refused(Answer::CUT_CONTENTS, 0);
+        return Err(Refusal(Refusal::CUT_CONTENTS, 0));
     }
     let start = 1 + lead(e);
     let f = contents_fault(header, &new[start..]);
@@ -71,11 +71,11 @@ pub fn spot_in(t: &[u8], kind: Kind, new: &[u8]) -> Found
         Kind::Replacing(which) => search_by_length(t, Key::Name(name, which)),
         Kind::Appending => {
             let last = (often_of(name) - 1) as usize;
-            let Found::Nowhere = search_by_length(t, Key::Name(name, last)) else {
-                return Found::Nowhere;
+            let None = search_by_length(t, Key::Name(name, last)) else {
+                return None;
             };
             let end = t.len();
-            Found::At(end, end)
+            Some((end, end))
         }
         Kind::Removing(x, which) => search_by_length(t, Key::Name(x, which)),
     }
@@ -86,8 +86,8 @@ pub fn no_spot(kind: Kind) -> u8
     ensures { Gives (no_spot kind) result }
 {
     match kind {
-        Kind::Replacing(_) => Answer::ABSENT,
-        Kind::Appending => Answer::REPEATED_NAME,
-        Kind::Removing(_, _) => Answer::ABSENT,
+        Kind::Replacing(_) => Refusal::ABSENT,
+        Kind::Appending => Refusal::REPEATED_NAME,
+        Kind::Removing(_, _) => Refusal::ABSENT,
     }
 }

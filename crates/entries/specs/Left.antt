@@ -1,6 +1,6 @@
 -- The entries of CC that are left at a cursor, as the code goes over them: those of the carrier entry that it stands in, and the carrier
 -- entries behind that. Each turn takes the first of them.
-use Rattle.std.specs.Prelude.{ℕ, ◌+◌, ◌-◌, ◌≤◌, ◌<◌, ◌≡◌, true, false, cond, not, ◌&&◌, leb, ltb, length, get_or, take, drop}
+use Rattle.std.specs.Prelude.{ℕ, ◌+◌, ◌-◌, ◌≤◌, ◌<◌, ◌≡◌, true, false, cond, not, ◌&&◌, leb, ltb, length, get_or, take, drop, Err}
 use native.Mathlib.Omega.{arith}
 use Rattle.std.proofs.Math.Path.{refl, ap}
 use Rattle.std.proofs.Common.{sym, subst, ◌∙◌, length-take, drop_of_length-le, drop-drop, get_or-take, length-take-le, take-take}
@@ -9,7 +9,7 @@ use mathlib.Core.List.{List, [], ◌∷◌, ◌++◌, map}
 use borrow.Author.Tests.{eqb-true, eqb-false, eq-eqb, ne_eqb, leb-true, leb-false, ltb-true, ltb-false, lt-ltb, le-ltb, not-true}
 use Rattle.std.proofs.Math.Dec.{eqb}
 use Rattle.std.proofs.Math.ListN.{length-drop}
-use Rattle.annex.specs.Answers.{fault_then, start_of, stop_of}
+use Rattle.annex.specs.Answers.{start_of, stop_of, fault_then, Fault, Sound, Found, At, Nowhere}
 use Rattle.annex.specs.Carriers.{
   most_direction,
   lowest_carrier,
@@ -39,10 +39,6 @@ use Rattle.annex.specs.Walking.{stretch_at, cursor_to}
 use Rattle.annex.specs.declared.CountingUnit.TheVariants.{Octet}
 use Rattle.annex.specs.declared.Cursor.{Cursor}
 use Rattle.annex.specs.declared.Extent.TheVariants.{Counted}
-use Rattle.annex.specs.declared.Fault.{Fault}
-use Rattle.annex.specs.declared.Fault.TheVariants.{Sound, Bad}
-use Rattle.annex.specs.declared.Found.{Found}
-use Rattle.annex.specs.declared.Found.TheVariants.{At, Nowhere}
 use Rattle.laws.specs.Bools.{and_left, and_right}
 use Rattle.laws.specs.Parts.{from_to}
 use Rattle.laws.specs.Plain.{pars_next, pars_short}
@@ -179,8 +175,8 @@ stretch_stands t i a b e = go (ltb i (length t)) (leb (own t i) (length t - (i +
     go : (x y : Bool) → ltb i (length t) ≡ x → leb (own t i) (length t - (i + 1)) ≡ y
         → cond x (cond y (At (i + 1 + 1) (i + 1 + own t i)) Nowhere) Nowhere ≡ At a b → Stands (length t) i a b × Sized t i a b
     go true true p q f =
-        let u : i + 1 + 1 ≡ a = cc in
-        let v : i + 1 + own t i ≡ b = cc in
+        let u : i + 1 + 1 ≡ a = ap start_of f in
+        let v : i + 1 + own t i ≡ b = ap stop_of f in
         let l = ltb-true i (length t) p in
         let m = leb-true (own t i) (length t - (i + 1)) q in
         (record { tag = l; start = omega arith; order = omega arith; within = omega arith }, omega arith)
@@ -253,7 +249,7 @@ carried false d r = refl
 
 then_moved : (f g h : Fault) → fault_then (fault_then f g) h ≡ fault_then f (fault_then g h)
 then_moved Sound g h = refl
-then_moved (Bad k i) g h = refl
+then_moved (Err r) g h = refl
 
 -- the next entry, with its level
 abbrev pub entry_here : List ℕ → Cursor → Entry

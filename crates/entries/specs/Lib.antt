@@ -1,2 +1,3 @@
 -- What the contracts of this crate's own steps cite beside the definitions of `annex`, with its laws.
 pub mod Left
+pub mod Entries

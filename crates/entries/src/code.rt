@@ -6,20 +6,11 @@ use annex::{Carriers, HalfOctets};
 use digits::numbers::count_behind;
 
 // The first octet is there, with nothing but the odd mark in it, and behind the mark a digit octet.
+#[tactic(auto, unfolding(annex::specs::Carriers::code_formed))]
 pub fn code_formed(s: &[u8]) -> bool
     ensures { Gives (code_formed s.now) result }
 {
-    if s.len() == 0 {
-        return false;
-    }
-    let first = s[0];
-    if first == Carriers::EVEN_COUNT {
-        return true;
-    }
-    if first != Carriers::ODD_COUNT {
-        return false;
-    }
-    s.len() != Carriers::CODE_HEAD
+    matches!(s, [Carriers::EVEN_COUNT, ..] | [Carriers::ODD_COUNT, _, ..])
 }
 
 // How many digits it has.

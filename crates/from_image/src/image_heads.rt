@@ -10,9 +10,6 @@ use octets::octet_at;
 pub fn transfer_head(s: &[u8]) -> Transfer
     ensures { Gives (head_front s.now) result }
 {
-    let low = octet_at(s, 9) as u16;
-    let high = octet_at(s, 10) as u16;
-    let len = low + 256 * high;
     Transfer {
         header: octet_at(s, 0),
         notification: octet_at(s, 1),
@@ -23,7 +20,7 @@ pub fn transfer_head(s: &[u8]) -> Transfer
         plan: octet_at(s, 6),
         presentation: octet_at(s, 7),
         screening: octet_at(s, 8),
-        len: len,
+        len: u16::from_le_bytes([octet_at(s, 9), octet_at(s, 10)]),
     }
 }
 
@@ -31,9 +28,6 @@ pub fn transfer_head(s: &[u8]) -> Transfer
 pub fn is_whole(s: &[u8]) -> bool
     ensures { Gives (leb (item_size s.now) (length s.now)) result }
 {
-    if s.len() < Imaged::TRANSFER_HEAD {
-        return false;
-    }
     Imaged::TRANSFER_HEAD + transfer_head(s).len as usize <= s.len()
 }
 
@@ -41,11 +35,12 @@ pub fn is_whole(s: &[u8]) -> bool
 fn value_of(s: &[u8]) -> u32
     ensures { Gives (four_from 1 s.now) result }
 {
-    let first = octet_at(s, 1) as u32;
-    let second = octet_at(s, 2) as u32;
-    let third = octet_at(s, 3) as u32;
-    let fourth = octet_at(s, 4) as u32;
-    first + 256 * second + 65536 * third + 16777216 * fourth
+    u32::from_le_bytes([
+        octet_at(s, 1),
+        octet_at(s, 2),
+        octet_at(s, 3),
+        octet_at(s, 4),
+    ])
 }
 
 // The octet at index i where the header is the one that has it; with any other it is not looked at, and taken as 0.
@@ -61,7 +56,7 @@ pub fn common_head(s: &[u8]) -> Common
 {
     let header = octet_at(s, 0);
     Common {
-        header: header,
+        header,
         value: value_of(s),
         more_data: octet_with(header, Common::SEQUENCE, s, 5),
         transfers: octet_with(header, Common::TRANSFER_DATA, s, 6),

@@ -2,11 +2,9 @@
 use Rattle.std.specs.Prelude.{ℕ, zero, suc, ◌+◌, ◌<◌, ◌≡◌, refl, Bool, true, false, cond, not, ◌&&◌, ◌||◌, List, [], ◌∷◌, map, eqb, drop}
 use Rattle.std.proofs.Common.{◌∙◌, ne_eqb}
 use Rattle.annex.specs.Units.{pli_of, name_of}
-use Rattle.annex.specs.Answers.{refuse, unused_name, other_pli}
+use Rattle.annex.specs.Answers.{refuse, unused_name, other_pli, Answer, Refused}
 use Rattle.annex.specs.Heads.{Head, among, heads, is_free, name_used, pli_right, zeroes_of, form_of}
 use Rattle.annex.specs.Writing.{head_writing}
-use Rattle.annex.specs.declared.Answer.{Answer}
-use Rattle.annex.specs.declared.Answer.TheVariants.{Refused}
 use Rattle.annex.specs.declared.Check.TheVariants.{Nothing}
 use Rattle.annex.specs.declared.Marks.TheVariants.{Unmarked}
 use Rattle.annex.specs.declared.Form.{Form}

@@ -3,15 +3,15 @@
 
 ghost use Rattle.std.specs.Prelude.{◌≡◌, cond};
 ghost use Rattle.annex.specs.Promises.{Gives};
-ghost use Rattle.annex.specs.Answers.{unused_name, other_pli};
+ghost use Rattle.annex.specs.Answers.{unused_name, other_pli, Accepted};
 ghost use Rattle.annex.specs.Heads.{among, heads, free_names, often_of, name_used, pli_right, zeroes_of, form_of};
 ghost use Rattle.annex.specs.Writing.{head_writing};
-ghost use Rattle.annex.specs.declared.Answer.TheVariants.{Accepted};
 ghost use Rattle.heads.specs.Asked.{listed_asked, unlisted_asked, counted_heads, octet_heads, asked_in};
 
-use annex::{Answer, Check, Form, Marks, Transfer};
+use annex::{Answer, Check, Form, Marks, Refusal, Transfer};
 
-// What is asked of a header and of the contents under it.
+// What is asked of a header and of the contents under it. No `Option`: the form is that of a header that is not right too, by which a
+// record holds its values (`Heads.form_of`).
 #[derive(Clone, Copy)]
 pub struct Asked {
     pub right: bool,
@@ -25,13 +25,13 @@ fn listed(zeroes: u8, form: Form) -> Asked
 {
     Asked {
         right: true,
-        zeroes: zeroes,
-        form: form,
+        zeroes,
+        form,
     }
 }
 
-// The list under PLI 01. A header that is not in it goes on to the next list, and so on, so that the compiler makes one table of the
-// three.
+// The list under PLI 01, an arm to a row. A header that is not in it goes on to the next list, and so on, so that the compiler makes one
+// table of the three.
 fn one_octet(header: u8) -> Asked
     ensures { result ≡ asked_in heads header }
 {
@@ -111,33 +111,30 @@ fn counted_octets(header: u8) -> Asked
 fn is_free(name: u8) -> bool
     ensures { result ≡ among name free_names }
 {
-    match name {
-        Transfer::RESULT_REQUEST_NAME => true,
-        Transfer::CALL_IDENTITY_NAME => true,
-        Transfer::CALL_START_NAME => true,
-        Transfer::CALL_END_NAME => true,
-        Transfer::WAITING_START_NAME => true,
-        _ => false,
-    }
+    matches!(
+        name,
+        Transfer::RESULT_REQUEST_NAME
+            | Transfer::CALL_IDENTITY_NAME
+            | Transfer::CALL_START_NAME
+            | Transfer::CALL_END_NAME
+            | Transfer::WAITING_START_NAME
+    )
 }
 
 // A header in no list: right if its name has no layout; else digits under PLI 10.
 fn unlisted(header: u8) -> Asked
     ensures { result ≡ unlisted_asked header }
 {
-    let free = is_free(header % 64);
-    let pli = header / 64;
-    if pli == 2 && !free {
-        return Asked {
-            right: false,
-            zeroes: 0,
-            form: Form::Digits(Marks::Unmarked),
-        };
-    }
+    let right = is_free(header % 64);
+    let form = if header / 64 == 2 && !right {
+        Form::Digits(Marks::Unmarked)
+    } else {
+        Form::Checked(Check::Nothing)
+    };
     Asked {
-        right: free,
+        right,
         zeroes: 0,
-        form: Form::Checked(Check::Nothing),
+        form,
     }
 }
 
@@ -150,14 +147,12 @@ pub fn head_of(header: u8) -> Asked
 }
 
 // Whether the name of a header is used, under any PLI.
+#[tactic(auto, using(crate::specs::Asked::used_under))]
 fn name_used(header: u8) -> bool
     ensures { result ≡ name_used header }
 {
     let name = header % 64;
-    let one = head_of(64 + name);
-    let digits = head_of(128 + name);
-    let octets = head_of(192 + name);
-    one.right | digits.right | octets.right
+    head_of(64 + name).right | head_of(128 + name).right | head_of(192 + name).right
 }
 
 // What refuses a header that is not right: 8 where its name is unused, else 9.
@@ -165,29 +160,32 @@ pub fn head_number(header: u8) -> u8
     ensures { Gives (cond (name_used header) other_pli unused_name) result }
 {
     if name_used(header) {
-        Answer::OTHER_PLI
+        Refusal::OTHER_PLI
     } else {
-        Answer::UNUSED_NAME
+        Refusal::UNUSED_NAME
     }
 }
 
 // 8, then 9, of a header that is to be written, in a record or as the new parameter of an edit; else accepted with 0.
+#[tactic(auto, using(crate::specs::Asked::right_head, crate::specs::Asked::wrong_head))]
 pub fn head_writing(header: u8) -> Answer
     ensures { Gives (head_writing 0 header (Accepted 0)) result }
 {
-    let asked = head_of(header);
-    if !asked.right {
-        return Answer::Refused(head_number(header), 0);
+    if head_of(header).right {
+        Ok(0)
+    } else {
+        Err(Refusal(head_number(header), 0))
     }
-    Answer::Accepted(0)
 }
 
 // How often a name may stand: that of carriers oftener than once.
+#[tactic(auto, unfolding(annex::specs::Heads::often_of))]
 pub fn often_of(name: u8) -> u8
     ensures { Gives (often_of name) result }
 {
     if name == Transfer::CARRIERS % 64 {
-        return Transfer::MOST_CARRIERS;
+        Transfer::MOST_CARRIERS
+    } else {
+        1
     }
-    1
 }

@@ -12,8 +12,7 @@ use Rattle.annex.specs.Reading.{verdict_of, open_common, record_of}
 use Rattle.annex.specs.Records.{values_of}
 use Rattle.annex.specs.Image.{image_parts, image_of}
 use Rattle.annex.specs.Walking.{stretch_at}
-use Rattle.annex.specs.declared.Answer.TheVariants.{Accepted}
-use Rattle.annex.specs.declared.Found.TheVariants.{Nowhere}
+use Rattle.annex.specs.Answers.{Accepted, Nowhere}
 use Rattle.laws.specs.Plain.{InnerSound}
 use Rattle.laws.specs.Filling.{values_append}
 use Rattle.laws.specs.Runs.{sets_before, Puts, Left, left_all, left_none, left_some, left_fits}

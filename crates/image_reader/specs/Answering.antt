@@ -1,12 +1,11 @@
 -- The three answers of reading to an image, with what the lent octets then hold.
 use Rattle.std.specs.Prelude.{ℕ, ◌≤◌, ◌<◌, ◌≡◌, List, ◌++◌, length, drop}
 use borrow.Author.Tests.{lt-ltb, le-ltb}
-use Rattle.annex.specs.Answers.{no_room}
+use Rattle.annex.specs.Answers.{no_room, Accepted, Refused}
 use Rattle.annex.specs.Reading.{verdict_of, record_of}
 use Rattle.annex.specs.Image.{image_of}
 use Rattle.annex.specs.Packed.{image_reading, image_read}
 use Rattle.annex.specs.Promises.{ImageReadPromise}
-use Rattle.annex.specs.declared.Answer.TheVariants.{Accepted, Refused}
 
 module _ (m room : List ℕ) where
   pub read_refused : (k p : ℕ) → verdict_of m ≡ Refused k p → ImageReadPromise m room (Refused k p) room

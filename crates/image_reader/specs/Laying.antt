@@ -1,12 +1,10 @@
 -- The octets of a common parameter's image, by what stands in the message.
-use Rattle.std.specs.Prelude.{ℕ, ◌+◌, ◌-◌, ◌≡◌, refl, Bool, true, false, cond, eqb, length, get_or, take, drop}
-use Rattle.std.proofs.Common.{arith, ◌∙◌, eqb-true, length-append}
+use Rattle.std.specs.Prelude.{ℕ, ◌+◌, ◌-◌, ◌≡◌, length, get_or, take, drop}
+use Rattle.std.proofs.Common.{arith, ◌∙◌, length-append}
 use Rattle.std.proofs.Math.Path.{ap}
-use mathlib.Core.List.{List, [], ◌++◌}
-use Rattle.std.proofs.lemmas.Bool.{eqb-false}
+use mathlib.Core.List.{List, ◌++◌}
 use Rattle.std.proofs.lemmas.List.Edits.{sets}
 use Rattle.annex.specs.Units.{common_extent_of}
-use Rattle.annex.specs.Heads.{transfer_data}
 use Rattle.annex.specs.Items.{Item}
 use Rattle.annex.specs.Opening.{part_head}
 use Rattle.annex.specs.Reading.{open_common}
@@ -16,11 +14,11 @@ use Rattle.laws.specs.Plain.{InnerSound}
 use Rattle.laws.specs.Filling.{head_opened}
 use Rattle.laws.specs.Runs.{Puts, sets_before}
 use Rattle.walk.specs.Stretches.{par_in, Whole}
-use Rattle.reader.specs.Filling.{items_from, data_is, data_items, other_items}
+use Rattle.reader.specs.Filling as filling
 
 -- the transfer parameters under a header: those of the contents of a C5
 abbrev pub items_under : ℕ → List ℕ → List Item
-items_under h s = cond (eqb h transfer_data) (items_from s) []
+items_under = filling.items_under
 
 -- the image of the common parameter with the header h, these octets of its own, and these contents
 abbrev pub part_octets : ℕ → List ℕ → List ℕ → List ℕ
@@ -43,14 +41,7 @@ part_put h own s at before mid after r is c e p f g =
 -- in an accepted message they are those of what the parameter opens to
 module _ {m : List ℕ} {i s x : ℕ} (w : Whole common_extent_of m i s x) (d : InnerSound (par_in m i x)) where
   pub items_here : (open_common (par_in m i x)).items ≡ items_under (get_or m i 0) (take (x - s) (drop s m))
-  items_here = go (eqb (get_or m i 0) transfer_data) refl
-    where
-      go : (b : Bool) → eqb (get_or m i 0) transfer_data ≡ b
-          → (open_common (par_in m i x)).items ≡ cond b (items_from (take (x - s) (drop s m))) []
-      go true e =
-          let five = eqb-true (get_or m i 0) transfer_data e in
-          data_items (par_in m i x) five d ∙ ap items_from (data_is w five)
-      go false e = other_items (par_in m i x) (eqb-false (get_or m i 0) transfer_data e)
+  items_here = filling.items_here w d
 
   pub part_here : image_part (open_common (par_in m i x)) ≡ part_octets (get_or m i 0) (par_in m i x).own (take (x - s) (drop s m))
   unfolding image_part

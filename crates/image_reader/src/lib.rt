@@ -7,15 +7,15 @@ ghost use Rattle.annex.specs.Heads.{most_transfers, most_values};
 ghost use Rattle.annex.specs.Items.{item_of};
 ghost use Rattle.annex.specs.Reading.{verdict_of, record_of};
 ghost use Rattle.annex.specs.Records.{values_of};
-ghost use Rattle.annex.specs.declared.Answer.TheVariants.{Accepted};
+ghost use Rattle.annex.specs.Answers.{Accepted};
 ghost use Rattle.annex.specs.Image.{image_head, image_item, image_items, image_common, image_of, octets_to_a_common_head, octets_to_a_transfer_head};
 ghost use Rattle.annex.specs.Promises.{ImageReadPromise};
 ghost use Rattle.laws.specs.Runs.{Puts};
 ghost use Rattle.reader.specs.Filling.{items_from};
 ghost use Rattle.image_reader.specs.Laying.{items_under, part_octets};
 
-use annex::{Answer, Common, Found, Imaged, Transfer};
-use octets::{copy_in, octet_at};
+use annex::{Answer, Common, Imaged, Refusal, Transfer};
+use octets::octet_at;
 use parameter::opening::open;
 use reader::reading::part_head;
 use reader::verdict::verdict;
@@ -34,18 +34,21 @@ fn put_transfer(t: Transfer, at: usize, out: &mut [u8])
     requires { at + octets_to_a_transfer_head ≤ length out.old }
     ensures { out.new ≡ sets out.old at (image_head t) }
 {
-    let len = t.len;
-    out[at] = t.header;
-    out[at + 1] = t.notification;
-    out[at + 2] = t.verification;
-    out[at + 3] = t.dialling;
-    out[at + 4] = t.number_type;
-    out[at + 5] = t.incomplete;
-    out[at + 6] = t.plan;
-    out[at + 7] = t.presentation;
-    out[at + 8] = t.screening;
-    out[at + 9] = (len % 256) as u8;
-    out[at + 10] = (len / 256 % 256) as u8;
+    let [low, high] = t.len.to_le_bytes();
+    let behind = at + Imaged::TRANSFER_HEAD;
+    out[at..behind].copy_from_slice(&[
+        t.header,
+        t.notification,
+        t.verification,
+        t.dialling,
+        t.number_type,
+        t.incomplete,
+        t.plan,
+        t.presentation,
+        t.screening,
+        low,
+        high,
+    ]);
 }
 
 // Writes a transfer parameter from `at` on, the values behind the place of its head and then the head: where it ends.
@@ -71,19 +74,12 @@ fn put_items(t: &[u8], first: usize, out: &mut [u8]) -> Laid
     let mut count: u8 = 0;
     let mut at = first;
     let mut i = 0;
-    loop {
-        let h = octet_at(t, i);
-        let Found::At(start, to) = stretch_at(t, i, extent_of(h)) else {
-            break;
-        };
-        at = put_item(h, &t[start..to], at, out);
+    while let Some((start, to)) = stretch_at(t, i, extent_of(octet_at(t, i))) {
+        at = put_item(t[i], &t[start..to], at, out);
         count += 1;
         i = to;
     }
-    Laid {
-        count: count,
-        end: at,
-    }
+    Laid { count, end: at }
 }
 
 // Writes the head of a common parameter from `at` on.
@@ -91,14 +87,17 @@ fn put_common(c: Common, at: usize, out: &mut [u8])
     requires { at + octets_to_a_common_head ≤ length out.old }
     ensures { out.new ≡ sets out.old at (image_common c) }
 {
-    let value = c.value;
-    out[at] = c.header;
-    out[at + 1] = (value % 256) as u8;
-    out[at + 2] = (value / 256 % 256) as u8;
-    out[at + 3] = (value / 65536 % 256) as u8;
-    out[at + 4] = (value / 16777216 % 256) as u8;
-    out[at + 5] = c.more_data;
-    out[at + 6] = c.transfers;
+    let [first, second, third, fourth] = c.value.to_le_bytes();
+    let behind = at + Imaged::COMMON_HEAD;
+    out[at..behind].copy_from_slice(&[
+        c.header,
+        first,
+        second,
+        third,
+        fourth,
+        c.more_data,
+        c.transfers,
+    ]);
 }
 
 // Writes a common parameter from `at` on, the parameters of a C5 behind the place of its head and then the head: where it ends.
@@ -109,13 +108,16 @@ fn put_part(header: u8, own: &[u8], contents: &[u8], at: usize, out: &mut [u8]) 
     ensures { Puts (part_octets header own.now contents.now) at out.old result out.new }
 {
     let behind = at + Imaged::COMMON_HEAD;
-    if header == Common::TRANSFER_DATA {
-        let laid = put_items(contents, behind, out);
-        put_common(part_head(header, own, laid.count), at, out);
-        return laid.end;
-    }
-    put_common(part_head(header, own, 0), at, out);
-    behind
+    let laid = if header == Common::TRANSFER_DATA {
+        put_items(contents, behind, out)
+    } else {
+        Laid {
+            count: 0,
+            end: behind,
+        }
+    };
+    put_common(part_head(header, own, laid.count), at, out);
+    laid.end
 }
 
 // Writes the image of an accepted message's record at the front: its length.
@@ -126,18 +128,13 @@ fn put_image(m: &[u8], out: &mut [u8]) -> usize
     let mut count: u8 = 0;
     let mut at: usize = 1;
     let mut i = 0;
-    loop {
-        let h = octet_at(m, i);
-        let Found::At(start, to) = stretch_at(m, i, common_extent_of(h)) else {
-            break;
-        };
-        let from = i + 1;
-        i = to;
-        if h == Common::END_MARK {
-            continue;
+    while let Some((start, to)) = stretch_at(m, i, common_extent_of(octet_at(m, i))) {
+        let header = m[i];
+        if header != Common::END_MARK {
+            at = put_part(header, &m[i + 1..to], &m[start..to], at, out);
+            count += 1;
         }
-        at = put_part(h, &m[from..to], &m[start..to], at, out);
-        count += 1;
+        i = to;
     }
     out[0] = count;
     at
@@ -151,23 +148,19 @@ fn put_short(m: &[u8], image: &mut [u8]) -> Answer
     let mut written = [0u8; Imaged::MOST];
     let n = put_image(m, &mut written);
     if image.len() < n {
-        return Answer::Refused(Answer::NO_ROOM, 0);
+        return Err(Refusal(Refusal::NO_ROOM, 0));
     }
-    copy_in(image, 0, &written[..n]);
-    Answer::Accepted(n)
+    image[..n].copy_from_slice(&written[..n]);
+    Ok(n)
 }
 
 // The record of a message, as its image at the front of the lent octets: how many octets it has. A refusal leaves them as they were.
 pub fn read_image(m: &[u8], image: &mut [u8]) -> Answer
     ensures { ImageReadPromise m.now image.old result image.new }
 {
-    let a = verdict(m);
-    let Answer::Accepted(_) = a else {
-        return a;
-    };
+    verdict(m)?;
     if image.len() < Imaged::MOST {
         return put_short(m, image);
     }
-    let n = put_image(m, image);
-    Answer::Accepted(n)
+    Ok(put_image(m, image))
 }

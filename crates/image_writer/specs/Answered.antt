@@ -1,7 +1,7 @@
 -- What the walk over an image's parameters gave, told as writing's answer and as what the room then holds.
-use Rattle.std.specs.Prelude.{ℕ, ◌+◌, ◌≤◌, ◌<◌, ◌≡◌, refl, Bool, true, false, List, [], ◌∷◌, leb, length, get_or, take, drop}
+use Rattle.std.specs.Prelude.{ℕ, ◌≤◌, ◌<◌, ◌≡◌, refl, true, false, List, [], ◌∷◌, ◌++◌, length, get_or, take, drop}
 use Rattle.std.proofs.Common.{arith, sym, ap, ◌∙◌, eq-eqb, ne_eqb, lt-ltb, le-ltb, drop-cons}
-use Rattle.annex.specs.Answers.{over_the_limits, no_room}
+use Rattle.annex.specs.Answers.{over_the_limits, no_room, Answer, Accepted, Refused}
 use Rattle.annex.specs.Items.{Part}
 use Rattle.annex.specs.Layout.{layout}
 use Rattle.annex.specs.Allowed.{every, is_octet}
@@ -9,11 +9,9 @@ use Rattle.annex.specs.Walk.{unseen}
 use Rattle.annex.specs.Writing.{parts_writing}
 use Rattle.annex.specs.Image.{Front, parts_front}
 use Rattle.annex.specs.Image.Front.{Taken, Short}
-use Rattle.annex.specs.Memory.{put, low_octets}
+use Rattle.annex.specs.Memory.{at_front, low_octets}
 use Rattle.annex.specs.Packed.{image_writing}
-use Rattle.annex.specs.Promises.{Stores, ImageWritePromise}
-use Rattle.annex.specs.declared.Answer.{Answer}
-use Rattle.annex.specs.declared.Answer.TheVariants.{Accepted, Refused}
+use Rattle.annex.specs.Promises.{ImageWritePromise}
 use Rattle.laws.specs.Written.{low_octets_lem}
 use Rattle.theorems.specs.ImageWritings.{
   front_parts,
@@ -28,7 +26,6 @@ use Rattle.theorems.specs.ImageWritings.{
   image_fit,
 }
 use Rattle.theorems.specs.Views.{own_parts}
-use Rattle.octets.specs.Copied.{copied_front}
 use Rattle.image_writer.specs.Over.{over_by}
 use Rattle.image_writer.specs.Walked.{PartsServed}
 
@@ -128,12 +125,11 @@ module _ (m room : List ℕ) (some : 0 < length m) where
             go (Taken r k) g = g.laid n refl h
 
         -- the draft's octets copied to the front of the room
-        pub done_written : n ≤ length room → n ≤ length d → (b : Bool) (ys : List ℕ)
-            → Stores (leb (0 + length (take n d)) (length room)) (put room 0 (take n d)) room b ys
-            → ImageWritePromise m room (Accepted n) ys
-        done_written h l b ys s =
+        pub done_written : n ≤ length room → n ≤ length d → ImageWritePromise m room (Accepted n) (take n d ++ drop n room)
+        done_written h l =
             let xs = layout (image_record m) in
             let w : image_writing m (length room) ≡ Accepted n =
             under_writing m (length room) (Accepted n) fit.under told_all ∙ rw (le-ltb (length room) n h) in
-            let c = copied_front room xs ys b (omega (arith, fit.length-given)) fit.octets (rw (laid_all l) at s) in
+            let c : take n d ++ drop n room ≡ at_front xs room =
+            rw (laid_all l, low_octets_lem xs fit.octets, ← fit.length-given) in
             (sym w, c ∙ rw (image_written_lem m room, w, low_octets_lem xs fit.octets, ← fit.length-given))

@@ -5,7 +5,7 @@ use mathlib.Core.List.{List, [], ◌∷◌, ◌++◌, append_assoc}
 use Rattle.std.proofs.Math.ListN.{length, drop, length-append, length-drop}
 use Rattle.std.proofs.Math.Seq.{length-take-le}
 use Rattle.annex.specs.Memory.{put, low_octets, laid_at}
-use Rattle.annex.specs.declared.Answer.TheVariants.{Accepted}
+use Rattle.annex.specs.Answers.{Accepted}
 use Rattle.laws.specs.Written.{length_low}
 
 module _ (d : List ℕ) (at : ℕ) (xs : List ℕ) where

@@ -1,5 +1,5 @@
 -- Whether an image is no whole record within the limits: its parameters are summed up.
-use Rattle.std.specs.Prelude.{ℕ, suc, ◌+◌, ◌*◌, ◌≤◌, ◌<◌, ◌≡◌, refl, Bool, true, false, not, ◌||◌, List, [], ◌∷◌, ◌++◌, eqb, leb, ltb, length, take, drop}
+use Rattle.std.specs.Prelude.{ℕ, suc, ◌+◌, ◌*◌, ◌≤◌, ◌<◌, ◌≡◌, refl, Bool, true, false, not, ◌||◌, Option, Some, None, List, [], ◌∷◌, ◌++◌, eqb, leb, ltb, length, take, drop}
 use Rattle.std.proofs.Common.{arith, sym, ap, ◌∙◌, length-append, drop-drop}
 use Rattle.std.proofs.lemmas.List.{length-map}
 use Rattle.annex.specs.Heads.{most_commons, most_transfers, most_transfer_octets}
@@ -31,20 +31,20 @@ use Rattle.image_writer.specs.declared.Sum.{Sum}
 
 -- ---- transfer parameters
 
-abbrev pub unsummed : Sum
-unsummed = record { whole = false; transfers = 0; contents = 0; octets = 0 }
-
 -- these behind k others, whose contents have c octets and which take i octets of the image
-abbrev pub summed_from : ℕ → ℕ → ℕ → Front Item → Sum
-summed_from k c i (Taken is n) =
-    record { whole = true; transfers = k + length is; contents = c + contents_sum (own_items is); octets = i + n }
-summed_from k c i Short = unsummed
+abbrev pub summed_from : ℕ → ℕ → ℕ → Front Item → Option Sum
+summed_from k c i (Taken is n) = Some (record { transfers = k + length is; contents = c + contents_sum (own_items is); octets = i + n })
+summed_from k c i Short = None
 
-pub record Summed (count : ℕ) (s : List ℕ) (r : Sum) : Type 0 where
-  pub told : r ≡ summed_from 0 0 0 (items_front count s)
-  pub few : r.transfers ≤ count
-  pub small : r.contents ≤ 65538 * count
-  pub within : r.octets ≤ length s
+pub record SummedTo (count : ℕ) (s : List ℕ) (x : Sum) : Type 0 where
+  pub told : Some x ≡ summed_from 0 0 0 (items_front count s)
+  pub few : x.transfers ≤ count
+  pub small : x.contents ≤ 65538 * count
+  pub within : x.octets ≤ length s
+
+abbrev pub Summed : ℕ → List ℕ → Option Sum → Type 0
+Summed count s (Some x) = SummedTo count s x
+Summed count s None = None ≡ summed_from 0 0 0 (items_front count s)
 
 sum_more : (k c i : ℕ) (x : Item) (m : ℕ) (f : Front Item)
     → summed_from k c i (more x m f) ≡ summed_from (k + 1) (c + length (contents_of (own_of x))) (i + m) f
@@ -54,10 +54,10 @@ sum_more k c i x m (Taken is n) =
     let ek : k + suc (length is) ≡ k + 1 + length is = omega arith in
     let ec : c + (o + contents_sum (own_items is)) ≡ c + o + contents_sum (own_items is) = omega arith in
     let ei : i + (m + n) ≡ i + m + n = omega arith in
-    λ j. record { whole = true; transfers = ek j; contents = ec j; octets = ei j }
+    λ j. Some (record { transfers = ek j; contents = ec j; octets = ei j })
 
 module _ (k c i left : ℕ) (s : List ℕ) where
-  pub sum_cut : leb (item_size (drop i s)) (length (drop i s)) ≡ false → summed_from k c i (items_front (suc left) (drop i s)) ≡ unsummed
+  pub sum_cut : leb (item_size (drop i s)) (length (drop i s)) ≡ false → summed_from k c i (items_front (suc left) (drop i s)) ≡ None
   sum_cut e = ap (summed_from k c i) (item_cut i left s e)
 
   pub sum_turn : leb (item_size (drop i s)) (length (drop i s)) ≡ true → (t : Transfer) → t ≡ head_front (drop i s) → (vs : List ℕ)
@@ -72,7 +72,7 @@ module _ (k c i left : ℕ) (s : List ℕ) where
       ∙ rw (item_own i left s t head vs values, e)
 
 pub sum_end : (k c i : ℕ) (s : List ℕ)
-    → summed_from k c i (items_front 0 s) ≡ record { whole = true; transfers = k; contents = c; octets = i }
+    → summed_from k c i (items_front 0 s) ≡ Some (record { transfers = k; contents = c; octets = i })
 unfolding items_front
 sum_end k c i s =
     let ek : k + 0 ≡ k = omega arith in
@@ -122,26 +122,25 @@ over_more n k t c i m p (Taken r x) =
     λ j. not (eqb (ei j) n) || (ltb most_commons (ek j) || (ltb most_transfers (et j) || ltb most_transfer_octets (ec j)))
 
 -- what its transfer parameters were summed up to
-over_cut : (n k t c i : ℕ) (s : List ℕ) (f : Front Item) (rest : ℕ → Front Part) (x : Sum) → x ≡ summed_from 0 0 0 f → x.whole ≡ false
+over_cut : (n k t c i : ℕ) (s : List ℕ) (f : Front Item) (rest : ℕ → Front Part) → None ≡ summed_from 0 0 0 f
     → over_from n k t c i (part_then s f rest) ≡ true
-over_cut n k t c i s Short rest x e w = refl
-over_cut n k t c i s (Taken is m) rest x e w =
-    absurd (let z : ◌≡◌ {A = ℕ} 0 1 = cc (ap (λ (y : Sum). y.whole) e) in omega arith)
+over_cut n k t c i s Short rest e = refl
+over_cut n k t c i s (Taken is m) rest e = absurd (let z : ◌≡◌ {A = ℕ} 0 1 = cc in omega arith)
 
-over_on : (n k t c i : ℕ) (s : List ℕ) (f : Front Item) (rest : ℕ → Front Part) (x : Sum) → x ≡ summed_from 0 0 0 f → x.whole ≡ true
+over_on : (n k t c i : ℕ) (s : List ℕ) (f : Front Item) (rest : ℕ → Front Part) (x : Sum) → Some x ≡ summed_from 0 0 0 f
     → f ≡ items_front (common_front s).transfers (drop octets_to_a_common_head s)
     → over_from n k t c i (part_then s f rest)
     ≡ over_from n (k + 1) (t + x.transfers) (c + x.contents) (i + octets_to_a_common_head + x.octets) (rest (octets_to_a_common_head + x.octets))
-over_on n k t c i s Short rest x e w h =
-    absurd (let z : ◌≡◌ {A = ℕ} 0 1 = cc (ap (λ (y : Sum). y.whole) e) in omega arith)
-over_on n k t c i s (Taken is m) rest x e w h =
+over_on n k t c i s Short rest x e h = absurd (let z : ◌≡◌ {A = ℕ} 0 1 = cc in omega arith)
+over_on n k t c i s (Taken is m) rest x e h =
+    let same : x ≡ record { transfers = 0 + length is; contents = 0 + contents_sum (own_items is); octets = 0 + m } = cc in
     let own : (own_common (part_front s is)).items ≡ own_items is = part_items (part_front s is) (part_only s is m (sym h)) in
-    let em : m ≡ x.octets = omega (arith, ap (λ (y : Sum). y.octets) e) in
+    let em : m ≡ x.octets = omega (arith, ap (λ (y : Sum). y.octets) same) in
     let ei : i + (octets_to_a_common_head + m) ≡ i + octets_to_a_common_head + x.octets = omega arith in
     let et : length (own_common (part_front s is)).items ≡ x.transfers =
-    omega (arith, ap (λ (l : List Item). length l) own ∙ length-map is own_of, ap (λ (y : Sum). y.transfers) e) in
+    omega (arith, ap (λ (l : List Item). length l) own ∙ length-map is own_of, ap (λ (y : Sum). y.transfers) same) in
     let ec : contents_sum (own_common (part_front s is)).items ≡ x.contents =
-    omega (arith, ap contents_sum own, ap (λ (y : Sum). y.contents) e) in
+    omega (arith, ap contents_sum own, ap (λ (y : Sum). y.contents) same) in
     over_more n k t c i (octets_to_a_common_head + m) (part_front s is) (rest (octets_to_a_common_head + m))
     ∙ (λ j. over_from n (k + 1) (t + et j) (c + ec j) (ei j) (rest (octets_to_a_common_head + em j)))
 
@@ -150,25 +149,25 @@ module _ (n k t c i left : ℕ) (s : List ℕ) where
   pub over_short : length (drop i s) < octets_to_a_common_head → over_from n k t c i (parts_front (suc left) (drop i s)) ≡ true
   over_short h = ap (over_from n k t c i) (part_cut i left s h)
 
-  module _ (h : Common) (head : h ≡ common_front (drop i s)) (l : octets_to_a_common_head ≤ length (drop i s)) (x : Sum)
-      (e : x ≡ summed_from 0 0 0 (items_front h.transfers (drop (i + octets_to_a_common_head) s))) where
-    pub over_stop : x.whole ≡ false → over_from n k t c i (parts_front (suc left) (drop i s)) ≡ true
-    over_stop w =
-        ap (over_from n k t c i) (part_next i left s h head l)
-        ∙ over_cut n k t c i (drop i s) (items_front h.transfers (drop (i + octets_to_a_common_head) s)) (λ m. parts_front left (drop m (drop i s))) x
-        e w
+  module _ (h : Common) (head : h ≡ common_front (drop i s)) (l : octets_to_a_common_head ≤ length (drop i s)) where
+    abbrev items : Front Item
+    items = items_front h.transfers (drop (i + octets_to_a_common_head) s)
 
-    pub over_turn : x.whole ≡ true
+    pub over_stop : None ≡ summed_from 0 0 0 items → over_from n k t c i (parts_front (suc left) (drop i s)) ≡ true
+    over_stop e =
+        ap (over_from n k t c i) (part_next i left s h head l)
+        ∙ over_cut n k t c i (drop i s) items (λ m. parts_front left (drop m (drop i s))) e
+
+    pub over_turn : (x : Sum) → Some x ≡ summed_from 0 0 0 items
         → over_from n k t c i (parts_front (suc left) (drop i s))
         ≡ over_from n (k + 1) (t + x.transfers) (c + x.contents) (i + octets_to_a_common_head + x.octets)
         (parts_front left (drop (i + octets_to_a_common_head + x.octets) s))
-    over_turn w =
-        let f = items_front h.transfers (drop (i + octets_to_a_common_head) s) in
-        let same : f ≡ items_front (common_front (drop i s)).transfers (drop octets_to_a_common_head (drop i s)) =
+    over_turn x e =
+        let same : items ≡ items_front (common_front (drop i s)).transfers (drop octets_to_a_common_head (drop i s)) =
         rw (ap (λ (y : Common). y.transfers) head, drop-drop octets_to_a_common_head i s) in
         let j : i + (octets_to_a_common_head + x.octets) ≡ i + octets_to_a_common_head + x.octets = omega arith in
         ap (over_from n k t c i) (part_next i left s h head l)
-        ∙ over_on n k t c i (drop i s) f (λ m. parts_front left (drop m (drop i s))) x e w same
+        ∙ over_on n k t c i (drop i s) items (λ m. parts_front left (drop m (drop i s))) x e same
         ∙ ap (λ (d : List ℕ). over_from n (k + 1) (t + x.transfers) (c + x.contents) (i + octets_to_a_common_head + x.octets) (parts_front left d))
         (drop-drop (octets_to_a_common_head + x.octets) i s ∙ ap (λ (m : ℕ). drop m s) j)
 

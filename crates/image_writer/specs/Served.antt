@@ -1,18 +1,40 @@
 -- Parameters of an image that are judged and laid out in one walk: what serves as the answer, as the count of octets read and as the draft
 -- that holds the octets laid out. The draft counts only where all of it is accepted and fits.
-use Rattle.std.specs.Prelude.{ℕ, ◌+◌, ◌%◌, ◌≤◌, ◌≡◌, List, [], ◌∷◌, ◌++◌, length, take}
+use Rattle.std.specs.Prelude.{ℕ, ◌+◌, ◌%◌, ◌≤◌, ◌≡◌, refl, Result, Ok, Err, List, [], ◌∷◌, ◌++◌, length, take}
 use Rattle.std.proofs.Common.{arith, sym, ◌∙◌, append_assoc}
 use Rattle.std.proofs.lemmas.List.{map-append}
 use Rattle.annex.specs.Image.{Front, more}
 use Rattle.annex.specs.Image.Front.{Taken, Short}
 use Rattle.annex.specs.Memory.{low_octets}
-use Rattle.annex.specs.declared.Answer.{Answer}
-use Rattle.annex.specs.declared.Answer.TheVariants.{Accepted, Refused}
+use Rattle.annex.specs.Answers.{Answer, Accepted, Refused, placed_at}
+use Rattle.annex.specs.declared.Refusal.{Refusal}
+use Rattle.image_writer.specs.declared.Step.{Step}
+
+-- what accepted parameters gave, as an answer, and how many octets of the image they took
+abbrev pub answer_of : Result Step Refusal → Answer
+answer_of (Ok x) = Accepted x.behind
+answer_of (Err r) = Err r
+
+abbrev pub octets_of : Result Step Refusal → ℕ
+octets_of (Ok x) = x.octets
+octets_of (Err r) = 0
+
+-- what a refusal told at another place was before
+pub placed_ok : (p : ℕ) (a b : Answer) (n : ℕ) → b ≡ placed_at p a → b ≡ Accepted n → a ≡ Accepted n
+placed_ok p (Accepted m) b n e f = sym e ∙ f
+placed_ok p (Err w) b n e f = absurd (let z : ◌≡◌ {A = Answer} (Refused w.0 p) (Accepted n) = sym e ∙ f in let y : ◌≡◌ {A = ℕ} 0 1 = cc in omega arith)
+
+pub placed_err : (p : ℕ) (a b : Answer) (r : Refusal) → b ≡ placed_at p a → b ≡ Err r
+    → (w : Refusal) × (a ≡ Refused w.0 w.1) × ◌≡◌ {A = Refusal} r (w.0, p)
+placed_err p (Accepted m) b r e f = absurd (let z : ◌≡◌ {A = Answer} (Accepted m) (Err r) = sym e ∙ f in let y : ◌≡◌ {A = ℕ} 0 1 = cc in omega arith)
+placed_err p (Err w) b r e f =
+    let z : ◌≡◌ {A = Answer} (Refused w.0 p) (Err r) = sym e ∙ f in
+    (w, refl, cc)
 
 -- refused, whatever the number and the place
 abbrev pub IsRefused : Answer → Type 0
 IsRefused (Accepted n) = ⊥
-IsRefused (Refused k p) = Unit {0}
+IsRefused (Err r) = Unit {0}
 
 -- for the parameters xs, which take k octets of the image behind i others: what writing answers; and where that is accepted, the place
 -- behind them in the image, and in the draft what stood before them, then their octets

@@ -8,7 +8,7 @@ use mathlib.Core.List.{List, [], ◌∷◌, append-nil}
 use borrow.Author.Tests.{lt-ltb, le-ltb, ne_eqb}
 use Rattle.std.proofs.Math.ListN.{length, get_or, drop, length-set}
 use Rattle.std.proofs.Math.Seq.{drop-drop}
-use Rattle.annex.specs.Answers.{transfer_over, missing, refuse}
+use Rattle.annex.specs.Answers.{transfer_over, missing, refuse, Answer, Accepted, Refused}
 use Rattle.annex.specs.Heads.{end_mark, among, common_headers, most_transfer_octets, transfer_data}
 use Rattle.annex.specs.Items.{Item, Part, own_of}
 use Rattle.annex.specs.Layout.{layout_item, layout_items, layout_part, layout}
@@ -33,8 +33,6 @@ use Rattle.annex.specs.Image.{
 }
 use Rattle.annex.specs.Image.Front.{Taken, Short}
 use Rattle.annex.specs.Memory.{low_octets, laid_at}
-use Rattle.annex.specs.declared.Answer.{Answer}
-use Rattle.annex.specs.declared.Answer.TheVariants.{Accepted, Refused}
 use Rattle.annex.specs.declared.Common.{Common}
 use Rattle.annex.specs.declared.Transfer.{Transfer}
 use Rattle.laws.specs.Laid.{own_header}
@@ -347,3 +345,9 @@ parts_done seen at i s draft =
     let t : Accepted (at + 1) ≡ Accepted n = (passed (not (whole_in seen)) missing at n (Accepted (at + 1)) e).1 in
     let same : at + 1 ≡ n = cc in
     rw (← same) (set_front draft at end_mark (omega (arith, length-set draft at end_mark))))
+
+pub parts_unfinished : (seen : Seen) (at i : ℕ) (s before : List ℕ) (k p end : ℕ) (d : List ℕ) → end_writing (whole_in seen) at ≡ Refused k p
+    → PartsServed seen at i before (parts_front 0 s) (Refused k p) end d
+unfolding parts_front
+parts_unfinished seen at i s before k p end d e =
+    serves_refused (λ r. parts_writing seen at (own_parts r)) (λ r. layout (own_parts r)) i before [] 0 k p end d (parts_over seen at ∙ e)

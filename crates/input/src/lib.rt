@@ -10,6 +10,7 @@ use std::io::Read;
 pub fn read_full<R: Read>(from: &mut R, buffer: &mut [u8]) -> io::Result<usize>
     ensures { IfOk result (λ n. n ≤ length buffer.new) }
 {
+    // the library's read_exact fails where the input ends before
     let mut n = 0;
     while n < buffer.len() {
         let got = from.read(&mut buffer[n..])?;

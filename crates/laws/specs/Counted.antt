@@ -13,7 +13,7 @@ use Rattle.annex.specs.Allowed.{every, is_octet, length_fits, marks_right}
 use Rattle.annex.specs.declared.Alphabet.TheVariants.{Dialled}
 use Rattle.annex.specs.declared.Extent.TheVariants.{Counted}
 use Rattle.annex.specs.declared.CountingUnit.TheVariants.{HalfOctet}
-use Rattle.annex.specs.declared.Fault.TheVariants.{Sound}
+use Rattle.annex.specs.Answers.{Sound}
 use Rattle.laws.specs.Bools.{same, same→eq, and_left, and_right, and_both}
 use Rattle.laws.specs.Octet.{range}
 use Rattle.laws.specs.Halves.{length-digits_of}

@@ -25,7 +25,7 @@ use Rattle.annex.specs.Transit.{code_octets, Entry, entry, no_entry, flat_entrie
 use Rattle.annex.specs.Units.{after_of, octets_of}
 use Rattle.annex.specs.Walk.{Par, par_of, pars}
 use Rattle.annex.specs.declared.Alphabet.TheVariants.{Decimal}
-use Rattle.annex.specs.declared.Fault.TheVariants.{Sound}
+use Rattle.annex.specs.Answers.{Sound}
 use Rattle.laws.specs.Bools.{and_left, and_right}
 use Rattle.laws.specs.Halves.{length-digits_of}
 use Rattle.laws.specs.Joined.{length-packed, packed_back, packed_sound, unpacked}

@@ -1,11 +1,9 @@
 -- Laws of faults: where nothing is wrong, each test passed.
-use Rattle.std.specs.Prelude.{◌≡◌, refl, Bool, true, false, cond, List, ℕ}
+use Rattle.std.specs.Prelude.{◌≡◌, refl, Bool, true, false, cond, List, ℕ, Err}
 use Rattle.std.proofs.Common.{arith}
-use Rattle.annex.specs.Answers.{bad_digit, formed, formed_then, fault_then, is_sound}
+use Rattle.annex.specs.Answers.{bad_digit, formed, formed_then, fault_then, is_sound, Fault, Sound, Bad}
 use Rattle.annex.specs.Digits.{is_digit}
 use Rattle.annex.specs.Allowed.{every, values_fault}
-use Rattle.annex.specs.declared.Fault.{Fault}
-use Rattle.annex.specs.declared.Fault.TheVariants.{Sound, Bad}
 
 pub passed : (b : Bool) (f : Fault) (k i : ℕ) → cond b f (Bad k i) ≡ Sound → (b ≡ true) × (f ≡ Sound)
 passed true f k i e = (refl, e)
@@ -20,7 +18,7 @@ formed_sound b e = (then_sound b Sound e).0
 
 pub then_both : (f g : Fault) → fault_then f g ≡ Sound → (f ≡ Sound) × (g ≡ Sound)
 then_both Sound g e = (refl, e)
-then_both (Bad k i) g e = absurd (let z : ◌≡◌ {A = ℕ} 0 1 = cc in omega arith)
+then_both (Err r) g e = absurd (let z : ◌≡◌ {A = ℕ} 0 1 = cc in omega arith)
 
 -- digits and numbers: the fields and then the values
 pub values_sound : (b : Bool) (ds : List ℕ) → b ≡ true → every is_digit ds ≡ true → formed_then b (values_fault ds) ≡ Sound
@@ -34,4 +32,4 @@ sound_values b ds e =
 -- a test for it
 pub is_sound_lem : (f : Fault) → is_sound f ≡ true → f ≡ Sound
 is_sound_lem Sound e = refl
-is_sound_lem (Bad k i) e = absurd (let z : ◌≡◌ {A = ℕ} 0 1 = cc in omega arith)
+is_sound_lem (Err r) e = absurd (let z : ◌≡◌ {A = ℕ} 0 1 = cc in omega arith)

@@ -1,6 +1,6 @@
 -- Laws of how many there are: a name that may stand only so often bounds what is listed. Hence so many parameters in transfer data,
 -- and so many rows of a message.
-use Rattle.std.specs.Prelude.{◌≡◌, Bool, true, false, cond, eqb, leb, get_or, set, take}
+use Rattle.std.specs.Prelude.{◌≡◌, Bool, true, false, cond, eqb, leb, get_or, set, take, Err}
 use Rattle.std.proofs.Math.Path.{refl}
 use Rattle.std.proofs.Common.{◌∙◌, eqb-true, leb-true, length-set, length-append}
 use mathlib.Core.List.{List, [], ◌∷◌}
@@ -14,8 +14,7 @@ use Rattle.annex.specs.Heads.{among, listed_headers, transfer_data, name_count, 
 use Rattle.annex.specs.Walk.{Seen, unseen, times_seen, counted, Par, Step, by_step, walk, listing, Size, par_of, pars}
 use Rattle.annex.specs.Reading.{transfer_step, transfers_of, common_step, commons_of, data_in, commons_by, transfers_by}
 use Rattle.annex.specs.Spans.{transfer_rows, inner_rows, common_rows, rows_of, common_rows_by, rows_by}
-use Rattle.annex.specs.declared.Answer.{Answer}
-use Rattle.annex.specs.declared.Answer.TheVariants.{Accepted, Refused}
+use Rattle.annex.specs.Answers.{Answer, Accepted}
 use Rattle.annex.specs.Contents.{fault_of}
 use Rattle.annex.specs.Orders.{order_size}
 use Rattle.annex.specs.Opened.{parameter_row, order_listing}
@@ -67,7 +66,7 @@ module _ (allows : ℕ → ℕ → ℕ) where
               ih n (p + 1) (length-set seen (name_of x) (times_seen seen x + 1) ∙ l),
               rw e at (allowance-set 0 (name_of x) (times_seen seen x + 1) seen (omega arith)),
             )
-        go (Refused k r) f ih = omega arith
+        go (Err w) f ih = omega arith
 
 -- ---- transfer data
 

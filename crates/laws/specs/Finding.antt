@@ -7,11 +7,9 @@ use Rattle.annex.specs.Allowed.{Each}
 use Rattle.annex.specs.Walk.{Par, size_by, common_size, transfer_size}
 use Rattle.annex.specs.Reading.{transfers_of, verdict_of, data_in}
 use Rattle.annex.specs.Finding.{stretch_of, common_in, common_found, transfer_in, transfer_among, transfer_found, found_by}
-use Rattle.annex.specs.declared.Answer.TheVariants.{Accepted}
+use Rattle.annex.specs.Answers.{start_of, stop_of, Accepted, Found, At, Nowhere}
 use Rattle.annex.specs.declared.Key.{Key}
 use Rattle.annex.specs.declared.Key.TheVariants.{Header, Name}
-use Rattle.annex.specs.declared.Found.{Found}
-use Rattle.annex.specs.declared.Found.TheVariants.{At, Nowhere}
 use Rattle.annex.specs.Contents.{fault_of}
 use Rattle.annex.specs.Walking.{
   is_sought,
@@ -40,7 +38,7 @@ nowhere_inside : (n : ℕ) → Inside n Nowhere
 nowhere_inside n = record { at = λ s e f. absurd (let z : ◌≡◌ {A = ℕ} 0 1 = cc in omega arith) }
 
 at_inside : (n s e : ℕ) → s ≤ e → e ≤ n → Inside n (At s e)
-at_inside n s e h l = record { at = λ a b f. let p : s ≡ a = cc in let q : e ≡ b = cc in (omega arith, omega arith) }
+at_inside n s e h l = record { at = λ a b f. let p : s ≡ a = ap start_of f in let q : e ≡ b = ap stop_of f in (omega arith, omega arith) }
 
 sought_inside : (k : Key) (which : ℕ) (t : List ℕ) (qs : List Par) → Each (Lies (size_by (extent_by k)) t) qs
     → Inside (length t) (contents_at k t (sought_in k which qs))

@@ -1,7 +1,7 @@
 -- Of contents, 13 is told of their first bad octet, and where nothing is wrong no octet is bad.
 use Prim.Native.Nat.{ℕ, zero, suc, ◌+◌, ◌-◌, ◌*◌, ◌/◌, ◌%◌, ◌≤◌, ◌<◌}
 use native.Mathlib.Omega.{arith}
-use Rattle.std.specs.Prelude.{◌≡◌, cond, not, ◌&&◌, ◌⊎◌, get_or, take, drop}
+use Rattle.std.specs.Prelude.{◌≡◌, cond, not, ◌&&◌, ◌⊎◌, get_or, take, drop, Err}
 use Rattle.std.proofs.Math.Path.{refl}
 use Rattle.std.proofs.Common.{sym, ap, ◌∙◌, inl, inr, get_or-take, get_or-drop, length-take-le}
 use Rattle.std.proofs.Math.Bool.{Bool, true, false}
@@ -10,7 +10,7 @@ use borrow.Author.Tests.{leb-true, ltb-true, ltb-false, eqb-true, eqb-false, lt-
 use Rattle.std.proofs.Math.Dec.{eqb, leb, ltb}
 use Rattle.std.proofs.Math.ListN.{length, length-drop}
 use Rattle.std.proofs.Math.Seq.{drop-drop}
-use Rattle.annex.specs.Answers.{bad_form, bad_digit, check_digit, wrong_order, formed_then, formed, fault_then}
+use Rattle.annex.specs.Answers.{fault_number_of, offset_of, bad_form, bad_digit, check_digit, wrong_order, formed_then, formed, fault_then, Fault, Sound, Bad}
 use Rattle.annex.specs.Units.{counted_by, whole_count}
 use Rattle.annex.specs.Heads.{among, clear, added_calling_number, withheld, zeroes_of, form_of}
 use Rattle.annex.specs.Digits.{halves, halves_fault, digits_fault, odd_of, count_of, number_fault_in, number_fault}
@@ -92,8 +92,6 @@ use Rattle.annex.specs.declared.Check.{Check}
 use Rattle.annex.specs.declared.Check.TheVariants.{Nothing, Long, Two, Charging, Order, Carriers}
 use Rattle.annex.specs.declared.Drawn.{Drawn}
 use Rattle.annex.specs.declared.Drawn.TheVariants.{Whole}
-use Rattle.annex.specs.declared.Fault.{Fault}
-use Rattle.annex.specs.declared.Fault.TheVariants.{Sound, Bad}
 use Rattle.annex.specs.declared.Form.{Form}
 use Rattle.annex.specs.declared.Form.TheVariants.{Checked, Digits, Number, Calling, Generic}
 use Rattle.annex.specs.declared.OrderLayout.{OrderLayout}
@@ -200,8 +198,8 @@ module _ (good : ℕ → Bool) (size : ℕ) where
   other_shown a b k i n p =
       record {
         sound = λ e. absurd (let z : ◌≡◌ {A = ℕ} 0 1 = cc in omega arith);
-        bad = λ j e. absurd (n (let same : k ≡ bad_digit = cc in same));
-        other = λ l j e. inr (let same : k ≡ l = cc in let there : i ≡ j = cc in rw (same, there) at p);
+        bad = λ j e. absurd (n (ap fault_number_of e));
+        other = λ l j e. inr (rw (ap fault_number_of e, ap offset_of e) at p);
       }
 
   form_shown : (a b : ℕ) → Shows good size a b (Bad bad_form 0)
@@ -227,7 +225,7 @@ module _ (good : ℕ → Bool) (size : ℕ) where
       later : (i : ℕ) → (b ≤ i) × (i < c) × (good i ≡ false) × AllGood good b i
           → (a ≤ i) × (i < c) × (good i ≡ false) × AllGood good a i
       later i s = (omega (arith, s.0), s.1, s.2, λ j p q. either j p (omega (arith, s.1)) (λ r. s.3 j r q))
-  then_shown a b c l m (Bad k i) g v w =
+  then_shown a b c l m (Err r) g v w =
       record {
         sound = λ e. absurd (let z : ◌≡◌ {A = ℕ} 0 1 = cc in omega arith);
         bad = λ j e. let s = v.bad j e in (s.0, omega (arith, s.1), s.2, s.3);
@@ -248,9 +246,9 @@ module _ (good : ℕ → Bool) (size : ℕ) where
       record {
         sound = λ n. absurd (let z : ◌≡◌ {A = ℕ} 0 1 = cc in omega arith);
         bad = λ i n.
-            let same : a ≡ i = cc in
+            let same : a ≡ i = ap offset_of n in
             (omega arith, omega arith, ap good (sym same) ∙ e, λ j p q. absurd (omega arith));
-        other = λ k i n. inl (let same : bad_digit ≡ k = cc in sym same);
+        other = λ k i n. inl (sym (ap fault_number_of n));
       }
 
   -- ---- octets s that stand from the offset `at` on

@@ -39,3 +39,10 @@ front_then room first xs ys l e =
     e ∙ ap (λ (s : List ℕ). xs ++ drop (length xs) s) (to_end k w ∙ behind)
     ∙ ap (λ (s : List ℕ). xs ++ s) (drop-drop (length xs) k room ∙ ap (λ (n : ℕ). drop n room) (sym (length-append first xs))) in
     rw (before, all, append-nil ys) (ap (λ (s : List ℕ). first ++ s) g ∙ sym (append_assoc first xs (drop (length (first ++ xs)) room)))
+
+-- a part of a list overwritten by as many values
+pub sets_part : {A : Type 0} (at k : ℕ) (l xs : List A) → k ≡ length xs → at + length xs ≤ length l → put_mid at k l xs ≡ sets l at xs
+sets_part {A = A} at k l xs e h =
+    sym
+    (sets-eq xs l at h ∙ append_assoc (take at l) xs (drop (at + length xs) l)
+    ∙ ap (λ (s : List A). take at l ++ (xs ++ s)) (sym (drop-drop (length xs) at l) ∙ ap (λ (n : ℕ). drop n (drop at l)) (sym e)))

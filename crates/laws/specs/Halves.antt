@@ -3,13 +3,12 @@ use Rattle.std.specs.Prelude.{ℕ, zero, suc, ◌+◌, ◌-◌, ◌/◌, ◌%◌
 use Rattle.std.proofs.Common.{arith, sym, ap, ◌∙◌, lt-ltb, le-ltb, ltb-true, ltb-false, length-take, get_or-take}
 use Rattle.std.proofs.lemmas.List.{length-map}
 use Rattle.std.proofs.Math.ListN.{get_or-map}
-use Rattle.annex.specs.Answers.{bad_digit}
+use Rattle.annex.specs.Answers.{bad_digit, Bad}
 use Rattle.annex.specs.Units.{halves_in}
 use Rattle.annex.specs.Digits.{halves, is_code, digit_of, halves_fault, digits_of}
 use Rattle.annex.specs.declared.HalfOctets.{HalfOctets}
 use Rattle.annex.specs.declared.Alphabet.{Alphabet}
 use Rattle.annex.specs.declared.Alphabet.TheVariants.{Dialled, Numbered, Decimal}
-use Rattle.annex.specs.declared.Fault.TheVariants.{Bad}
 
 pub length-halves : (s : List ℕ) → length (halves s) ≡ (halves_in s).0
 unfolding halves

@@ -3,7 +3,7 @@
 use Rattle.std.specs.Prelude.{ℕ, zero, suc, ◌+◌, ◌*◌, ◌/◌, ◌%◌, ◌<◌, ◌≤◌, ◌≡◌, refl, List, [], ◌∷◌, map, Bool, true, cond, not, ◌&&◌, ◌||◌, eqb, leb, length}
 use Rattle.std.proofs.Common.{arith, ap, eqb-true, leb-true, lt-ltb}
 use Rattle.std.proofs.lemmas.List.{length-map}
-use Rattle.annex.specs.Answers.{bad_digit}
+use Rattle.annex.specs.Answers.{bad_digit, Sound, Bad}
 use Rattle.annex.specs.Units.{octets_of}
 use Rattle.annex.specs.Digits.{
   halves,
@@ -25,7 +25,6 @@ use Rattle.annex.specs.declared.HalfOctets.{HalfOctets}
 use Rattle.annex.specs.Allowed.{every, is_octet}
 use Rattle.annex.specs.declared.Alphabet.{Alphabet}
 use Rattle.annex.specs.declared.Alphabet.TheVariants.{Dialled, Numbered, Decimal}
-use Rattle.annex.specs.declared.Fault.TheVariants.{Sound, Bad}
 use Rattle.laws.specs.Bools.{T_true, and_left, and_right, and_both}
 use Rattle.laws.specs.Octet.{range}
 use Rattle.laws.specs.Faults.{passed}

@@ -41,7 +41,7 @@ use Rattle.annex.specs.Allowed.{
   HeldItem,
 }
 use Rattle.annex.specs.declared.Alphabet.TheVariants.{Numbered}
-use Rattle.annex.specs.declared.Fault.TheVariants.{Sound}
+use Rattle.annex.specs.Answers.{Sound}
 use Rattle.laws.specs.Bools.{and_left, and_right, and_both}
 use Rattle.laws.specs.Faults.{then_sound, values_sound, sound_values}
 use Rattle.laws.specs.Headers.{row_fits, row_fits_lem, digits_row, none_asked}

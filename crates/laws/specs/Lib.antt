@@ -3,6 +3,7 @@
 pub mod Bools
 pub mod Members
 pub mod Parts
+pub mod Passed
 pub mod Stores
 pub mod Fronts
 pub mod Written

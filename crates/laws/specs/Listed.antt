@@ -1,15 +1,14 @@
 -- The rows that a listing gives.
-use Rattle.std.specs.Prelude.{ℕ, List, []}
+use Rattle.std.specs.Prelude.{ℕ, List, [], Err}
 use Rattle.annex.specs.Reading.{verdict_of}
 use Rattle.annex.specs.Spans.{rows_of}
-use Rattle.annex.specs.declared.Answer.{Answer}
-use Rattle.annex.specs.declared.Answer.TheVariants.{Accepted, Refused}
+use Rattle.annex.specs.Answers.{Answer, Accepted}
 use Rattle.annex.specs.declared.Row.{Row}
 
 -- the rows that a listing gives after an answer: none after a refusal
 abbrev pub rows_after : Answer → List Row → List Row
 rows_after (Accepted n) rows = rows
-rows_after (Refused k p) rows = []
+rows_after (Err r) rows = []
 
 -- the rows of a message, none where it is refused
 abbrev pub listed : List ℕ → List Row

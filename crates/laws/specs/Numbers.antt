@@ -4,13 +4,12 @@ use Rattle.std.proofs.Common.{arith, ap, eqb-true, leb-true, le-leb, ltb-true, l
 use Rattle.std.proofs.lemmas.Bool.{eqb-false}
 use Rattle.annex.specs.Units.{octets_of}
 use Rattle.annex.specs.Digits.{is_digit, halves, halves_fault, digits_fault, digits_of, packed, halves_for, count_of, number_fault_in, number_fault}
-use Rattle.annex.specs.Answers.{formed, formed_then}
+use Rattle.annex.specs.Answers.{formed, formed_then, Sound}
 use Rattle.annex.specs.Contents.{presentation_of, calling_fault}
 use Rattle.annex.specs.Items.{Item, number_item, open_by, number_contents, own_fields}
 use Rattle.annex.specs.declared.Holding.TheVariants.{AsNumber}
 use Rattle.annex.specs.Allowed.{every, is_octet, fields_right, withheld_right}
 use Rattle.annex.specs.declared.Alphabet.TheVariants.{Numbered}
-use Rattle.annex.specs.declared.Fault.TheVariants.{Sound}
 use Rattle.laws.specs.Bools.{and_left, and_right}
 use Rattle.laws.specs.Faults.{formed_sound, then_sound}
 use Rattle.laws.specs.Halves.{length-digits_of}

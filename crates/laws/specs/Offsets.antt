@@ -1,8 +1,8 @@
 -- Where a fault lies: 12 may stand at the start of the contents though they are empty, and every other fault has its octet among them.
 -- Whether there is one does not depend on where the octets stand.
-use Rattle.std.specs.Prelude.{ℕ, zero, suc, ◌+◌, ◌*◌, ◌/◌, ◌%◌, ◌≤◌, ◌<◌, ◌≡◌, refl, Bool, true, false, cond, not, ◌&&◌, List, [], ◌∷◌, ◌⊎◌, eqb, leb, ltb, length, get_or, drop}
+use Rattle.std.specs.Prelude.{ℕ, zero, suc, ◌+◌, ◌*◌, ◌/◌, ◌%◌, ◌≤◌, ◌<◌, ◌≡◌, refl, Bool, true, false, cond, not, ◌&&◌, List, [], ◌∷◌, ◌⊎◌, eqb, leb, ltb, length, get_or, drop, Err}
 use Rattle.std.proofs.Common.{arith, ◌∙◌, inl, inr, eqb-true}
-use Rattle.annex.specs.Answers.{bad_digit, offset_of, formed_then, is_sound, reading_at}
+use Rattle.annex.specs.Answers.{bad_digit, offset_of, formed_then, is_sound, reading_at, Fault, Sound, Bad}
 use Rattle.annex.specs.Units.{whole_count}
 use Rattle.annex.specs.Heads.{form_of}
 use Rattle.annex.specs.Digits.{halves, is_code, halves_fault, digits_fault, odd_of, count_of, number_fault_in}
@@ -24,8 +24,6 @@ use Rattle.annex.specs.BadHalves.{good_by}
 use Rattle.annex.specs.declared.HalfOctets.{HalfOctets}
 use Rattle.annex.specs.declared.Alphabet.{Alphabet}
 use Rattle.annex.specs.declared.Alphabet.TheVariants.{Dialled, Decimal}
-use Rattle.annex.specs.declared.Fault.{Fault}
-use Rattle.annex.specs.declared.Fault.TheVariants.{Sound, Bad}
 use Rattle.laws.specs.Firsts.{LiesIn, Shows, fault_shown}
 
 -- a fault of contents of n octets lies in them
@@ -49,9 +47,9 @@ RuleWithin rule = (h : ℕ) (s : List ℕ) → Within (length s) (rule h s)
 -- the offset is 0 or that of an octet
 pub offset_within : (n : ℕ) (f : Fault) → Within n f → offset_of f < 1 + n
 offset_within n Sound w = omega arith
-offset_within n (Bad k i) w = go (w.at k i refl)
+offset_within n (Err r) w = go (w.at r.0 r.1 refl)
   where
-    go : LiesIn n k i → i < 1 + n
+    go : LiesIn n r.0 r.1 → r.1 < 1 + n
     go (inl o) = omega (arith, o.1)
     go (inr l) = omega arith
 

@@ -17,7 +17,7 @@ use Rattle.annex.specs.Orders.{
   parameters_fault,
   row_in,
 }
-use Rattle.annex.specs.declared.Fault.TheVariants.{Sound}
+use Rattle.annex.specs.Answers.{Sound}
 use Rattle.annex.specs.declared.OrderLayout.{OrderLayout}
 use Rattle.annex.specs.declared.OrderLayout.TheVariants.{
   TrunkKind,

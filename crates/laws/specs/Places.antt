@@ -1,8 +1,8 @@
 -- Writing from a place on tells of it what is judged at place 0: no test of writing looks at the place, and a transfer parameter is refused
 -- at its header. What an edit itself is refused for is told at place 0.
-use Rattle.std.specs.Prelude.{ℕ, ◌+◌, ◌≤◌, ◌≡◌, refl, Bool, true, false, not, List, eqb, leb, ltb, length, get_or}
+use Rattle.std.specs.Prelude.{ℕ, ◌+◌, ◌≤◌, ◌≡◌, refl, Bool, true, false, not, List, eqb, leb, ltb, length, get_or, Err}
 use Rattle.std.proofs.Common.{arith, ap}
-use Rattle.annex.specs.Answers.{repeated_name, transfer_over, no_room, absent, refuse, sound_then, header_at}
+use Rattle.annex.specs.Answers.{repeated_name, transfer_over, no_room, absent, refuse, sound_then, header_at, Answer, Accepted, Refused, Fault, Sound}
 use Rattle.annex.specs.Units.{name_of, after_of, extent_of, contents_in}
 use Rattle.annex.specs.Heads.{among, transfer_data, most_transfer_octets, often_of}
 use Rattle.annex.specs.Contents.{fault_of}
@@ -12,16 +12,12 @@ use Rattle.annex.specs.Allowed.{length_right, fault_in, headers_of, items_in, na
 use Rattle.annex.specs.Editing.{Edit, new_header, new_after, new_head, new_contents, edit_refusal, edited, record_editing}
 use Rattle.annex.specs.Editing.Edit.{Replacing, Appending, Removing}
 use Rattle.annex.specs.Writing.{item_writing}
-use Rattle.annex.specs.declared.Answer.{Answer}
-use Rattle.annex.specs.declared.Answer.TheVariants.{Accepted, Refused}
-use Rattle.annex.specs.declared.Fault.{Fault}
-use Rattle.annex.specs.declared.Fault.TheVariants.{Sound, Bad}
 use Rattle.laws.specs.Steps.{head_refuse, PlaceTo, accepted_place, refuse_place, then_place, head_place, sound_place}
 
 -- what was judged at place 0, told of the place s: the place behind what was written, or the place of the refusal
 abbrev pub told_at : ℕ → Answer → Answer
 told_at s (Accepted n) = Accepted (s + n)
-told_at s (Refused k p) = Refused k s
+told_at s (Err r) = Refused r.0 s
 
 pub refuse_told : (s : ℕ) (b : Bool) (k : ℕ) (a c : Answer) → a ≡ told_at s c → refuse b k s a ≡ told_at s (refuse b k 0 c)
 refuse_told s true k a c e = refl
@@ -29,7 +25,7 @@ refuse_told s false k a c e = e
 
 sound_told : (s : ℕ) (f : Fault) (a c : Answer) → a ≡ told_at s c → sound_then (header_at s) f a ≡ told_at s (sound_then (header_at 0) f c)
 sound_told s Sound a c e = e
-sound_told s (Bad k i) a c e = refl
+sound_told s (Err r) a c e = refl
 
 pub item_told : (times s : ℕ) (i : Item) → item_writing times s i ≡ told_at s (item_writing times 0 i)
 unfolding item_writing

@@ -1,7 +1,7 @@
 -- Laws of the parameters of octets by the length rule alone, which the code walks over once a message is accepted: for accepted octets they
 -- are the listed ones.
 use Rattle.std.proofs.Math.Path.{◌≡◌, refl, sym, ap}
-use Rattle.std.proofs.Common.{◌∙◌, length-drop, drop_of_length-le, get_or-drop, drop-cons, drop-drop, length-take-le}
+use Rattle.std.proofs.Common.{◌∙◌, length-drop, drop_of_length-le, get_or-drop, drop-cons, drop-drop, length-take-le, Err}
 use Rattle.std.specs.Prelude.{Bool, not, ◌||◌, leb, length, get_or, take, drop}
 use Rattle.std.proofs.Math.Bool.{true, false, cond}
 use mathlib.Core.List.{List, [], ◌∷◌, map}
@@ -12,7 +12,7 @@ use native.Mathlib.Omega.{arith}
 use borrow.Author.Tests.{leb-true, le-leb, lt-leb}
 use Rattle.std.proofs.Math.Dec.{eqb, ltb}
 use Rattle.annex.specs.Units.{after_of, common_extent_of, contents_in}
-use Rattle.annex.specs.Answers.{over_the_limits}
+use Rattle.annex.specs.Answers.{over_the_limits, Answer, Accepted, Refused}
 use Rattle.annex.specs.Contents.{Rule, fault_of}
 use Rattle.annex.specs.Heads.{end_mark, transfer_data, most_octets}
 use Rattle.annex.specs.Allowed.{Each}
@@ -52,8 +52,6 @@ use Rattle.annex.specs.Reading.{
   common_step_by,
 }
 use Rattle.annex.specs.declared.Extent.{Extent}
-use Rattle.annex.specs.declared.Answer.{Answer}
-use Rattle.annex.specs.declared.Answer.TheVariants.{Accepted, Refused}
 use Rattle.laws.specs.Steps.{passed, transfer_taken, common_taken, common_formed, common_within, data_taken}
 
 module _ (size : Size) where
@@ -178,7 +176,7 @@ module _ (step : Step) (close : Seen → ℕ → Answer) (size : Size)
       go (Accepted n) f e ih =
           let s = sized seen x xs n f in
           rw (← s.0, le-leb n (length xs) s.1) (ap (λ (r : List Par). par_of p x n xs ∷ r) (ih n (p + 1) q e))
-      go (Refused k r) f e ih = absurd (let z : ◌≡◌ {A = ℕ} 0 1 = cc in omega arith)
+      go (Err w) f e ih = absurd (let z : ◌≡◌ {A = ℕ} 0 1 = cc in omega arith)
 
 -- what a step ensures of a parameter that it accepts holds of each that is listed
 pub each_listed : (step : Step) (P : Par → Type 0)
@@ -192,7 +190,7 @@ each_listed step P f (x ∷ xs) seen zero p = go (step seen x xs) refl (λ k. ea
     go : (a : Answer) → step seen x xs ≡ a → ((k : ℕ) → Each P (walk (listing step) (counted seen x) k (p + 1) xs))
         → Each P (by_step a (λ k r. []) (λ n. par_of p x n xs ∷ walk (listing step) (counted seen x) n (p + 1) xs))
     go (Accepted n) e ih = (f seen p x xs n e, ih n)
-    go (Refused k r) e ih = tt
+    go (Err w) e ih = tt
 
 module _ (rule : Rule) where
   pub transfer_sized : (seen : Seen) (h : ℕ) (xs : List ℕ) (n : ℕ) → transfer_step_by rule seen h xs ≡ Accepted n

@@ -1,7 +1,7 @@
 -- Laws of rows: the parameters of accepted octets add up to them. Hence a walk by the length rule never meets a cut parameter, and the
 -- rows from a parameter on are its own, for C5 those inside, and the rows from behind it on.
 use Rattle.std.proofs.Math.Path.{◌≡◌, refl}
-use Rattle.std.specs.Prelude.{Bool, cond, ◌||◌, eqb, ltb, get_or, take, drop}
+use Rattle.std.specs.Prelude.{Bool, cond, ◌||◌, eqb, ltb, get_or, take, drop, Err}
 use Rattle.std.proofs.Math.Bool.{true, false}
 use mathlib.Core.List.{List, [], ◌∷◌, ◌++◌, map}
 use Prim.Native.Nat.{ℕ, zero, suc, ◌+◌, ◌-◌, ◌≤◌, ◌<◌}
@@ -11,23 +11,9 @@ use borrow.Author.Tests.{leb-true}
 use Rattle.std.proofs.Math.Dec.{leb}
 use Rattle.std.proofs.Math.ListN.{length}
 use Rattle.annex.specs.Units.{lead_of, extent_of, common_extent_of}
-use Rattle.annex.specs.Answers.{over_the_limits}
+use Rattle.annex.specs.Answers.{over_the_limits, Answer, Accepted, Refused}
 use Rattle.annex.specs.Heads.{most_octets}
-use Rattle.annex.specs.Walk.{
-  Seen,
-  unseen,
-  counted,
-  Par,
-  Step,
-  by_step,
-  walk,
-  judging,
-  listing,
-  Size,
-  common_size,
-  transfer_size,
-  pars,
-}
+use Rattle.annex.specs.Walk.{Seen, unseen, counted, Par, Step, by_step, walk, judging, listing, Size, common_size, transfer_size, pars}
 use Rattle.annex.specs.Reading.{
   transfer_step,
   transfers_verdict,
@@ -44,8 +30,6 @@ use Rattle.annex.specs.Reading.{
   transfers_by,
 }
 use Rattle.annex.specs.Spans.{par_row, transfer_rows, inner_rows, common_rows, common_rows_by}
-use Rattle.annex.specs.declared.Answer.{Answer}
-use Rattle.annex.specs.declared.Answer.TheVariants.{Accepted, Refused}
 use Rattle.annex.specs.declared.Row.{Row}
 use Rattle.annex.specs.declared.Extent.{Extent}
 use Rattle.annex.specs.Contents.{fault_of}
@@ -89,7 +73,7 @@ module _ (step : Step) (close : Seen → ℕ → Answer)
       go (Accepted n) f e ih =
           let l = inside seen x xs n f in
           rw (length-take-le n xs l) (omega (arith, ih n (p + 1) q l e))
-      go (Refused k r) f e ih = absurd (let z : ◌≡◌ {A = ℕ} 0 1 = cc in omega arith)
+      go (Err w) f e ih = absurd (let z : ◌≡◌ {A = ℕ} 0 1 = cc in omega arith)
 
 -- the parameters of a message add up to it
 commons_sum : (m : List ℕ) (q : ℕ) → verdict_of m ≡ Accepted q → sum_of octets_in (commons_of m) ≡ length m

@@ -1,7 +1,7 @@
 -- Laws of the steps of reading: what an accepted step says, and that its octets, and a refusal's place, lie within what it was handed; and
 -- of 8 and 9 of a header to be written.
 use Rattle.std.proofs.Math.Path.{◌≡◌, refl, sym}
-use Rattle.std.proofs.Common.{ap, ◌∙◌}
+use Rattle.std.proofs.Common.{ap, ◌∙◌, Err}
 use Rattle.std.specs.Prelude.{Bool, true, false, cond, not, ◌||◌, eqb, leb, get_or, take, drop}
 use mathlib.Core.List.{List, [], ◌∷◌}
 use Prim.Native.Nat.{ℕ, zero, suc, ◌+◌, ◌-◌, ◌≤◌, ◌<◌}
@@ -33,6 +33,12 @@ use Rattle.annex.specs.Answers.{
   reading_at,
   and_then,
   shifted,
+  Answer,
+  Accepted,
+  Refused,
+  Fault,
+  Sound,
+  Bad,
 }
 use Rattle.annex.specs.Units.{name_of, after_of, lead_of, extent_of, common_extent_of, contents_in}
 use Rattle.annex.specs.Heads.{among, listed_headers, end_mark, transfer_data, most_octets, name_used, pli_right, often_of}
@@ -54,10 +60,6 @@ use Rattle.annex.specs.Reading.{
   verdict_by,
 }
 use Rattle.annex.specs.Writing.{head_writing}
-use Rattle.annex.specs.declared.Answer.{Answer}
-use Rattle.annex.specs.declared.Answer.TheVariants.{Accepted, Refused}
-use Rattle.annex.specs.declared.Fault.{Fault}
-use Rattle.annex.specs.declared.Fault.TheVariants.{Sound, Bad}
 
 -- ---- answers
 
@@ -73,7 +75,7 @@ passed false k p n a e = (refl, e)
 
 pub then_passed : (a : Answer) (f : ℕ → Answer) (n : ℕ) → and_then a f ≡ Accepted n → (q : ℕ) × (a ≡ Accepted q) × (f q ≡ Accepted n)
 then_passed (Accepted q) f n e = (q, refl, e)
-then_passed (Refused k p) f n e = absurd (let z : ◌≡◌ {A = ℕ} 0 1 = cc in omega arith)
+then_passed (Err r) f n e = absurd (let z : ◌≡◌ {A = ℕ} 0 1 = cc in omega arith)
 
 -- the answer of a listing: what was found, then so many where the room holds them
 pub told_passed : (a : Answer) (room count n : ℕ) → and_then a (λ _. refuse (ltb room count) no_room 0 (Accepted count)) ≡ Accepted n
@@ -88,11 +90,11 @@ told_passed a room count n e =
 pub told_roomy : (a : Answer) (room count : ℕ) → ((q : ℕ) → a ≡ Accepted q → count ≤ room)
     → and_then a (λ _. refuse (ltb room count) no_room 0 (Accepted count)) ≡ and_then a (λ _. Accepted count)
 told_roomy (Accepted q) room count f = rw (le-ltb room count (f q refl))
-told_roomy (Refused k p) room count f = refl
+told_roomy (Err r) room count f = refl
 
 pub sounded : (place : ℕ → ℕ → ℕ) (f : Fault) (n : ℕ) (a : Answer) → sound_then place f a ≡ Accepted n → (f ≡ Sound) × (a ≡ Accepted n)
 sounded place Sound n a e = (refl, e)
-sounded place (Bad k i) n a e = absurd (let z : ◌≡◌ {A = ℕ} 0 1 = cc in omega arith)
+sounded place (Err r) n a e = absurd (let z : ◌≡◌ {A = ℕ} 0 1 = cc in omega arith)
 
 -- 8 and 9 of a header to be written are one refusal, whatever the place and what follows
 pub head_refuse : (h : ℕ) → (b : Bool) × (k : ℕ) × ((p : ℕ) (a : Answer) → head_writing p h a ≡ refuse b k p a)
@@ -130,7 +132,7 @@ pub accepted_place : (l n : ℕ) → PlaceTo l (Accepted n)
 accepted_place l n = record { at = λ k p e. absurd (let z : ◌≡◌ {A = ℕ} 0 1 = cc in omega arith) }
 
 refused_place : (l k p : ℕ) → p ≤ l → PlaceTo l (Refused k p)
-refused_place l k p h = record { at = λ j q e. let same : p ≡ q = cc in omega arith }
+refused_place l k p h = record { at = λ j q e. let same : p ≡ q = ap place_of e in omega arith }
 
 refuse_else : (l : ℕ) (b : Bool) (k p : ℕ) (a : Answer) → p ≤ l → (b ≡ false → PlaceTo l a) → PlaceTo l (refuse b k p a)
 refuse_else l true k p a h g = refused_place l k p h
@@ -141,7 +143,7 @@ refuse_place l b k p a h g = refuse_else l b k p a h (λ _. g)
 
 pub then_place : (l : ℕ) (a : Answer) (f : ℕ → Answer) → PlaceTo l a → ((q : ℕ) → PlaceTo l (f q)) → PlaceTo l (and_then a f)
 then_place l (Accepted q) f g h = h q
-then_place l (Refused k p) f g h = g
+then_place l (Err r) f g h = g
 
 pub head_place : (l p h : ℕ) (a : Answer) → p ≤ l → PlaceTo l a → PlaceTo l (head_writing p h a)
 head_place l p h a i g = let o = head_refuse h in rw (o.2 p a) (refuse_place l o.0 o.1 p a i g)
@@ -150,11 +152,11 @@ head_place l p h a i g = let o = head_refuse h in rw (o.2 p a) (refuse_place l o
 pub sound_place : (l : ℕ) (place : ℕ → ℕ → ℕ) (f : Fault) (a : Answer) → ((k i : ℕ) → f ≡ Bad k i → place k i ≤ l) → PlaceTo l a
     → PlaceTo l (sound_then place f a)
 sound_place l place Sound a h g = g
-sound_place l place (Bad k i) a h g = refused_place l k (place k i) (h k i refl)
+sound_place l place (Err r) a h g = refused_place l r.0 (place r.0 r.1) (h r.0 r.1 refl)
 
 pub place_told : (l : ℕ) (a : Answer) → PlaceTo l a → place_of a ≤ l
 place_told l (Accepted n) g = omega arith
-place_told l (Refused k p) g = g.at k p refl
+place_told l (Err r) g = g.at r.0 r.1 refl
 
 pub place_up : (l m : ℕ) (a : Answer) → l ≤ m → PlaceTo l a → PlaceTo m a
 place_up l m a h g = record { at = λ k p e. omega (arith, g.at k p e) }
@@ -174,7 +176,7 @@ module _ (step : Step) (close : Seen → ℕ → Answer)
           → PlaceTo (p + suc (length xs) + l)
           (by_step a (λ k q. Refused k (p + q)) (λ n. walk (judging step close) (counted seen x) n (p + 1) xs))
       go (Accepted n) e ih = place_up (p + 1 + length xs + l) _ _ (omega arith) (ih n (p + 1))
-      go (Refused k q) e ih = refused_place _ k (p + q) (omega (arith, (placed seen x xs).at k q e))
+      go (Err r) e ih = refused_place _ r.0 (p + r.1) (omega (arith, (placed seen x xs).at r.0 r.1 e))
 
 -- ---- a common parameter
 
@@ -227,7 +229,7 @@ behind_data n xs h = simp (length-drop, length-take) (omega arith)
 
 shifted_place : (l s : ℕ) (a : Answer) → PlaceTo l a → PlaceTo (s + l) (shifted s a)
 shifted_place l s (Accepted n) g = accepted_place (s + l) n
-shifted_place l s (Refused k p) g = refused_place (s + l) k (s + p) (omega (arith, g.at k p refl))
+shifted_place l s (Err r) g = refused_place (s + l) r.0 (s + r.1) (omega (arith, g.at r.0 r.1 refl))
 
 -- C5 by the part behind its length octet
 data_part_lem : (n : ℕ) (xs : List ℕ) → contents_in (common_extent_of transfer_data) (take n xs) ≡ take (n - 1) (drop 1 xs)
@@ -292,7 +294,7 @@ module _ (rule : Rule) where
           → and_then (shifted 2 a) (λ _. Accepted n) ≡ Accepted k
           → (q : ℕ) × (transfers_verdict_by rule (contents_in (common_extent_of transfer_data) (take n xs)) ≡ Accepted q) × (k ≡ n)
       go (Accepted q) f e = (q, f, cc)
-      go (Refused j p) f e = absurd (let z : ◌≡◌ {A = ℕ} 0 1 = cc in omega arith)
+      go (Err r) f e = absurd (let z : ◌≡◌ {A = ℕ} 0 1 = cc in omega arith)
 
   -- an accepted common parameter lies within its octets
   pub common_within : (times : ℕ) (whole : Bool) (h : ℕ) (xs : List ℕ) (n : ℕ) → common_by rule times whole h xs ≡ Accepted n → n ≤ length xs
@@ -315,7 +317,7 @@ module _ (rule : Rule) where
       go : (a : Answer) → common_form times h xs ≡ a → n ≤ length xs
       go (Accepted k) f =
           by_kind (eqb h end_mark) (eqb h transfer_data) k (form_taken times h xs k f).within (sym (common_formed times whole h xs k f) ∙ e)
-      go (Refused k q) f = absurd (let g = common_refused times whole h xs k q f in let z : ◌≡◌ {A = ℕ} 0 1 = cc in omega arith)
+      go (Err r) f = absurd (let g = common_refused times whole h xs r.0 r.1 f in let z : ◌≡◌ {A = ℕ} 0 1 = cc in omega arith)
 
   -- an accepted common parameter has passed 2 to 5
   pub common_taken : (times : ℕ) (whole : Bool) (h : ℕ) (xs : List ℕ) (n : ℕ) → common_by rule times whole h xs ≡ Accepted n
@@ -324,7 +326,7 @@ module _ (rule : Rule) where
     where
       go : (a : Answer) → common_form times h xs ≡ a → (k : ℕ) × FormTaken times h xs k × (common_form times h xs ≡ Accepted k)
       go (Accepted k) f = (k, form_taken times h xs k f, f)
-      go (Refused k q) f = absurd (let g = common_refused times whole h xs k q f in let z : ◌≡◌ {A = ℕ} 0 1 = cc in omega arith)
+      go (Err r) f = absurd (let g = common_refused times whole h xs r.0 r.1 f in let z : ◌≡◌ {A = ℕ} 0 1 = cc in omega arith)
 
 -- ---- places, by a rule whose faults lie within the contents
 
@@ -379,8 +381,8 @@ module _ (rule : Rule) (inside : RuleWithin rule) where
       go : (a : Answer) → common_form times h xs ≡ a → PlaceTo (length xs + 2) (common_by rule times whole h xs)
       go (Accepted n) e =
           rw (common_formed rule times whole h xs n e) (by_kind (eqb h end_mark) (eqb h transfer_data) n (form_taken times h xs n e).within)
-      go (Refused k p) e =
-          rw (common_refused rule times whole h xs k p e) (refused_place _ k p (omega (arith, (form_place times h xs).at k p e)))
+      go (Err r) e =
+          rw (common_refused rule times whole h xs r.0 r.1 e) (refused_place _ r.0 r.1 (omega (arith, (form_place times h xs).at r.0 r.1 e)))
 
   -- no place of a verdict is more than two over the octets that a message may have
   pub verdict_place : (m : List ℕ) → PlaceTo (most_octets + 2) (verdict_by rule m)

@@ -7,7 +7,7 @@ use Prim.Native.Nat.{ℕ, zero, suc, ◌+◌, ◌≤◌, ◌<◌}
 use Rattle.std.proofs.Math.Nat.{add-zero}
 use native.Mathlib.Omega.{arith}
 use Rattle.annex.specs.Walk.{Seen, counted, Walker, walk}
-use Rattle.annex.specs.declared.Answer.TheVariants.{Accepted, Refused}
+use Rattle.annex.specs.Answers.{Accepted, Refused}
 
 module _ {R : Type 0} (r : Walker R) where
   skip : (seen : Seen) (k p : ℕ) (xs : List ℕ) → k ≤ length xs → walk r seen k p xs ≡ walk r seen 0 (p + k) (drop k xs)

@@ -5,7 +5,7 @@
 ghost use Rattle.std.specs.Prelude.{◌≡◌, List, [], ℕ, ◌≤◌, leb, length, get_or};
 ghost use Rattle.annex.specs.Promises.{Gives, Keeps};
 ghost use Rattle.annex.specs.Units.{extent_of};
-ghost use Rattle.annex.specs.Answers.{formed_then};
+ghost use Rattle.annex.specs.Answers.{formed_then, Accepted};
 ghost use Rattle.annex.specs.Items.{holding_by, holding_of, upper_marks, number_contents, contents_by, contents_of};
 ghost use Rattle.annex.specs.declared.Holding.TheVariants.{AsDigits, AsGeneric};
 ghost use Rattle.annex.specs.Layout.{layout_item};
@@ -13,10 +13,11 @@ ghost use Rattle.annex.specs.Allowed.{length_fits, length_right, marks_right, fi
 ghost use Rattle.annex.specs.Records.{raw_item, item_from};
 ghost use Rattle.annex.specs.Writing.{item_writing};
 ghost use Rattle.annex.specs.Memory.{at_front, laid_at, laying};
-ghost use Rattle.annex.specs.declared.Answer.TheVariants.{Accepted};
 ghost use Rattle.heads.specs.Asked.{Asks};
 
-use annex::{Alphabet, Answer, CountingUnit, Extent, Fault, Holding, Marks, Transfer};
+use annex::{
+    Alphabet, Answer, CountingUnit, Extent, Fault, Flaw, Holding, Marks, Refusal, Transfer,
+};
 use digits::packing::{are_digits, pack_digits, packed_len};
 use heads::{Asked, head_number, head_of, often_of};
 use octets::{copy_in, lies_within, octet_at, octets_from};
@@ -24,12 +25,14 @@ use parameter::contents::{at_header, fault_under};
 use parameter::opening::{holding_by, holding_of};
 use units::{extent_of, lead, octets_after};
 
+// A parameter's head, its values and how they are held stay apart, with what ties them a `requires` of each step below: as one struct that
+// has it for a ghost invariant they cost writing a sixth more instructions, which misses its bar (docs/DESIGN-PASS.md).
+
 // How the values are held, by what a look-up says of their header.
 fn held_by(asked: Asked, values: &[u8]) -> Holding
     ensures { result ≡ holding_by asked.form (get_or values.now 0 0) }
 {
-    let form = asked.form;
-    holding_by(form, octet_at(values, 0))
+    holding_by(asked.form, octet_at(values, 0))
 }
 
 // How the values under this header are held.
@@ -55,21 +58,17 @@ fn len_as(held: Holding, t: Transfer, values: &[u8]) -> usize
 pub fn contents_len(t: Transfer, values: &[u8]) -> usize
     ensures { Gives (length (contents_of (item_from t values.now))) result }
 {
-    let held = held_as(t.header, values);
-    len_as(held, t, values)
+    len_as(held_as(t.header, values), t, values)
 }
 
 // Whether contents that are held as they are have the length that the PLI gives.
 fn length_fits(header: u8, s: &[u8]) -> bool
     ensures { result ≡ length_fits (extent_of header) s.now }
 {
-    let e = extent_of(header);
-    match e {
+    match extent_of(header) {
         Extent::Fixed(n) => s.len() == n,
-        Extent::Counted(unit) => match unit {
-            CountingUnit::HalfOctet => s.len() == octets_after(e, octet_at(s, 0)),
-            CountingUnit::Octet => s.len() <= Transfer::MOST_OCTETS,
-        },
+        e @ Extent::Counted(CountingUnit::HalfOctet) => s.len() == octets_after(e, octet_at(s, 0)),
+        Extent::Counted(CountingUnit::Octet) => s.len() <= Transfer::MOST_OCTETS,
     }
 }
 
@@ -81,8 +80,8 @@ fn length_right(held: Holding, t: Transfer, values: &[u8]) -> bool
     match held {
         Holding::AsContents => length_fits(t.header, values),
         Holding::AsDigits(_) => values.len() <= Transfer::MOST_DIGITS,
-        Holding::AsNumber(_) => len_as(held, t, values) <= Transfer::MOST_OCTETS,
-        Holding::AsGeneric => len_as(held, t, values) <= Transfer::MOST_OCTETS,
+        Holding::AsNumber(_) | Holding::AsGeneric => len_as(held, t, values)
+            <= Transfer::MOST_OCTETS,
     }
 }
 
@@ -93,13 +92,7 @@ fn marks_right(marks: Marks, t: Transfer) -> bool
     match marks {
         Marks::Unmarked => true,
         Marks::Notified => t.notification <= 1,
-        Marks::Verified => {
-            if 1 < t.notification {
-                false
-            } else {
-                t.verification <= 1
-            }
-        }
+        Marks::Verified => t.notification <= 1 && t.verification <= 1,
         Marks::Typed => t.dialling <= 3,
     }
 }
@@ -108,64 +101,37 @@ fn marks_right(marks: Marks, t: Transfer) -> bool
 fn fields_right(t: Transfer) -> bool
     ensures { result ≡ fields_right (raw_item t []) }
 {
-    if 127 < t.number_type {
-        return false;
-    }
-    if 1 < t.incomplete {
-        return false;
-    }
-    if 7 < t.plan {
-        return false;
-    }
-    if 3 < t.presentation {
-        return false;
-    }
-    t.screening <= 3
+    t.number_type <= 127
+        && t.incomplete <= 1
+        && t.plan <= 7
+        && t.presentation <= 3
+        && t.screening <= 3
 }
 
 // Whether nothing is told of a number that is withheld.
 fn withheld_right(t: Transfer, digits: &[u8]) -> bool
     ensures { result ≡ withheld_right (raw_item t digits.now) }
 {
-    if t.number_type != 0 {
-        return false;
-    }
-    if t.incomplete != 0 {
-        return false;
-    }
-    if t.plan != 0 {
-        return false;
-    }
-    digits.len() == 0
+    t.number_type == 0 && t.incomplete == 0 && t.plan == 0 && digits.is_empty()
 }
 
 // A number: its fields, and for one that may be withheld, and is, that nothing but its screening is told.
 fn number_right(withholdable: bool, t: Transfer, digits: &[u8]) -> bool
     ensures { result ≡ number_right withholdable (raw_item t digits.now) }
 {
-    if !fields_right(t) {
-        return false;
-    }
-    if !withholdable {
-        return true;
-    }
-    if t.presentation != Transfer::WITHHELD {
-        return true;
-    }
-    withheld_right(t, digits)
+    fields_right(t)
+        && (!withholdable || t.presentation != Transfer::WITHHELD || withheld_right(t, digits))
 }
 
 // Digits and numbers: a mark or field too large for its bits, then a value that is no digit.
 fn fields_fault(good: bool, digits: &[u8]) -> Fault
     ensures { result ≡ formed_then good (values_fault digits.now) }
 {
-    if !good {
-        return Fault::Bad(Answer::BAD_FORM, 0);
-    }
+    Flaw::unless(good)?;
     if are_digits(digits) {
-        Fault::Sound
+        Ok(())
     } else {
-        Fault::Bad(Answer::BAD_DIGIT, 0)
+        Err(Flaw(Refusal::BAD_DIGIT, 0))
     }
 }
 
@@ -176,10 +142,7 @@ fn values_fault(asked: Asked, held: Holding, t: Transfer, values: &[u8]) -> Faul
     ensures { result ≡ fault_as held (raw_item t values.now) }
 {
     match held {
-        Holding::AsContents => {
-            let form = asked.form;
-            fault_under(asked.zeroes, form, values)
-        }
+        Holding::AsContents => fault_under(asked.zeroes, asked.form, values),
         Holding::AsDigits(marks) => fields_fault(marks_right(marks, t), values),
         Holding::AsNumber(withholdable) => fields_fault(
             number_right(withholdable, t, values),
@@ -195,21 +158,17 @@ fn judged(asked: Asked, held: Holding, times: u8, t: Transfer, values: &[u8]) ->
     requires { Asks t.header asked × (held ≡ holding_of t.header (get_or values.now 0 0)) }
     ensures { result ≡ item_writing times 0 (raw_item t values.now) }
 {
-    let header = t.header;
     if !asked.right {
-        return Answer::Refused(head_number(header), 0);
+        return Err(Refusal(head_number(t.header), 0));
     }
-    let most = often_of(header % 64);
-    if most <= times {
-        return Answer::Refused(Answer::REPEATED_NAME, 0);
+    if often_of(t.header % 64) <= times {
+        return Err(Refusal(Refusal::REPEATED_NAME, 0));
     }
     if !length_right(held, t, values) {
-        return Answer::Refused(Answer::CUT_CONTENTS, 0);
+        return Err(Refusal(Refusal::CUT_CONTENTS, 0));
     }
     let f = values_fault(asked, held, t, values);
-    let before = 1 + lead(extent_of(header));
-    let len = before + len_as(held, t, values);
-    at_header(f, len)
+    at_header(f, 1 + lead(extent_of(t.header)) + len_as(held, t, values))
 }
 
 // The parameter's name stood `times` before: 8 to 11 in their order and then its fault, at place 0, or accepted with how many octets it
@@ -220,14 +179,6 @@ pub fn refusal(times: u8, t: Transfer, values: &[u8]) -> Answer
     let asked = head_of(t.header);
     let held = held_by(asked, values);
     judged(asked, held, times, t, values)
-}
-
-// Writes octets at the front of the room.
-fn copy(s: &[u8], room: &mut [u8])
-    requires { length s.now ≤ length room.old }
-    ensures { room.new ≡ at_front s.now room.old }
-{
-    copy_in(room, 0, s);
 }
 
 // The upper marks of a count octet.
@@ -273,9 +224,8 @@ fn put_generic(t: Transfer, values: &[u8], room: &mut [u8])
     requires { length (contents_by AsGeneric (raw_item t values.now)) ≤ length room.old }
     ensures { room.new ≡ at_front (contents_by AsGeneric (raw_item t values.now)) room.old }
 {
-    let digits = octets_from(values, 1);
     room[0] = Transfer::ADDED_CALLING_NUMBER;
-    put_number(t, digits, &mut room[1..]);
+    put_number(t, octets_from(values, 1), &mut room[1..]);
 }
 
 // Writes the contents.
@@ -284,7 +234,9 @@ fn put_contents(held: Holding, t: Transfer, values: &[u8], room: &mut [u8])
     ensures { room.new ≡ at_front (contents_by held (raw_item t values.now)) room.old }
 {
     match held {
-        Holding::AsContents => copy(values, room),
+        Holding::AsContents => {
+            copy_in(room, 0, values);
+        }
         Holding::AsDigits(marks) => put_digits(marks, t, values, room),
         Holding::AsNumber(_) => put_number(t, values, room),
         Holding::AsGeneric => put_generic(t, values, room),
@@ -300,11 +252,10 @@ fn put_whole(held: Holding, t: Transfer, values: &[u8], room: &mut [u8])
     room[0] = t.header;
     if lead(extent_of(t.header)) == 0 {
         put_contents(held, t, values, &mut room[1..]);
-        return;
+    } else {
+        room[1] = (len_as(held, t, values) % 256) as u8;
+        put_contents(held, t, values, &mut room[2..]);
     }
-    let len = len_as(held, t, values);
-    room[1] = (len % 256) as u8;
-    put_contents(held, t, values, &mut room[2..]);
 }
 
 // Whether so much room holds the parameter.
@@ -312,8 +263,7 @@ fn fits_in(held: Holding, t: Transfer, values: &[u8], room: usize) -> bool
     requires { held ≡ holding_of t.header (get_or values.now 0 0) }
     ensures { result ≡ leb (length (layout_item (raw_item t values.now))) room }
 {
-    let before = 1 + lead(extent_of(t.header));
-    lies_within(room, before, len_as(held, t, values))
+    lies_within(room, 1 + lead(extent_of(t.header)), len_as(held, t, values))
 }
 
 // Writes the parameter at the front of the room, each number modulo 256; where the room is too short, nothing.
@@ -321,11 +271,11 @@ pub fn put(t: Transfer, values: &[u8], room: &mut [u8]) -> bool
     ensures { Keeps (laying t values.now room.old) result room.new }
 {
     let held = held_as(t.header, values);
-    if !fits_in(held, t, values, room.len()) {
-        return false;
+    let fits = fits_in(held, t, values, room.len());
+    if fits {
+        put_whole(held, t, values, room);
     }
-    put_whole(held, t, values, room);
-    true
+    fits
 }
 
 // Writes the parameter, which takes `len` octets, from index at on; where the room is too short, nothing.
@@ -333,10 +283,9 @@ fn put_at(held: Holding, t: Transfer, values: &[u8], len: usize, room: &mut [u8]
     requires { (held ≡ holding_of t.header (get_or values.now 0 0)) × (len ≡ length (layout_item (raw_item t values.now))) }
     ensures { room.new ≡ laid_at (Accepted len) (layout_item (raw_item t values.now)) at room.old }
 {
-    if !lies_within(room.len(), at, len) {
-        return;
+    if lies_within(room.len(), at, len) {
+        put_whole(held, t, values, &mut room[at..]);
     }
-    put_whole(held, t, values, &mut room[at..]);
 }
 
 // The parameter's name stood `times` before: the answer of `refusal`, by one look-up of its header; where it is accepted, the parameter is
@@ -348,10 +297,7 @@ pub fn lay(times: u8, t: Transfer, values: &[u8], room: &mut [u8], at: usize) ->
 {
     let asked = head_of(t.header);
     let held = held_by(asked, values);
-    let a = judged(asked, held, times, t, values);
-    let Answer::Accepted(len) = a else {
-        return a;
-    };
+    let len = judged(asked, held, times, t, values)?;
     put_at(held, t, values, len, room, at);
-    Answer::Accepted(len)
+    Ok(len)
 }

@@ -3,9 +3,9 @@ use Prim.Native.Nat.{ℕ, suc, ◌+◌, ◌-◌, ◌≤◌, ◌<◌}
 use native.Mathlib.Omega.{arith}
 use Rattle.std.specs.Prelude.{◌≡◌, Bool, true, false, cond, List, [], ◌∷◌, ◌++◌, map, eqb, length, get_or, take, drop}
 use Rattle.std.proofs.Math.Path.{refl}
-use Rattle.std.proofs.Common.{sym, ap, ◌∙◌, eq-eqb, ne_eqb, length-take, drop_of_length-le, take_all, take-add, get_or-take, length-take-le}
+use Rattle.std.proofs.Common.{sym, ap, ◌∙◌, eq-eqb, ne_eqb, length-take, drop_of_length-le, take_all, take-add, get_or-take, length-take-le, length-drop}
 use Rattle.std.proofs.lemmas.List.{length-map}
-use Rattle.std.proofs.Math.Seq.{take-suc, drop-cons, drop-drop}
+use Rattle.std.proofs.Math.Seq.{take-suc, drop-cons, drop-drop, get_or-drop}
 use Rattle.annex.specs.Heads.{transfer_data, most_commons, most_transfers, most_values}
 use Rattle.annex.specs.Items.{Item, Part}
 use Rattle.annex.specs.Allowed.{own_part, items_in}
@@ -41,9 +41,12 @@ transfer_at q k = get_or q.transfer k no_transfer
 abbrev pub used_at : Record → ℕ → ℕ
 used_at q k = lengths_of (take k q.transfer)
 
--- the values of the transfer parameter at the place k, as a part of a slice has them
+-- the values of the head t behind so many others, as a part of a slice has them; and of the one at the place k
+abbrev pub own_values : Record → Transfer → ℕ → List ℕ
+own_values q t used = take (used + t.len - used) (drop used q.values)
+
 abbrev pub own_at : Record → ℕ → ℕ → List ℕ
-own_at q k used = take (used + (transfer_at q k).len - used) (drop used q.values)
+own_at q k used = own_values q (transfer_at q k) used
 
 -- the n transfer parameters from the place k on
 abbrev pub items_at : Record → ℕ → ℕ → List Item
@@ -132,8 +135,8 @@ module _ (q : Record) where
   unfolding view_items
   items_none k = refl
 
-  pub items_end : (k end : ℕ) → end ≤ k → items_at q k (end - k) ≡ []
-  items_end k end h = let e : end - k ≡ 0 = omega arith in rw e (items_none k)
+  pub items_end : (k n j : ℕ) → n ≤ j → items_at q k (n - j) ≡ []
+  items_end k n j h = let e : n - j ≡ 0 = omega arith in rw e (items_none k)
 
   items_next : (k n : ℕ) → k < length q.transfer
       → items_at q k (suc n) ≡ item_from (transfer_at q k) (take (transfer_at q k).len (drop (used_at q k) q.values)) ∷ items_at q (k + 1) n
@@ -142,16 +145,6 @@ module _ (q : Record) where
       let e : k + 1 ≡ suc k = omega arith in
       rw (used_next k h, e, drop-cons q.transfer k no_transfer h, drop-drop (transfer_at q k).len (used_at q k) q.values)
 
-  -- one of the first n, for a loop that has used so many values before it: its own values, as a part of a slice has them, and those behind
-  -- it
-  pub record Turn (k used : ℕ) : Type 0 where
-    pub place : k < most_transfers
-    pub end : used + (transfer_at q k).len ≤ length q.values
-    pub small : used + (transfer_at q k).len ≤ most_values
-    pub next : used + (transfer_at q k).len ≡ used_at q (k + 1)
-    pub few : length (own_at q k used) ≤ most_values
-    pub items : (end : ℕ) → k < end → items_at q k (end - k) ≡ item_from (transfer_at q k) (own_at q k used) ∷ items_at q (k + 1) (end - (k + 1))
-
   -- fewer of them lie within the arrays too
   pub within_less : (m n : ℕ) → m ≤ n → Within q n → Within q m
   within_less m n h w =
@@ -159,24 +152,53 @@ module _ (q : Record) where
       let l = rw e at (lengths_add m (n - m) q.transfer) in
       record { places = omega (arith, w.places); values = omega (arith, l, w.values) }
 
-  pub turn : (k n used : ℕ) → length q.transfer ≡ most_transfers → length q.values ≡ most_values → Within q n → k < n
-      → used ≡ used_at q k
-      → Turn k used
-  turn k n used l v w h e =
-      let t = transfer_at q k in
+  -- the head t at the place k, for a loop that has used so many values before it, with m left: its own values, and the others, from the
+  -- place k' on
+  pub record Turn (k k' m m' used : ℕ) (t : Transfer) : Type 0 where
+    pub place : k < most_transfers
+    pub end : used + t.len ≤ length q.values
+    pub small : used + t.len ≤ most_values
+    pub next : used + t.len ≡ used_at q k'
+    pub few : length (own_values q t used) ≤ most_values
+    pub items : items_at q k m ≡ item_from t (own_values q t used) ∷ items_at q k' m'
+
+  pub turn : (k k' m m' n used : ℕ) (t : Transfer) → length q.transfer ≡ most_transfers → length q.values ≡ most_values → Within q n → k < n
+      → k' ≡ k + 1 → m ≡ suc m' → used ≡ used_at q k → t ≡ transfer_at q k
+      → Turn k k' m m' used t
+  turn k k' m m' n used t l v w h on more e same =
+      let lens : t.len ≡ (transfer_at q k).len = ap (λ (x : Transfer). x.len) same in
       let next : used + t.len ≡ used_at q (k + 1) = omega (arith, used_next k (omega (arith, w.places))) in
       let few : used + t.len ≤ most_values = omega (arith, (within_less (k + 1) n (omega arith) w).values) in
-      let same : used + t.len - used ≡ t.len = omega arith in
+      let own : used + t.len - used ≡ t.len = omega arith in
       record {
         place = omega (arith, w.places);
         end = omega arith;
         small = few;
-        next = next;
+        next = rw on next;
         few = omega (arith, length-take (used + t.len - used) (drop used q.values));
-        items = λ end o.
-            let more : end - k ≡ suc (end - (k + 1)) = omega arith in
-            rw (more, same, e) (items_next k (end - (k + 1)) (omega (arith, w.places)));
+        items = rw (more, on, own, e, same) (items_next k m' (omega (arith, w.places)));
       }
+
+  -- the n heads from the place `first` on, as a part of a slice has them
+  abbrev pub heads_from : ℕ → ℕ → List Transfer
+  heads_from first n = take (first + n - first) (drop first q.transfer)
+
+  -- the j-th of them
+  pub part_turn : (first n j used : ℕ) (t : Transfer) → length q.transfer ≡ most_transfers → length q.values ≡ most_values
+      → Within q (first + n) → j < length (heads_from first n) → used ≡ used_at q (first + j) → t ≡ get_or (heads_from first n) j no_transfer
+      → Turn (first + j) (first + (j + 1)) (n - j) (n - (j + 1)) used t
+  part_turn first n j used t l v w h e here =
+      let few = length-take (first + n - first) (drop first q.transfer) in
+      turn (first + j) (first + (j + 1)) (n - j) (n - (j + 1)) (first + n) used t l v w (omega arith) (omega arith) (omega arith) e
+      (here ∙ get_or-take (first + n - first) (drop first q.transfer) j no_transfer (omega arith) ∙ get_or-drop first q.transfer j no_transfer)
+
+  -- and past the last of them
+  pub part_end : (first n j k : ℕ) → length q.transfer ≡ most_transfers → Within q (first + n) → length (heads_from first n) ≤ j
+      → items_at q k (n - j) ≡ []
+  part_end first n j k l w h =
+      let some : length (drop first q.transfer) ≡ length q.transfer - first = length-drop first q.transfer in
+      let all : length (heads_from first n) ≡ first + n - first = length-take-le _ _ (omega (arith, w.places)) in
+      items_end k n j (omega arith)
 
   -- ---- the common parameters
 
@@ -199,6 +221,18 @@ module _ (q : Record) where
     pub parts_end : (j : ℕ) → parts_at q k j ≡ []
     unfolding view_parts
     parts_end j = rw commons_end
+
+  -- a loop over the common parameters: the one at the place k, and past the last
+  pub common_here : (k : ℕ) → q.commons ≤ length q.common → k < length (commons_in q)
+      → (k < q.commons) × (get_or (commons_in q) k no_common ≡ common_at q k)
+  common_here k l h =
+      let n : length (commons_in q) ≡ q.commons = length-take-le q.commons q.common l in
+      (omega arith, get_or-take q.commons q.common k no_common (omega arith))
+
+  pub common_over : (k : ℕ) → q.commons ≤ length q.common → length (commons_in q) ≤ k → q.commons ≤ k
+  common_over k l h =
+      let n : length (commons_in q) ≡ q.commons = length-take-le q.commons q.common l in
+      omega arith
 
   module _ (k : ℕ) (h : k < q.commons) (l : q.commons ≤ length q.common) where
     commons_next : drop k (commons_in q) ≡ common_at q k ∷ drop (k + 1) (commons_in q)
@@ -224,25 +258,30 @@ module _ (q : Record) where
           ← drop-drop (lengths_of (take n (drop j q.transfer))) (used_at q j) q.values,
         )
 
-    -- for a loop that has passed j transfer parameters before it: a common parameter that is no C5, and a C5
-    pub record PlainTurn (j : ℕ) : Type 0 where
+    -- for a loop that has passed j transfer parameters before the common parameter c: one that is no C5, and a C5
+    pub record PlainTurn (j : ℕ) (c : Common) : Type 0 where
       pub sum : j + transfers_at q (k + 1) ≡ transfers_sum (commons_in q)
-      pub parts : parts_at q k j ≡ part_from (common_at q k) [] ∷ parts_at q (k + 1) j
+      pub parts : parts_at q k j ≡ part_from c [] ∷ parts_at q (k + 1) j
 
-    pub plain_turn : (j : ℕ) → j + transfers_at q k ≡ transfers_sum (commons_in q) → ((common_at q k).header ≡ transfer_data → ⊥) → PlainTurn j
-    plain_turn j s u =
+    plain_here : (j : ℕ) → j + transfers_at q k ≡ transfers_sum (commons_in q) → ((common_at q k).header ≡ transfer_data → ⊥)
+        → PlainTurn j (common_at q k)
+    plain_here j s u =
         let none : transfer_count (common_at q k) ≡ 0 = rw (ne_eqb (common_at q k).header transfer_data u) in
         let same : j + 0 ≡ j = omega arith in
         record { sum = omega (arith, transfers_next); parts = rw (none, same, items_none j) at (parts_next j) }
 
-    pub record DataTurn (j : ℕ) : Type 0 where
-      pub sum : j + (common_at q k).transfers + transfers_at q (k + 1) ≡ transfers_sum (commons_in q)
-      pub within : Within q (j + (common_at q k).transfers)
-      pub parts : parts_at q k j
-          ≡ part_from (common_at q k) (items_at q j (common_at q k).transfers) ∷ parts_at q (k + 1) (j + (common_at q k).transfers)
+    pub plain_turn : (j : ℕ) (c : Common) → c ≡ common_at q k → j + transfers_at q k ≡ transfers_sum (commons_in q)
+        → (c.header ≡ transfer_data → ⊥) → PlainTurn j c
+    plain_turn j c e s u = rw e (plain_here j s (rw e at u))
 
-    pub data_turn : (j : ℕ) → Whole q → j + transfers_at q k ≡ transfers_sum (commons_in q) → (common_at q k).header ≡ transfer_data → DataTurn j
-    data_turn j w s e =
+    pub record DataTurn (j : ℕ) (c : Common) : Type 0 where
+      pub sum : j + c.transfers + transfers_at q (k + 1) ≡ transfers_sum (commons_in q)
+      pub within : Within q (j + c.transfers)
+      pub parts : parts_at q k j ≡ part_from c (items_at q j c.transfers) ∷ parts_at q (k + 1) (j + c.transfers)
+
+    data_here : (j : ℕ) → Whole q → j + transfers_at q k ≡ transfers_sum (commons_in q) → (common_at q k).header ≡ transfer_data
+        → DataTurn j (common_at q k)
+    data_here j w s e =
         let all : transfer_count (common_at q k) ≡ (common_at q k).transfers = rw (eq-eqb (common_at q k).header transfer_data e) in
         let sum : j + (common_at q k).transfers + transfers_at q (k + 1) ≡ transfers_sum (commons_in q) = omega (arith, transfers_next) in
         record {
@@ -251,3 +290,11 @@ module _ (q : Record) where
               w.within;
           parts = rw all at (parts_next j);
         }
+
+    pub data_turn : (j : ℕ) (c : Common) → c ≡ common_at q k → Whole q → j + transfers_at q k ≡ transfers_sum (commons_in q)
+        → c.header ≡ transfer_data → DataTurn j c
+    data_turn j c same w s e = rw same (data_here j w s (rw same at e))
+
+    pub part_next : (j : ℕ) (c : Common) → c ≡ common_at q k
+        → parts_at q k j ≡ part_from c (items_at q j (transfer_count c)) ∷ parts_at q (k + 1) (j + transfer_count c)
+    part_next j c same = rw same (parts_next j)

@@ -2,7 +2,7 @@
 use Rattle.std.specs.Prelude.{ℕ, suc, ◌+◌, ◌≤◌, ◌≡◌, refl, Bool, true, false, not, ◌&&◌, ◌||◌, List, [], ◌∷◌, leb, ltb, length, take, drop}
 use Rattle.std.proofs.Common.{arith, ap, leb-true, le-ltb, length-take, length-drop}
 use Rattle.std.proofs.lemmas.Bool.{not-false}
-use Rattle.annex.specs.Answers.{over_the_limits, refuse}
+use Rattle.annex.specs.Answers.{over_the_limits, refuse, Refused}
 use Rattle.annex.specs.Heads.{most_commons, most_transfers, most_transfer_octets, most_values}
 use Rattle.annex.specs.Items.{Item, held_as, contents_by, contents_of}
 use Rattle.annex.specs.declared.Holding.{Holding}
@@ -11,7 +11,6 @@ use Rattle.annex.specs.Allowed.{contents_sum}
 use Rattle.annex.specs.Records.{view_items, lengths_of, transfers_sum, view_parts, commons_in, is_whole, view}
 use Rattle.annex.specs.Walk.{unseen}
 use Rattle.annex.specs.Writing.{over_limits, parts_writing, record_writing, struct_writing}
-use Rattle.annex.specs.declared.Answer.TheVariants.{Refused}
 use Rattle.annex.specs.declared.Common.{Common}
 use Rattle.annex.specs.declared.Transfer.{Transfer}
 use Rattle.annex.specs.declared.Record.{Record}

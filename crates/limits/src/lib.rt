@@ -6,7 +6,8 @@ ghost use Rattle.annex.specs.Heads.{most_commons};
 ghost use Rattle.annex.specs.Promises.{Gives};
 ghost use Rattle.annex.specs.Allowed.{contents_sum};
 ghost use Rattle.annex.specs.Writing.{struct_over};
-ghost use Rattle.annex.specs.Records.{lengths_of, transfer_count, transfers_sum, commons_in, is_whole};
+ghost use Rattle.annex.specs.Records.{lengths_of, transfer_count, transfers_sum, commons_in, is_whole, held_from, held_at};
+ghost use Rattle.std.specs.Iterator.{YieldsFirstBy, item_count};
 ghost use Rattle.limits.specs.Along.{items_at, Within};
 
 use annex::{Common, Record, Transfer};
@@ -28,15 +29,10 @@ fn transfers_sum(q: Record) -> usize
     requires { q.commons ≤ most_commons }
     ensures { result ≡ transfers_sum (commons_in q) }
 {
-    let n = q.commons as usize;
-    let mut sum: usize = 0;
-    let mut k: usize = 0;
-    while k < n {
-        let c = q.common[k];
-        sum += transfers_in(c) as usize;
-        k += 1;
-    }
-    sum
+    q.common[..q.commons as usize]
+        .iter()
+        .map(|c| transfers_in(*c) as usize)
+        .sum()
 }
 
 // How many values the first n heads of the array of transfer parameters have together, whatever the record's counts are; all of them where
@@ -44,17 +40,43 @@ fn transfers_sum(q: Record) -> usize
 pub fn values_before(q: Record, n: usize) -> usize
     ensures { Gives (lengths_of (take n q.transfer)) result }
 {
-    let mut sum: usize = 0;
-    let mut k: usize = 0;
-    while k < Transfer::MOST {
-        if n <= k {
-            return sum;
-        }
-        let t = q.transfer[k];
-        sum += t.len as usize;
-        k += 1;
+    q.transfer.iter().take(n).map(|t| t.len as usize).sum()
+}
+
+// Transfer parameters, each with its values.
+#[derive(Drop)]
+pub struct Items<'a> {
+    pub heads: &'a [Transfer],
+    pub values: &'a [u8],
+}
+
+impl<'a> Iterator for Items<'a> {
+    type Item = (Transfer, &'a [u8]);
+
+    ghost next_gives = { YieldsFirstBy (λ x. (x.0, x.1.now)) (λ i. held_from i.heads.now i.values.now) };
+
+    ghost remaining = { item_count (λ i. held_from i.heads.now i.values.now) };
+
+    #[tactic(auto, using(crate::specs::Held::held_first, crate::specs::Held::held_none))]
+    fn next(&mut self) -> Option<(Transfer, &'a [u8])> {
+        let (t, heads) = self.heads.split_first()?;
+        let n = (t.len as usize).min(self.values.len());
+        let (own, values) = self.values.split_at(n);
+        self.heads = heads;
+        self.values = values;
+        Some((*t, own))
     }
-    sum
+}
+
+// The n transfer parameters from index `first` of the array on, or those of them that it has, whatever the record's counts are.
+pub fn items_from(q: &Record, first: usize, n: usize) -> Items<'_>
+    ensures { Gives (held_at q.now first n) (held_from result.heads.now result.values.now) }
+{
+    let heads = q.transfer.get(first..).unwrap_or(&[]);
+    Items {
+        heads: &heads[..n.min(heads.len())],
+        values: q.values.get(values_before(*q, first)..).unwrap_or(&[]),
+    }
 }
 
 // Whether the counts and lengths stay within the arrays.
@@ -65,10 +87,7 @@ fn is_whole(q: Record) -> bool
         return false;
     }
     let n = transfers_sum(q);
-    if Transfer::MOST < n {
-        return false;
-    }
-    values_before(q, n) <= Transfer::MOST_VALUES
+    n <= Transfer::MOST && values_before(q, n) <= Transfer::MOST_VALUES
 }
 
 // How many octets the contents of the first n transfer parameters come to.
@@ -76,16 +95,9 @@ fn contents_sum(q: Record, n: usize) -> usize
     requires { Within q n }
     ensures { result ≡ contents_sum (items_at q 0 n) }
 {
-    let values = q.values;
-    let mut sum: usize = 0;
-    let mut used: usize = 0;
-    let mut k: usize = 0;
-    while k < n {
-        let t = q.transfer[k];
-        let e = used + t.len as usize;
-        sum += contents_len(t, &values[used..e]);
-        used = e;
-        k += 1;
+    let mut sum = 0;
+    for (t, values) in items_from(&q, 0, n) {
+        sum += contents_len(t, values);
     }
     sum
 }
@@ -94,9 +106,5 @@ fn contents_sum(q: Record, n: usize) -> usize
 pub fn over_limits(q: Record) -> bool
     ensures { Gives (struct_over q) result }
 {
-    if !is_whole(q) {
-        return true;
-    }
-    let n = transfers_sum(q);
-    Transfer::MOST_OCTETS < contents_sum(q, n)
+    !is_whole(q) || Transfer::MOST_OCTETS < contents_sum(q, transfers_sum(q))
 }

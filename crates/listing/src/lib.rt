@@ -5,109 +5,56 @@
 ghost use Rattle.annex.specs.Heads.{most_rows};
 ghost use Rattle.annex.specs.Promises.{SpansCheckPromise};
 
-use annex::{Answer, Common, Message, Row, Transfer};
+use annex::{Answer, Common, Message, Refusal, Row};
 use reader::rows::check;
-use std::io;
+use std::{fmt, io};
 use units::{extent_of, lead};
-use walk::cursor::{first, next, row_here};
+use walk::cursor::rows_in;
 
-fn print(rt: &impl Print, text: &[u8]) -> io::Result<()> {
-    rt.write_all(text)
-}
+// Octets in hexadecimal, in upper case; `-` for none.
+#[derive(Clone, Copy)]
+struct Hexadecimal<'a>(&'a [u8]);
 
-fn print_number(rt: &impl Print, n: usize) -> io::Result<()> {
-    print!(rt; "{n}")
-}
-
-// A hexadecimal digit, in upper case.
-fn digit(half: u8) -> u8 {
-    let h = half % 16;
-    if h < 10 { b'0' + h } else { b'A' + (h - 10) }
-}
-
-// Octets in hexadecimal.
-fn print_octets(rt: &impl Print, s: &[u8]) -> io::Result<()> {
-    let mut text = [0u8; 2 * Transfer::MOST_OCTETS];
-    let mut i = 0;
-    while i < s.len() {
-        if Transfer::MOST_OCTETS <= i {
-            break;
+impl fmt::Display for Hexadecimal<'_> {
+    fn fmt<W: fmt::Write>(&self, f: &mut fmt::Formatter<W>) -> fmt::Result {
+        if self.0.is_empty() {
+            return f.write_str("-");
         }
-        let x = s[i];
-        text[2 * i] = digit(x / 16);
-        text[2 * i + 1] = digit(x);
-        i += 1;
+        for octet in self.0 {
+            write!(f, "{octet:02X}")?;
+        }
+        Ok(())
     }
-    print(rt, &text[..2 * i])
 }
 
-// The octets from start on, so many of them, or none where there are fewer.
-fn stretch(m: &[u8], start: usize, len: usize) -> &[u8] {
-    if m.len() < start {
-        return &m[..0];
-    }
-    if m.len() - start < len {
-        return &m[..0];
-    }
-    let end = start + len;
-    &m[start..end]
-}
-
-// Contents in hexadecimal; `-` for none, and for C5, whose rows follow.
-fn print_contents(rt: &impl Print, m: &[u8], row: Row) -> io::Result<()> {
-    if row.len == 0 {
-        return print(rt, b"-");
-    }
+// The contents of a row of the message; none of C5, whose rows follow.
+fn contents(m: &[u8], row: Row) -> Option<&[u8]> {
     if row.header == Common::TRANSFER_DATA {
-        return print(rt, b"-");
+        return None;
     }
+    let behind_header = m.get(row.offset..)?.get(1..)?;
     // the transfer rule serves common parameters too: only C5 has a length octet there
-    let e = extent_of(row.header);
-    let before = if lead(e) == 0 { 1 } else { 2 };
-    let offset = row.offset;
-    if m.len() < offset {
-        return Ok(());
-    }
-    let after = &m[offset..];
-    print_octets(rt, stretch(after, before, row.len))
+    let before = lead(extent_of(row.header));
+    behind_header.get(before..)?.get(..row.len)
 }
 
 fn print_row(rt: &impl Print, m: &[u8], row: Row) -> io::Result<()> {
-    print_number(rt, row.offset)?;
-    print(rt, b" ")?;
-    let header = [row.header];
-    print_octets(rt, &header)?;
-    print(rt, b" ")?;
-    print_number(rt, row.len)?;
-    print(rt, b" ")?;
-    print_contents(rt, m, row)?;
-    print(rt, b"\n")
+    let shown = Hexadecimal(contents(m, row).unwrap_or(b""));
+    println!(rt; "{} {:02X} {} {}", row.offset, row.header, row.len, shown)
 }
 
-fn print_refusal(rt: &impl Print, number: u8, place: usize) -> io::Result<()> {
-    print(rt, b"REFUSED ")?;
-    print_number(rt, number as usize)?;
-    print(rt, b" ")?;
-    print_number(rt, place)?;
-    print(rt, b"\n")
-}
-
-fn print_rows(rt: &impl Print, m: &[u8], n: usize) -> io::Result<()> {
-    print(rt, b"OFFSET HEAD LEN CONTENTS\n")?;
-    let mut c = first();
-    let mut k = 0;
-    while k < n {
-        print_row(rt, m, row_here(m, c))?;
-        c = next(m, c);
-        k += 1;
+fn print_rows(rt: &impl Print, m: &[u8]) -> io::Result<()> {
+    println!(rt; "OFFSET HEAD LEN CONTENTS")?;
+    for row in rows_in(m) {
+        print_row(rt, m, row)?;
     }
     Ok(())
 }
 
 fn print_answer(rt: &impl Print, m: &[u8], a: Answer) -> io::Result<()> {
     match a {
-        Answer::Accepted(n) => print_rows(rt, m, n),
-        Answer::Refused(number, place) => print_refusal(rt, number, place),
+        Ok(_) => print_rows(rt, m),
+        Err(Refusal(number, place)) => println!(rt; "REFUSED {number} {place}"),
     }
 }
 

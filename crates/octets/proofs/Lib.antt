@@ -1,3 +1,3 @@
 -- What the proofs of several functions share.
-pub mod Turns
+pub mod Puts
 pub mod Steps

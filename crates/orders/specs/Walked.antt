@@ -2,7 +2,7 @@
 use Rattle.std.specs.Prelude.{ℕ, zero, suc, ◌+◌, ◌-◌, ◌≤◌, ◌<◌, ◌≡◌, refl, Bool, true, false, cond, not, ◌&&◌, ◌||◌, List, [], ◌∷◌, eqb, leb, ltb, length, get_or, set, take, drop, replicate}
 use Rattle.std.proofs.Common.{arith, sym, ap, ◌∙◌, le-leb, leb-true, leb-false, eqb-true, ltb-true, length-drop, length-set, drop_of_length-le, get_or-drop, drop-drop, get_or-set_same, get_or-set_other}
 use Rattle.std.proofs.lemmas.Bool.{lt-leb, eqb-false}
-use Rattle.annex.specs.Answers.{bad_form, wrong_order, formed_then, fault_then}
+use Rattle.annex.specs.Answers.{bad_form, wrong_order, formed_then, fault_then, Fault, Sound, Bad}
 use Rattle.annex.specs.Heads.{among}
 use Rattle.annex.specs.Orders.{
   order_forms,
@@ -17,8 +17,6 @@ use Rattle.annex.specs.Orders.{
   parameters_fault,
   order_fault,
 }
-use Rattle.annex.specs.declared.Fault.{Fault}
-use Rattle.annex.specs.declared.Fault.TheVariants.{Sound, Bad}
 use Rattle.annex.specs.declared.OrderLayout.{OrderLayout}
 use Rattle.laws.specs.Below.{same_below}
 use Rattle.laws.specs.Faults.{then_sound}

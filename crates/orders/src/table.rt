@@ -28,13 +28,15 @@ fn row(place: usize, layout: OrderLayout, forms: u64) -> Asked
     ensures { result ≡ asking place layout forms }
 {
     Asked {
-        place: place,
-        layout: layout,
-        forms: forms,
+        place,
+        layout,
+        forms,
     }
 }
 
 // The table of parameters. A header that is not in it may stand under no form.
+// Not an Option: the definition has a row for such a header too, and `order_size` asks for its layout.
+#[tactic(auto, unfolding(annex::specs::Orders::forms_of, annex::specs::Orders::layout_of))]
 pub fn asked_of(header: u8) -> Asked
     ensures { Gives (asked_of header) result }
 {
@@ -60,14 +62,10 @@ pub fn asked_of(header: u8) -> Asked
 pub fn has_form(forms: u64, form: u8) -> bool
     ensures { Gives (has_bit forms form) result }
 {
-    if form < FIRST_FORM {
+    let Some(bit) = form.checked_sub(FIRST_FORM) else {
         return false;
-    }
-    let bit = form - FIRST_FORM;
-    if FORM_BITS <= bit {
-        return false;
-    }
-    (forms >> bit as u64) % 2 == 1
+    };
+    bit < FORM_BITS && (forms >> bit as u64) % 2 == 1
 }
 
 // Whether a form is listed.

@@ -17,27 +17,20 @@ pub fn holding_by(form: Form, first: u8) -> Holding
     ensures { Gives (holding_by form first) result }
 {
     match form {
-        Form::Checked(_) => Holding::AsContents,
         Form::Digits(marks) => Holding::AsDigits(marks),
         Form::Number => Holding::AsNumber(false),
         Form::Calling => Holding::AsNumber(true),
-        Form::Generic => {
-            if first == Transfer::ADDED_CALLING_NUMBER {
-                Holding::AsGeneric
-            } else {
-                Holding::AsContents
-            }
-        }
+        Form::Generic if first == Transfer::ADDED_CALLING_NUMBER => Holding::AsGeneric,
+        Form::Checked(_) | Form::Generic => Holding::AsContents,
     }
 }
 
 // How the values under this header are held.
+#[tactic(auto, unfolding(annex::specs::Items::holding_of))]
 pub fn holding_of(header: u8, first: u8) -> Holding
     ensures { Gives (holding_of header first) result }
 {
-    let asked = head_of(header);
-    let form = asked.form;
-    holding_by(form, first)
+    holding_by(head_of(header).form, first)
 }
 
 // The head of `len` digits, with the upper two bits of their count octet.
@@ -117,12 +110,12 @@ fn open_generic(header: u8, s: &[u8], values: &mut [u8], used: usize) -> Transfe
 
 // The head of the parameter with this header and contents. Its values go into `values` after the used ones; where they have no room, the
 // head is empty and nothing is stored.
+#[tactic(auto, unfolding(annex::specs::Items::item_of))]
 pub fn open(header: u8, contents: &[u8], values: &mut [u8], used: usize) -> Transfer
     ensures head { Gives (opened_head header contents.now used values.old) result }
     ensures put { Gives (opened_values header contents.now used values.old) values.new }
 {
-    let held = holding_of(header, octet_at(contents, 0));
-    match held {
+    match holding_of(header, octet_at(contents, 0)) {
         Holding::AsContents => open_contents(header, contents, values, used),
         Holding::AsDigits(marks) => open_digits(marks, header, contents, values, used),
         Holding::AsNumber(_) => open_number(header, contents, values, used),

@@ -2,13 +2,12 @@
 // its octet, every other number at the header.
 ghost use Rattle.std.specs.Prelude.{◌≡◌, ◌+◌, ◌^◌, ◌<◌};
 ghost use Rattle.annex.specs.Promises.{Gives};
-ghost use Rattle.annex.specs.Answers.{offset_of, sound_then, reading_at};
-ghost use Rattle.annex.specs.declared.Answer.TheVariants.{Accepted};
+ghost use Rattle.annex.specs.Answers.{offset_of, sound_then, reading_at, Accepted};
 ghost use Rattle.annex.specs.Reading.{transfer_of};
 ghost use Rattle.heads.specs.Asked.{Asks};
 
 use crate::contents::fault_under;
-use annex::{Answer, Fault};
+use annex::{Answer, Fault, Flaw, Refusal};
 use heads::{Asked, head_number, head_of, often_of};
 use octets::octet_at;
 use units::after_header;
@@ -20,14 +19,9 @@ fn at_octet(f: Fault, start: usize, n: usize) -> Answer
     ensures { result ≡ sound_then (reading_at start) f (Accepted n) }
 {
     match f {
-        Fault::Sound => Answer::Accepted(n),
-        Fault::Bad(k, i) => {
-            if k == Answer::BAD_DIGIT {
-                Answer::Refused(k, start + i)
-            } else {
-                Answer::Refused(k, 0)
-            }
-        }
+        Ok(()) => Ok(n),
+        Err(Flaw(Refusal::BAD_DIGIT, i)) => Err(Refusal(Refusal::BAD_DIGIT, start + i)),
+        Err(Flaw(k, _)) => Err(Refusal(k, 0)),
     }
 }
 
@@ -38,28 +32,22 @@ fn judged(asked: Asked, times: u8, header: u8, xs: &[u8]) -> Answer
     ensures { result ≡ transfer_of times header xs.now }
 {
     if !asked.right {
-        return Answer::Refused(head_number(header), 0);
+        return Err(Refusal(head_number(header), 0));
     }
-    let most = often_of(header % 64);
-    if most <= times {
-        return Answer::Refused(Answer::REPEATED_NAME, 0);
+    if often_of(header % 64) <= times {
+        return Err(Refusal(Refusal::REPEATED_NAME, 0));
     }
     let after = after_header(header, octet_at(xs, 0));
-    let n = after.octets;
-    if xs.len() < n {
-        return Answer::Refused(Answer::CUT_CONTENTS, 0);
+    if xs.len() < after.octets {
+        return Err(Refusal(Refusal::CUT_CONTENTS, 0));
     }
-    let lead = after.lead;
-    let form = asked.form;
-    let f = fault_under(asked.zeroes, form, &xs[lead..n]);
-    let start = 1 + lead;
-    at_octet(f, start, n)
+    let f = fault_under(asked.zeroes, asked.form, &xs[after.lead..after.octets]);
+    at_octet(f, 1 + after.lead, after.octets)
 }
 
 // What refuses a parameter whose name stood `times` before, or how many of the octets xs after its header are its own.
 pub fn transfer(times: u8, header: u8, xs: &[u8]) -> Answer
     ensures { Gives (transfer_of times header xs.now) result }
 {
-    let asked = head_of(header);
-    judged(asked, times, header, xs)
+    judged(head_of(header), times, header, xs)
 }

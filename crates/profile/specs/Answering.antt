@@ -1,5 +1,5 @@
 -- The answers by the profile, with what lent octets then hold, of the steps that the code takes.
-use Rattle.std.specs.Prelude.{ℕ, ◌+◌, ◌-◌, ◌≤◌, ◌<◌, ◌≡◌, Bool, not, List, ◌++◌, ltb, take, drop}
+use Rattle.std.specs.Prelude.{ℕ, ◌+◌, ◌-◌, ◌≤◌, ◌<◌, ◌≡◌, Bool, not, List, ◌++◌, ltb, take, drop, Err}
 use native.Mathlib.Omega.{arith}
 use Rattle.std.proofs.Math.Path.{refl, sym, ap}
 use Rattle.std.proofs.Common.{◌∙◌, length-take-le}
@@ -7,7 +7,7 @@ use Rattle.std.proofs.Math.Bool.{true, false}
 use borrow.Author.Tests.{leb-true, leb-false, lt-ltb, le-ltb}
 use Rattle.std.proofs.Math.ListN.{length}
 use Rattle.std.proofs.Math.Seq.{take_at}
-use Rattle.annex.specs.Answers.{over_the_limits, outside_profile, no_room, given_of, refuse, and_then, room_after}
+use Rattle.annex.specs.Answers.{over_the_limits, outside_profile, no_room, given_of, refuse, and_then, room_after, Answer, Accepted, Refused}
 use Rattle.annex.specs.Heads.{most_octets}
 use Rattle.annex.specs.Layout.{layout}
 use Rattle.annex.specs.Allowed.{every, is_octet, Held}
@@ -26,8 +26,6 @@ use Rattle.annex.specs.Promises.{
   Keeps,
 }
 use Rattle.annex.specs.Memory.{put, copying}
-use Rattle.annex.specs.declared.Answer.{Answer}
-use Rattle.annex.specs.declared.Answer.TheVariants.{Accepted, Refused}
 use Rattle.annex.specs.declared.Record.{Record}
 use Rattle.laws.specs.Steps.{passed, then_passed}
 use Rattle.theorems.specs.Layouts.{laid_then_read}
@@ -74,12 +72,12 @@ handing m room =
 -- what writing gave in a draft, handed out: refused, or the message at the draft's front
 abbrev pub handing_by : Answer → List ℕ → ℕ → Answer
 handing_by (Accepted n) d room = handing (take n d) room
-handing_by (Refused k p) d room = Refused k p
+handing_by (Err r) d room = Err r
 
 -- a message has an octet at least, and lies within the draft
 abbrev pub Within : Answer → ℕ → Type 0
 Within (Accepted n) l = (0 < n) × (n ≤ l)
-Within (Refused k p) l = Unit {0}
+Within (Err r) l = Unit {0}
 
 abbrev pub HandsOut : Answer → List ℕ → List ℕ → Answer → List ℕ → Type 0
 HandsOut a d room r now =
@@ -148,7 +146,7 @@ module _ (s : Record) (h : Held (view s)) where
   draft_refused : (k p room : ℕ) (a : Answer) → struct_writing s ≡ a
       → and_then a (λ n. refuse (ltb most_octets n) no_room 0 (Accepted n)) ≡ Refused k p
       → and_then (profiled (view s) a) (λ n. refuse (ltb room n) no_room 0 (Accepted n)) ≡ Refused k p
-  draft_refused k p room (Refused j q) f g = g
+  draft_refused k p room (Err r) f g = g
   draft_refused k p room (Accepted n) f g =
       let t = rw (le-ltb most_octets n (drafted_so n f).few) at g in
       absurd (let z : ◌≡◌ {A = ℕ} 0 1 = cc in omega arith)
@@ -161,13 +159,13 @@ module _ (s : Record) (h : Held (view s)) where
       let h = drafted_handed n g (length room) in
       let t = take_at (layout (view s)) (drop n d) n (sym g.length-given) in
       (rw t h, rw (t, h))
-  draft_handed d room (Refused k p) e =
-      let q = draft_refused k p (length room) (struct_writing s) refl e in
+  draft_handed d room (Err r) e =
+      let q = draft_refused r.0 r.1 (length room) (struct_writing s) refl e in
       (q, rw q)
 
   draft_within : (w : Answer) → writing_of s most_octets ≡ w → Within w most_octets
   draft_within (Accepted n) e = ((drafted n e).some, (drafted n e).few)
-  draft_within (Refused k p) e = tt
+  draft_within (Err r) e = tt
 
 -- the same of what a call answered and left in a draft of 272 octets: of a struct, and of an image
 module _ (d : List ℕ) (l : length d ≡ most_octets) (a : Answer) (left : List ℕ) where
@@ -191,7 +189,7 @@ module _ (d : List ℕ) (l : length d ≡ most_octets) (a : Answer) (left image 
     where
       go : (b : Answer) → Within (and_then b (λ _. writing_of (imaged_of image).held (length d))) most_octets
       go (Accepted n) = write_within d l _ _ (imaged_of image).held (image_view_held image o) (refl, refl)
-      go (Refused k j) = tt
+      go (Err r) = tt
 
   pub image_handed : (room : List ℕ) (r : Answer) (now : List ℕ) → HandsOut a left room r now → ProfileImageWritePromise image room r now
   unfolding image_writing image_written written_of profile_image_writing profile_image_written profile_written
@@ -202,4 +200,4 @@ module _ (d : List ℕ) (l : length d ≡ most_octets) (a : Answer) (left image 
           → let g = and_then b (λ _. profile_writing (imaged_of image).held (length room)) in
           (r ≡ g) × (now ≡ room_after g (layout (view (imaged_of image).held)) room)
       go (Accepted n) f = write_handed d l _ _ (imaged_of image).held (image_view_held image o) (refl, refl) room r now f
-      go (Refused k j) f = f
+      go (Err r) f = f

@@ -28,13 +28,11 @@ use Rattle.annex.specs.Profile.{
   is_in_profile,
   values_under,
 }
-use Rattle.annex.specs.declared.Answer.TheVariants.{Accepted}
+use Rattle.annex.specs.Answers.{Accepted, Found, At, Nowhere}
 use Rattle.annex.specs.declared.Check.TheVariants.{Nothing}
 use Rattle.annex.specs.declared.Form.TheVariants.{Checked}
 use Rattle.annex.specs.declared.Network.{Network}
 use Rattle.annex.specs.declared.Network.TheVariants.{Other, Phs, Mobile}
-use Rattle.annex.specs.declared.Found.{Found}
-use Rattle.annex.specs.declared.Found.TheVariants.{At, Nowhere}
 use Rattle.laws.specs.Finding.{common_plain_lem, transfer_plain_lem}
 use Rattle.theorems.specs.Messages.{read_then_laid}
 use Rattle.theorems.specs.Places.{is_found}

@@ -96,46 +96,46 @@ right_none s i h l = few_right (drop i s) (omega (arith, length-drop i s)) ∙ g
 
 -- ---- the pairs put into six places
 
--- the first k of them stand there, and the others come from i on
-pub record Opening (s : List ℕ) (class : List AddedClass) (k i : ℕ) : Type 0 where
+-- the first k of them stand there, and the others are left
+pub record Opening (s : List ℕ) (class : List AddedClass) (k : ℕ) (rest : List ℕ) : Type 0 where
   pub done : List AddedClass
   pub held : class ≡ sets (replicate most_classes no_class) 0 done
-  pub whole : done ++ pairs_in (drop i s) ≡ pairs_in s
+  pub whole : done ++ pairs_in rest ≡ pairs_in s
   pub count : length done ≡ k
-  pub at : i ≡ 2 * k
+  pub even : length rest % 2 ≡ 0
 
-pub opening_first : (s : List ℕ) → Opening s (replicate most_classes no_class) 0 0
-opening_first s = record { done = []; held = refl; whole = refl; count = refl; at = refl }
+pub opening_first : (s : List ℕ) → pairs_right s ≡ true → Opening s (replicate most_classes no_class) 0 s
+opening_first s r =
+    let even = eqb-true (length s % 2) 0 (and_left (eqb (length s % 2) 0) (names_right (pairs_in s)) r) in
+    record { done = []; held = refl; whole = refl; count = refl; even = even }
 
-module _ (s : List ℕ) (class : List AddedClass) (k i : ℕ) (o : Opening s class k i) (r : pairs_right s ≡ true) where
-  even : length s % 2 ≡ 0
-  even = eqb-true (length s % 2) 0 (and_left (eqb (length s % 2) 0) (names_right (pairs_in s)) r)
-
-  -- an octet is left: then two are, and a place for their pair
-  pub pair_left : i < length s → (i + 1 < length s) × (k < most_classes)
+module _ (s : List ℕ) (class : List AddedClass) (k : ℕ) (rest : List ℕ) (o : Opening s class k rest) (r : pairs_right s ≡ true) where
+  -- a pair is left: then so is a place for it
+  pub pair_left : 2 ≤ length rest → k < most_classes
   pair_left l =
-      let two : i + 1 < length s = omega (arith, even, o.at) in
-      let long : length o.done + suc (length (pairs_in (drop (i + 2) s))) ≡ length (pairs_in s) =
-      sym (length-append o.done (named_class (get_or s i 0) (get_or s (i + 1) 0) ∷ pairs_in (drop (i + 2) s)))
-      ∙ rw (← pair_next s i two) (ap length o.whole) in
-      (two, omega (arith, o.count, classes_few s r))
+      let two : 0 + 1 < length rest = omega arith in
+      let long : length o.done + suc (length (pairs_in (drop 2 rest))) ≡ length (pairs_in s) =
+      sym (length-append o.done (named_class (get_or rest 0 0) (get_or rest 1 0) ∷ pairs_in (drop 2 rest)))
+      ∙ rw (← pair_next rest 0 two) (ap length o.whole) in
+      omega (arith, o.count, classes_few s r)
 
-  pub opening_next : i < length s → Opening s (set class k (named_class (get_or s i 0) (get_or s (i + 1) 0))) (k + 1) (i + 2)
+  pub opening_next : 2 ≤ length rest → Opening s (set class k (named_class (get_or rest 0 0) (get_or rest 1 0))) (k + 1) (drop 2 rest)
   opening_next l =
-      let c = named_class (get_or s i 0) (get_or s (i + 1) 0) in
+      let c = named_class (get_or rest 0 0) (get_or rest 1 0) in
       let z = replicate most_classes no_class in
       let e : 0 + length o.done ≡ k = omega (arith, o.count) in
+      let two : 0 + 1 < length rest = omega arith in
       record {
         done = o.done ++ (c ∷ []);
         held = rw o.held (rw e at (sym (sets-append o.done (c ∷ []) z 0)));
-        whole = append_assoc o.done (c ∷ []) _ ∙ rw (← pair_next s i (pair_left l).0) o.whole;
+        whole = append_assoc o.done (c ∷ []) _ ∙ rw (← pair_next rest 0 two) o.whole;
         count = length-append o.done (c ∷ []) ∙ omega (arith, o.count);
-        at = omega (arith, o.at);
+        even = omega (arith, o.even, length-drop 2 rest);
       }
 
   -- none is left
-  pub opening_done : length s ≤ i → (class ≡ pad most_classes no_class (pairs_in s)) × (k ≡ length (pairs_in s))
+  pub opening_done : length rest < 2 → (class ≡ pad most_classes no_class (pairs_in s)) × (k ≡ length (pairs_in s))
   opening_done l =
-      let all : o.done ≡ pairs_in s = sym (append-nil o.done) ∙ rw (pair_none s i (omega arith)) at o.whole in
+      let all : o.done ≡ pairs_in s = sym (append-nil o.done) ∙ rw (pair_none rest 0 (omega arith)) at o.whole in
       let few = classes_few s r in
       (o.held ∙ rw all (sets-pad most_classes no_class (pairs_in s) few), sym o.count ∙ ap length all)

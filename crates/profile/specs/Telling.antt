@@ -1,11 +1,11 @@
 -- What is told of a message that the profile takes: its record, its network and the pairs of its D6, as the code finds them.
-use Rattle.std.specs.Prelude.{ℕ, ◌%◌, ◌≤◌, ◌<◌, ◌≡◌, false, ◌&&◌, ◌||◌, List, [], ◌++◌, length, drop}
+use Rattle.std.specs.Prelude.{ℕ, ◌%◌, ◌≤◌, ◌<◌, ◌≡◌, false, ◌&&◌, ◌||◌, List, [], ◌++◌, length, drop, Err}
 use Rattle.std.proofs.Common.{arith, sym, ap, ◌∙◌}
 use Rattle.std.proofs.Math.Path.{refl}
 use Rattle.std.proofs.Math.Bool.{true, cond}
 use borrow.Author.Tests.{eqb-true, lt-ltb, le-ltb}
 use Rattle.std.proofs.Math.Dec.{eqb}
-use Rattle.annex.specs.Answers.{no_room, absent, and_then, room_after}
+use Rattle.annex.specs.Answers.{no_room, absent, and_then, room_after, Answer, Accepted, Refused}
 use Rattle.annex.specs.Allowed.{every, is_octet}
 use Rattle.annex.specs.Reading.{verdict_of, record_of}
 use Rattle.annex.specs.Records.{pack, read_by, reading_of}
@@ -30,8 +30,6 @@ use Rattle.annex.specs.Profile.{
 use Rattle.annex.specs.Image.{image_of}
 use Rattle.annex.specs.Packed.{image_reading, image_read, profile_image_reading, profile_image_read}
 use Rattle.annex.specs.Promises.{ProfileReadPromise, ImageReadPromise, ProfileImageReadPromise, ClassesPromise}
-use Rattle.annex.specs.declared.Answer.{Answer}
-use Rattle.annex.specs.declared.Answer.TheVariants.{Accepted, Refused}
 use Rattle.annex.specs.declared.Profile.{Profile}
 use Rattle.annex.specs.declared.ProfileReading.{ProfileReading}
 use Rattle.annex.specs.declared.Reading.{Reading}
@@ -82,7 +80,7 @@ module _ (m : List ℕ) (o : every is_octet m ≡ true) where
     where
       go : (a : Answer) → ((n : ℕ) → a ≡ Accepted n → ⊥) → refused_with a ≡ profile_by a (record_of m)
       go (Accepted n) f = absurd (f n refl)
-      go (Refused j p) f = refl
+      go (Err r) f = refl
 
   pub image_outside : keeps_plain m ≡ false → (room : List ℕ) → ProfileImageReadPromise m room (profile_verdict m) room
   unfolding profile_image_reading profile_image_read
@@ -91,7 +89,7 @@ module _ (m : List ℕ) (o : every is_octet m ≡ true) where
       go : (a : Answer) → ((n : ℕ) → a ≡ Accepted n → ⊥) → let b = and_then a (λ _. image_reading m (length room)) in
           (a ≡ b) × (room ≡ room_after b (image_of (record_of m)) room)
       go (Accepted n) f = absurd (f n refl)
-      go (Refused j p) f = (refl, refl)
+      go (Err r) f = (refl, refl)
 
   -- and what keeps it is refused where reading refuses it
   module _ (k : keeps_plain m ≡ true) where
@@ -112,7 +110,7 @@ module _ (m : List ℕ) (o : every is_octet m ≡ true) where
       where
         go : (a : Answer) → verdict_of m ≡ a → ProfileImageReadPromise m room r now
         go (Accepted n) e = let t = kept_taken n e in (q.0 ∙ rw t, q.1 ∙ rw t)
-        go (Refused j p) e = let t = passed_on j p e in (q.0 ∙ rw (e, t), q.1 ∙ rw (e, t))
+        go (Err r) e = let t = passed_on r.0 r.1 e in (q.0 ∙ rw (e, t), q.1 ∙ rw (e, t))
 
 -- reading answers with the verdict
 pub reading_verdict : (m : List ℕ) (r : Reading) → r ≡ reading_of m → r.answer ≡ verdict_of m
@@ -121,7 +119,7 @@ reading_verdict m r e = ap (λ (x : Reading). x.answer) e ∙ go (verdict_of m)
   where
     go : (a : Answer) → (read_by a (record_of m)).answer ≡ a
     go (Accepted n) = refl
-    go (Refused k p) = refl
+    go (Err r) = refl
 
 -- ---- taken
 

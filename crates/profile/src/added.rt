@@ -10,27 +10,27 @@ use annex::AddedClass;
 fn is_defined(name: u8) -> bool
     ensures { result ≡ among name class_names }
 {
-    match name {
+    matches!(
+        name,
         AddedClass::LONG_DISTANCE_1
-        | AddedClass::LONG_DISTANCE_2
-        | AddedClass::MOBILE_3
-        | AddedClass::MOBILE_2
-        | AddedClass::MOBILE_1
-        | AddedClass::FIXED_1 => true,
-        _ => false,
-    }
+            | AddedClass::LONG_DISTANCE_2
+            | AddedClass::MOBILE_3
+            | AddedClass::MOBILE_2
+            | AddedClass::MOBILE_1
+            | AddedClass::FIXED_1
+    )
 }
 
 // Whether one of the pairs has the name.
 fn is_named(name: u8, s: &[u8]) -> bool
     ensures { result ≡ among name (names_in s.now) }
 {
-    let mut i: usize = 0;
-    while i + 1 < s.len() {
-        if s[i] == name {
+    let mut rest = s;
+    while let [other, _, behind @ ..] = rest {
+        if *other == name {
             return true;
         }
-        i += AddedClass::OCTETS;
+        rest = behind;
     }
     false
 }
@@ -39,16 +39,12 @@ fn is_named(name: u8, s: &[u8]) -> bool
 pub fn pairs_right(s: &[u8]) -> bool
     ensures { result ≡ pairs_right s.now }
 {
-    let mut i: usize = 0;
-    while i + 1 < s.len() {
-        let name = s[i];
-        if !is_defined(name) {
+    let mut rest = s;
+    while let [name, _, behind @ ..] = rest {
+        if !is_defined(*name) || is_named(*name, behind) {
             return false;
         }
-        i += AddedClass::OCTETS;
-        if is_named(name, &s[i..]) {
-            return false;
-        }
+        rest = behind;
     }
-    i == s.len()
+    rest.is_empty()
 }

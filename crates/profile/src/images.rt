@@ -3,7 +3,7 @@ ghost use Rattle.annex.specs.Promises.{ProfileImageReadPromise, ClassesPromise};
 
 use crate::keeping::{contents, keeps, stands};
 use crate::verdict::profile_verdict;
-use annex::{Answer, Transfer};
+use annex::{Answer, Refusal, Transfer};
 use octets::copy_in;
 
 // The record of a message that keeps the profile, as its image at the front of the lent octets: how many octets it has. A refusal leaves
@@ -23,16 +23,13 @@ pub fn read_image(m: &[u8], image: &mut [u8]) -> Answer
 pub fn added_classes(m: &[u8], out: &mut [u8]) -> Answer
     ensures { ClassesPromise m.now out.old result out.new }
 {
-    let a = profile_verdict(m);
-    let Answer::Accepted(_) = a else {
-        return a;
-    };
+    profile_verdict(m)?;
     if !stands(m, Transfer::ADDED_USER_CLASS) {
-        return Answer::Refused(Answer::ABSENT, 0);
+        return Err(Refusal(Refusal::ABSENT, 0));
     }
     let pairs = contents(m, Transfer::ADDED_USER_CLASS);
     if !copy_in(out, 0, pairs) {
-        return Answer::Refused(Answer::NO_ROOM, 0);
+        return Err(Refusal(Refusal::NO_ROOM, 0));
     }
-    Answer::Accepted(pairs.len())
+    Ok(pairs.len())
 }

@@ -21,18 +21,14 @@ fn sought(m: &[u8], header: u8) -> Found
 pub fn stands(m: &[u8], header: u8) -> bool
     ensures { result ≡ is_found (headed header m.now) }
 {
-    let f = sought(m, header);
-    match f {
-        Found::At(_, _) => true,
-        Found::Nowhere => false,
-    }
+    sought(m, header).is_some()
 }
 
 // Its contents, the empty stretch where there is none.
 pub fn contents(m: &[u8], header: u8) -> &[u8]
     ensures { result.now ≡ contents_under header m.now }
 {
-    let Found::At(start, end) = sought(m, header) else {
+    let Some((start, end)) = sought(m, header) else {
         return &m[..0];
     };
     &m[start..end]
@@ -42,7 +38,7 @@ pub fn contents(m: &[u8], header: u8) -> &[u8]
 fn signal_kind(m: &[u8]) -> u8
     ensures { result ≡ kind_in m.now }
 {
-    let Found::At(start, end) = common_by_length(m, Common::SIGNAL_KIND) else {
+    let Some((start, end)) = common_by_length(m, Common::SIGNAL_KIND) else {
         return 0;
     };
     octet_at(&m[start..end], 0)
@@ -52,38 +48,24 @@ fn signal_kind(m: &[u8]) -> u8
 fn is_network(octet: u8) -> bool
     ensures { result ≡ eqb octet phs || eqb octet mobile }
 {
-    match octet {
-        Network::PHS | Network::MOBILE => true,
-        _ => false,
-    }
+    matches!(octet, Network::PHS | Network::MOBILE)
 }
 
 // Whether D6 stands, where the call comes from a mobile network.
 fn is_enough(network: u8, added: bool) -> bool
     ensures { result ≡ cond (eqb network mobile) added true }
 {
-    if network == Network::MOBILE {
-        return added;
-    }
-    true
+    network != Network::MOBILE || added
 }
 
 // Whether the profile is kept.
 pub fn keeps(m: &[u8]) -> bool
     ensures { result ≡ keeps_plain m.now }
 {
-    if signal_kind(m) != Signal::DATA_ENQUIRY {
-        return false;
-    }
     let network = octet_at(contents(m, Transfer::ADJACENT_NETWORK), 0);
-    if !is_network(network) {
-        return false;
-    }
-    if !stands(m, Transfer::ORIGINATING_REGION) {
-        return false;
-    }
-    if !is_enough(network, stands(m, Transfer::ADDED_USER_CLASS)) {
-        return false;
-    }
-    pairs_right(contents(m, Transfer::ADDED_USER_CLASS))
+    signal_kind(m) == Signal::DATA_ENQUIRY
+        && is_network(network)
+        && stands(m, Transfer::ORIGINATING_REGION)
+        && is_enough(network, stands(m, Transfer::ADDED_USER_CLASS))
+        && pairs_right(contents(m, Transfer::ADDED_USER_CLASS))
 }

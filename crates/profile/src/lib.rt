@@ -11,12 +11,12 @@ ghost use Rattle.std.specs.Prelude.{ℕ, ◌≡◌, true};
 ghost use Rattle.annex.specs.Profile.{pairs_in, pairs_right, profile_verdict, profile_of};
 ghost use Rattle.annex.specs.Promises.{ProfileReadPromise};
 ghost use Rattle.annex.specs.Reading.{record_of};
-ghost use Rattle.annex.specs.declared.Answer.TheVariants.{Accepted};
+ghost use Rattle.annex.specs.Answers.{Accepted};
 ghost use Rattle.profile.specs.Keeping.{network_said};
 ghost use Rattle.profile.specs.Pairs.{opened_to};
 ghost use Rattle.profile.specs.Telling.{refused_with};
 
-use annex::{AddedClass, Answer, Network, Profile, ProfileReading, Transfer};
+use annex::{AddedClass, Answer, Network, Profile, ProfileReading, Reading, Transfer};
 use keeping::{contents, keeps};
 use octets::octet_at;
 use reader::reading;
@@ -35,53 +35,43 @@ fn open_pairs(s: &[u8]) -> Opened
     requires { pairs_right s.now ≡ true }
     ensures { result ≡ opened_to (pairs_in s.now) }
 {
-    let none = AddedClass::none();
-    let mut class = [none; AddedClass::MOST];
-    let mut k: usize = 0;
-    let mut i: usize = 0;
-    while i < s.len() {
-        class[k] = AddedClass {
-            name: s[i],
-            value: s[i + 1],
+    let mut class = [AddedClass::none(); AddedClass::MOST];
+    let mut count: u8 = 0;
+    let mut rest = s;
+    while let [name, value, behind @ ..] = rest {
+        class[count as usize] = AddedClass {
+            name: *name,
+            value: *value,
         };
-        k += 1;
-        i += AddedClass::OCTETS;
+        count += 1;
+        rest = behind;
     }
-    Opened {
-        count: k as u8,
-        class: class,
-    }
+    Opened { count, class }
 }
 
 // The network that 7E says.
 fn network_of(octet: u8) -> Network
     ensures { result ≡ network_said octet }
 {
-    if octet == Network::PHS {
-        return Network::Phs;
+    match octet {
+        Network::PHS => Network::Phs,
+        Network::MOBILE => Network::Mobile,
+        _ => Network::Other,
     }
-    if octet == Network::MOBILE {
-        return Network::Mobile;
-    }
-    Network::Other
 }
 
 // A refusal, with the record of nothing beside it, and what that tells.
-fn refused(a: Answer) -> ProfileReading
-    ensures { result ≡ refused_with a }
+fn refused(answer: Answer) -> ProfileReading
+    ensures { result ≡ refused_with answer }
 {
-    let held = empty();
-    let none = AddedClass::none();
-    let class = [none; AddedClass::MOST];
-    let profile = Profile {
-        network: Network::Other,
-        classes: 0,
-        class: class,
-    };
     ProfileReading {
-        answer: a,
-        record: held,
-        profile: profile,
+        answer,
+        record: empty(),
+        profile: Profile {
+            network: Network::Other,
+            classes: 0,
+            class: [AddedClass::none(); AddedClass::MOST],
+        },
     }
 }
 
@@ -94,9 +84,9 @@ fn told(m: &[u8]) -> Profile
     let opened = open_pairs(contents(m, Transfer::ADDED_USER_CLASS));
     let class = opened.class;
     Profile {
-        network: network,
+        network,
         classes: opened.count,
-        class: class,
+        class,
     }
 }
 
@@ -109,16 +99,13 @@ pub fn read(m: &[u8]) -> ProfileReading
     if !keeps(m) {
         return refused(profile_verdict(m));
     }
-    let r = reading::read(m);
-    let a = r.answer;
-    let Answer::Accepted(_) = a else {
-        return refused(a);
+    let Reading { answer, record } = reading::read(m);
+    let Ok(_) = answer else {
+        return refused(answer);
     };
-    let held = r.record;
-    let profile = told(m);
     ProfileReading {
-        answer: a,
-        record: held,
-        profile: profile,
+        answer,
+        record,
+        profile: told(m),
     }
 }

@@ -4,7 +4,7 @@ ghost use Rattle.annex.specs.Promises.{ProfileWritePromise, ProfileImageWritePro
 ghost use Rattle.profile.specs.Answering.{Within, HandsOut};
 
 use crate::keeping::keeps;
-use annex::{Answer, Message, Record};
+use annex::{Answer, Message, Record, Refusal};
 use octets::copy_in;
 
 // What writing gave in a draft: refused, or the message at its front, then 20 at its end mark, then 15, or its octets at the front of the
@@ -13,17 +13,15 @@ fn hand_out(a: Answer, draft: &[u8], room: &mut [u8]) -> Answer
     requires { Within a (length draft.now) }
     ensures { HandsOut a draft.now room.old result room.new }
 {
-    let Answer::Accepted(n) = a else {
-        return a;
-    };
+    let n = a?;
     let m = &draft[..n];
     if !keeps(m) {
-        return Answer::Refused(Answer::PROFILE, n - 1);
+        return Err(Refusal(Refusal::PROFILE, n - 1));
     }
     if !copy_in(room, 0, m) {
-        return Answer::Refused(Answer::NO_ROOM, 0);
+        return Err(Refusal(Refusal::NO_ROOM, 0));
     }
-    Answer::Accepted(n)
+    Ok(n)
 }
 
 // Writes a record that keeps the profile at the front of the room: the message's length, or the first refusal, and then the room stays as

@@ -1,5 +1,5 @@
 // How the octets of charging information are drawn: what a kind asks of them, what one may be, and which numbers it holds.
-ghost use Rattle.std.specs.Prelude.{◌≡◌};
+ghost use Rattle.std.specs.Prelude.{◌≡◌, Some};
 ghost use Rattle.annex.specs.Promises.{Gives};
 ghost use Rattle.annex.specs.Digits.{zero_from};
 ghost use Rattle.annex.specs.Rates.{is_mbi_code, is_right, numbers_in, total, decimal};
@@ -10,28 +10,27 @@ use annex::{Charges, Drawn};
 use digits::characters::is_figure;
 
 // What a kind asks of the octets behind it: how many there are, how the first of them is drawn (all others are characters), and whether a
-// check digit is among them. None is asked where the kind is not listed.
+// check digit is among them.
 #[derive(Clone, Copy)]
 pub struct Asked {
-    pub listed: bool,
     pub octets: u8,
     pub first: Drawn,
     pub checked: bool,
 }
 
-fn listed(octets: u8, first: Drawn, checked: bool) -> Asked
-    ensures { result ≡ asking octets first checked }
+fn listed(octets: u8, first: Drawn, checked: bool) -> Option<Asked>
+    ensures { result ≡ Some (asking octets first checked) }
 {
-    Asked {
-        listed: true,
-        octets: octets,
-        first: first,
-        checked: checked,
-    }
+    Some(Asked {
+        octets,
+        first,
+        checked,
+    })
 }
 
-// The kinds.
-pub fn asked_of(kind: u8) -> Asked
+// The kinds; None where the kind is not listed.
+#[tactic(auto, unfolding(annex::specs::Rates::is_kind, annex::specs::Rates::fields_of))]
+pub fn asked_of(kind: u8) -> Option<Asked>
     ensures { Gives (asked_of kind) result }
 {
     match kind {
@@ -43,12 +42,7 @@ pub fn asked_of(kind: u8) -> Asked
         Charges::FEE_AND_TIMES => listed(15, Drawn::Whole, false),
         Charges::FEE_AND_INTERVAL => listed(21, Drawn::Whole, false),
         Charges::FEE_AND_UNITS => listed(22, Drawn::Whole, false),
-        _ => Asked {
-            listed: false,
-            octets: 0,
-            first: Drawn::Character,
-            checked: false,
-        },
+        _ => None,
     }
 }
 
@@ -56,10 +50,7 @@ pub fn asked_of(kind: u8) -> Asked
 fn is_mbi_code(code: u8) -> bool
     ensures { result ≡ is_mbi_code code }
 {
-    if code < 1 {
-        return false;
-    }
-    code <= 10
+    matches!(code, 1..=10)
 }
 
 // The digit of a half of MBI: code 10 is 0.
@@ -75,12 +66,7 @@ pub fn is_right(drawn: Drawn, octet: u8) -> bool
 {
     match drawn {
         Drawn::Whole => true,
-        Drawn::Halves => {
-            if !is_mbi_code(octet / 16) {
-                return false;
-            }
-            is_mbi_code(octet % 16)
-        }
+        Drawn::Halves => is_mbi_code(octet / 16) && is_mbi_code(octet % 16),
         Drawn::Character => is_figure(octet),
     }
 }
@@ -97,6 +83,7 @@ pub fn sum_in(drawn: Drawn, octet: u8) -> u16
 }
 
 // The number that an octet holds: of MBI tens in the high half, ones in the low.
+#[tactic(auto, unfolding(annex::specs::Rates::decimal))]
 pub fn number_in(drawn: Drawn, octet: u8) -> u16
     ensures { Gives (decimal 0 (numbers_in drawn octet)) result }
 {

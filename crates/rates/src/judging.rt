@@ -6,7 +6,7 @@ ghost use Rattle.annex.specs.Rates.{drawn_fault, numbers_drawn, total};
 ghost use Rattle.rates.specs.Asked.{behind, characters_sum};
 
 use crate::drawing::{asked_of, is_right, sum_in};
-use annex::{Answer, Charges, Drawn, Fault};
+use annex::{Charges, Drawn, Fault, Flaw, Refusal};
 use digits::characters::characters_fault;
 use octets::octet_at;
 
@@ -14,27 +14,21 @@ use octets::octet_at;
 fn drawn_fault(first: Drawn, s: &[u8]) -> Fault
     ensures { result ≡ drawn_fault 2 (behind first (length s.now - 2)) (drop 2 s.now) }
 {
-    if s.len() <= Charges::HEAD {
-        return Fault::Sound;
-    }
-    if !is_right(first, s[Charges::HEAD]) {
-        return Fault::Bad(Answer::BAD_DIGIT, Charges::HEAD);
+    let Some(&lead) = s.get(Charges::HEAD) else {
+        return Ok(());
+    };
+    if !is_right(first, lead) {
+        return Err(Flaw(Refusal::BAD_DIGIT, Charges::HEAD));
     }
     characters_fault(false, s, Charges::HEAD + 1)
 }
 
-// What the characters from an offset on add up to.
-fn characters_sum(s: &[u8], from: usize) -> u16
-    requires { length s.now ≤ 257 }
-    ensures { result ≡ characters_sum (drop from s.now) }
+// What characters add up to.
+fn characters_sum(s: &[u8]) -> u16
+    requires { length s.now ≤ 255 }
+    ensures { result ≡ characters_sum s.now }
 {
-    let mut sum: u16 = 0;
-    let mut i = from;
-    while i < s.len() {
-        sum += sum_in(Drawn::Character, s[i]);
-        i += 1;
-    }
-    sum
+    s.iter().map(|x| sum_in(Drawn::Character, *x)).sum()
 }
 
 // What the kind and the numbers behind it add up to.
@@ -42,12 +36,11 @@ fn check_sum(kind: u8, first: Drawn, s: &[u8]) -> usize
     requires { length s.now ≤ 257 }
     ensures { result ≡ kind + total (numbers_drawn (behind first (length s.now - 2)) (drop 2 s.now)) }
 {
-    if s.len() <= Charges::HEAD {
+    let Some(&lead) = s.get(Charges::HEAD) else {
         return kind as usize;
-    }
-    let lead = sum_in(first, s[Charges::HEAD]);
-    let rest = characters_sum(s, Charges::HEAD + 1);
-    kind as usize + lead as usize + rest as usize
+    };
+    let rest = &s[Charges::HEAD + 1..];
+    kind as usize + sum_in(first, lead) as usize + characters_sum(rest) as usize
 }
 
 // 12, 13 or 18 of the contents of F7.
@@ -55,24 +48,15 @@ pub fn charging_fault(s: &[u8]) -> Fault
     ensures { Gives (charging_fault s.now) result }
 {
     let kind = octet_at(s, Charges::KIND_AT);
-    let asked = asked_of(kind);
-    if !asked.listed {
-        return Fault::Bad(Answer::BAD_FORM, 0);
-    }
-    if s.len() != Charges::HEAD + asked.octets as usize {
-        return Fault::Bad(Answer::BAD_FORM, 0);
-    }
-    let first = asked.first;
-    let f = drawn_fault(first, s);
-    let Fault::Sound = f else {
-        return f;
+    let Some(asked) = asked_of(kind) else {
+        return Err(Flaw(Refusal::BAD_FORM, 0));
     };
-    if !asked.checked {
-        return Fault::Sound;
+    if s.len() != Charges::HEAD + asked.octets as usize {
+        return Err(Flaw(Refusal::BAD_FORM, 0));
     }
-    if check_sum(kind, first, s) % 10 == 9 {
-        Fault::Sound
-    } else {
-        Fault::Bad(Answer::CHECK_DIGIT, s.len() - 1)
+    drawn_fault(asked.first, s)?;
+    if asked.checked && check_sum(kind, asked.first, s) % 10 != 9 {
+        return Err(Flaw(Refusal::CHECK_DIGIT, s.len() - 1));
     }
+    Ok(())
 }

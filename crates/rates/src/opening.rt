@@ -21,9 +21,9 @@ fn row(place: usize, drawn: Drawn, width: usize) -> FieldRow
     ensures { (result.place ≡ place) × (result.drawn ≡ drawn) × (result.width ≡ width) }
 {
     FieldRow {
-        place: place,
-        drawn: drawn,
-        width: width,
+        place,
+        drawn,
+        width,
     }
 }
 
@@ -47,6 +47,8 @@ fn row_of(f: Field) -> FieldRow
 }
 
 // Where the fields start in the contents of a kind, 0 where it does not have one; they are in the order of an answer.
+// Not an Option at each place: none starts at 0, and the table is plainer so.
+#[tactic(auto, unfolding(annex::specs::Rates::fields_of))]
 fn starts_of(kind: u8) -> [u8; 11]
     ensures { result ≡ starts_of kind }
 {
@@ -68,13 +70,8 @@ fn characters(s: &[u8], width: usize) -> u16
     ensures { result ≡ decimal 0 (numbers_drawn (replicate width Character) s.now) }
 {
     let mut number: u16 = 0;
-    let mut i = 0;
-    while i < width {
-        if s.len() <= i {
-            return number;
-        }
-        number = 10 * number + number_in(Drawn::Character, s[i]);
-        i += 1;
+    for x in s.iter().take(width) {
+        number = 10 * number + number_in(Drawn::Character, *x);
     }
     number
 }
@@ -84,22 +81,20 @@ fn field_in(s: &[u8], f: Field) -> u16
     ensures { result ≡ field_in f s.now }
 {
     let asked = row_of(f);
-    let place = asked.place;
     let starts = starts_of(octet_at(s, Charges::KIND_AT));
-    let start = starts[place] as usize;
+    let start = starts[asked.place] as usize;
     if start == 0 {
         return 0;
     }
     let octets = octets_from(s, start);
-    let drawn = asked.drawn;
-    match drawn {
+    match asked.drawn {
         Drawn::Character => characters(octets, asked.width),
-        Drawn::Halves => number_in(drawn, octet_at(octets, 0)),
-        Drawn::Whole => number_in(drawn, octet_at(octets, 0)),
+        Drawn::Halves | Drawn::Whole => number_in(asked.drawn, octet_at(octets, 0)),
     }
 }
 
 // What the contents of F7 say.
+#[tactic(auto, unfolding(annex::specs::Rates::charges_of))]
 pub fn charges(s: &[u8]) -> Charges
     ensures { Gives (charges_of s.now) result }
 {

@@ -1,23 +1,25 @@
 -- The parameters of a message and of transfer data by the length rule, from one octet on; and a record's struct with them put in.
-use Rattle.std.specs.Prelude.{◌≡◌, ℕ, suc, ◌+◌, ◌-◌, length, get_or, set, take, drop}
+use Rattle.std.specs.Prelude.{◌≡◌, refl, ℕ, suc, ◌+◌, ◌-◌, ◌≤◌, Bool, true, false, cond, eqb, length, get_or, set, take, drop}
 use Rattle.std.proofs.Math.Path.{ap}
-use Rattle.std.proofs.Common.{◌∙◌, arith, length-append, eq-eqb, ne_eqb}
+use Rattle.std.proofs.Common.{◌∙◌, arith, length-append, eq-eqb, ne_eqb, eqb-true}
+use Rattle.std.proofs.lemmas.Bool.{eqb-false}
 use mathlib.Core.List.{List, [], ◌∷◌, ◌++◌, map}
 use Rattle.std.proofs.lemmas.List.Edits.{sets}
 use Rattle.annex.specs.Units.{extent_of, common_extent_of}
-use Rattle.annex.specs.Heads.{end_mark, transfer_data}
+use Rattle.annex.specs.Heads.{end_mark, transfer_data, most_transfers, most_values}
 use Rattle.annex.specs.Walk.{Par, common_size, transfer_size, pars}
 use Rattle.annex.specs.Items.{Item, Part, item_of}
 use Rattle.annex.specs.Allowed.{Each}
+use Rattle.annex.specs.Opening.{part_head}
 use Rattle.annex.specs.Records.{head_of, values_of}
+use Rattle.annex.specs.declared.Common.{Common}
 use Rattle.annex.specs.Reading.{open_transfer, open_common, without_end, data_in, verdict_of, record_of, record_by}
-use Rattle.annex.specs.declared.Answer.TheVariants.{Accepted}
-use Rattle.annex.specs.declared.Found.TheVariants.{Nowhere}
+use Rattle.annex.specs.Answers.{Accepted, Nowhere}
 use Rattle.annex.specs.declared.Record.{Record}
 use Rattle.annex.specs.Contents.{fault_of}
 use Rattle.annex.specs.Walking.{stretch_at}
 use Rattle.laws.specs.Plain.{InnerSound, transfers_plain, commons_plain, commons_inner}
-use Rattle.laws.specs.Filling.{with_items, items_turn, items_opened}
+use Rattle.laws.specs.Filling.{with_items, empty_record, items_turn, items_opened}
 use Rattle.walk.specs.Stretches.{par_in, Whole, stretch_none}
 use Rattle.reader.specs.declared.reading.Filled.{Filled}
 
@@ -25,8 +27,43 @@ use Rattle.reader.specs.declared.reading.Filled.{Filled}
 abbrev pub items_from : List ℕ → List Item
 items_from t = map open_transfer (pars transfer_size 0 0 t)
 
+-- the transfer parameters under a header: those of the contents of a C5
+abbrev pub items_under : ℕ → List ℕ → List Item
+items_under h s = cond (eqb h transfer_data) (items_from s) []
+
+-- nothing filled in
+abbrev pub unfilled : Filled
+unfilled = record { held = empty_record; transfers = 0; used = 0 }
+
+-- there is room for these transfer parameters
+pub record Room (f : Filled) (is : List Item) : Type 0 where
+  pub places : f.transfers + length is ≤ most_transfers
+  pub values : f.used + length (values_of is) ≤ most_values
+
+-- with these transfer parameters put in
 abbrev pub filled_with : Record → List Item → ℕ → ℕ → Filled
 filled_with q is k used = record { held = with_items q is k used; transfers = k + length is; used = used + length (values_of is) }
+
+-- with a head put in behind those that it has
+abbrev pub with_head : Filled → Common → Filled
+with_head f c =
+    record {
+      held =
+          record {
+            commons = f.held.commons + 1;
+            common = set f.held.common f.held.commons c;
+            transfer = f.held.transfer;
+            values = f.held.values;
+          };
+      transfers = f.transfers;
+      used = f.used;
+    }
+
+-- with the common parameter put in that has this header, these octets of its own, and these contents
+abbrev pub common_with : Filled → ℕ → List ℕ → List ℕ → Filled
+common_with f h own s =
+    let is = items_under h s in
+    with_head (filled_with f.held is f.transfers f.used) (part_head h own (length is))
 
 -- those from the octet i on
 abbrev pub items_left : List ℕ → ℕ → List Item
@@ -41,6 +78,13 @@ items_none t i h = rw (stretch_none extent_of t i h)
 pub items_more : {t : List ℕ} {i s x : ℕ} → Whole extent_of t i s x
     → items_left t i ≡ item_of (get_or t i 0) (take (x - s) (drop s t)) ∷ items_left t x
 items_more w = rw (w.next, w.contents)
+
+-- there is room for the first and for the others
+pub room_more : {f : Filled} {is : List Item} {x : Item} {js : List Item} → is ≡ x ∷ js → Room f is →
+    (f.transfers + 1 + length js ≤ most_transfers) × (f.used + length x.values + length (values_of js) ≤ most_values)
+unfolding values_of
+room_more {x = x} {js = js} e r =
+    (omega (arith, rw e at r.places), omega (arith, rw e at r.values, length-append x.values (values_of js)))
 
 -- the struct with one parameter put in
 pub filled_turn : (q : Record) (x : Item) (is : List Item) (k used : ℕ)
@@ -114,3 +158,15 @@ data_items q e s =
 
 pub other_items : (q : Par) → (q.head ≡ transfer_data → ⊥) → (open_common q).items ≡ []
 other_items q u = items_opened q ∙ rw (ne_eqb q.head transfer_data u)
+
+-- in an accepted message they are those under its header
+pub items_here : {m : List ℕ} {i s x : ℕ} → Whole common_extent_of m i s x → InnerSound (par_in m i x)
+    → (open_common (par_in m i x)).items ≡ items_under (get_or m i 0) (take (x - s) (drop s m))
+items_here {m} {i} {s} {x} w d = go (eqb (get_or m i 0) transfer_data) refl
+  where
+    go : (b : Bool) → eqb (get_or m i 0) transfer_data ≡ b
+        → (open_common (par_in m i x)).items ≡ cond b (items_from (take (x - s) (drop s m))) []
+    go true e =
+        let five = eqb-true (get_or m i 0) transfer_data e in
+        data_items (par_in m i x) five d ∙ ap items_from (data_is w five)
+    go false e = other_items (par_in m i x) (eqb-false (get_or m i 0) transfer_data e)

@@ -1,28 +1,12 @@
--- What finding gives, and one turn of its search.
-use Rattle.std.specs.Prelude.{ℕ, ◌-◌, ◌≤◌, ◌≡◌, cond, List, length, get_or, take, drop}
-use Rattle.std.proofs.Common.{arith, sym, ap, ◌∙◌, length-drop, length-take-le}
-use Rattle.annex.specs.Finding.{find_answer, find_part}
+-- One turn of the search.
+use Rattle.std.specs.Prelude.{ℕ, ◌≡◌, cond, List, [], get_or, Result, Ok, Err}
+use Rattle.std.proofs.Common.{Bor}
 use Rattle.annex.specs.Heads.{kth}
 use Rattle.annex.specs.Walking.{is_sought, extent_by, sought_in, search_from, stretch_at}
-use Rattle.annex.specs.declared.Found.{Found}
-use Rattle.annex.specs.declared.Found.TheVariants.{At, Nowhere}
+use Rattle.annex.specs.Answers.{Answer, Accepted, At, Nowhere}
 use Rattle.annex.specs.declared.Key.{Key}
 use Rattle.walk.specs.Stretches.{Whole, stretch_none}
-use Rattle.reader.specs.declared.finding.Finding.{Finding}
-
--- of the message m where the contents are found at f: the answer, and a stretch of m that is the part
-pub record Tells (m : List ℕ) (f : Found) (r : Finding) : Type 0 where
-  pub answer : r.0 ≡ find_answer m f
-  pub order : r.1 ≤ r.2
-  pub within : r.2 ≤ length m
-  pub part : take (r.2 - r.1) (drop r.1 m) ≡ find_part m f
-
--- the part has as many octets as the stretch
-pub part_long : (m : List ℕ) (f : Found) (r : Finding) → Tells m f r → r.2 - r.1 ≡ length (find_part m f)
-part_long m f r t =
-    let k : r.2 - r.1 ≤ length (drop r.1 m) = rw (length-drop r.1 m) (omega (arith, t.within)) in
-    let long = length-take-le (r.2 - r.1) (drop r.1 m) k in
-    sym long ∙ ap (λ (p : List ℕ). length p) t.part
+use Rattle.annex.specs.declared.Refusal.{Refusal}
 
 -- ---- one turn of the search
 

@@ -1,6 +1,6 @@
 // Finding contents: reading's refusals first, then 16; what is found is a part of the caller's own message.
-ghost use Rattle.std.specs.Prelude.{◌≡◌, length};
-ghost use Rattle.annex.specs.Finding.{find_answer, find_part, found_by};
+ghost use Rattle.std.specs.Prelude.{◌≡◌};
+ghost use Rattle.annex.specs.Finding.{find_answer, find_part, found_by, answer_told, part_told};
 ghost use Rattle.annex.specs.Promises.{
   FindCommonPromise,
   FindCommonAnswerPromise,
@@ -9,17 +9,12 @@ ghost use Rattle.annex.specs.Promises.{
   Gives,
 };
 ghost use Rattle.annex.specs.Walking.{is_sought, which_of, extent_by, search_in, contents_found, common_plain, transfer_plain, plain_by};
-ghost use Rattle.reader.specs.Finding.{Tells};
 
 use super::verdict::verdict;
-use annex::{Answer, Common, Extent, Found, Key};
+use annex::{Answer, Common, Extent, Found, Key, Refusal};
 use octets::octet_at;
 use units::{common_extent_of, extent_of, lead};
 use walk::stretch::stretch_at;
-
-// What finding gives: the answer to the second question, and where the contents start and end, 0 and 0 if refused.
-#[derive(Clone, Copy)]
-struct Finding(Answer, usize, usize);
 
 // Whether a parameter with the header h is sought.
 fn is_sought(k: Key, h: u8) -> bool
@@ -51,7 +46,8 @@ fn extent_by(k: Key, h: u8) -> Extent
     }
 }
 
-// The parameter sought among those that the length rule alone finds in t, octets of any kind: from its header to its end.
+// The parameter sought among those that the length rule alone finds in t, octets of any kind: from its header to its end. Each turn starts
+// where the parameter before ends.
 pub fn search_by_length(t: &[u8], k: Key) -> Found
     ensures { Gives (search_in k t.now) result }
 {
@@ -59,15 +55,12 @@ pub fn search_by_length(t: &[u8], k: Key) -> Found
     let mut i = 0;
     loop {
         let h = octet_at(t, i);
-        let Found::At(_, end) = stretch_at(t, i, extent_by(k, h)) else {
-            return Found::Nowhere;
-        };
+        let (_, end) = stretch_at(t, i, extent_by(k, h))?;
         if is_sought(k, h) {
             if left == 0 {
-                return Found::At(i, end);
-            } else {
-                left -= 1;
+                return Some((i, end));
             }
+            left -= 1;
         }
         i = end;
     }
@@ -77,12 +70,9 @@ pub fn search_by_length(t: &[u8], k: Key) -> Found
 fn contents(t: &[u8], k: Key) -> Found
     ensures { result ≡ contents_found k t.now }
 {
-    let Found::At(i, end) = search_by_length(t, k) else {
-        return Found::Nowhere;
-    };
-    let before = lead(extent_by(k, t[i]));
-    let start = i + 1 + before;
-    Found::At(start, end)
+    let (i, end) = search_by_length(t, k)?;
+    let start = i + 1 + lead(extent_by(k, t[i]));
+    Some((start, end))
 }
 
 // Where the contents of a common parameter stand by the length rule alone, in octets of any kind; the end mark has none to be found. In an
@@ -91,7 +81,7 @@ pub fn common_by_length(m: &[u8], header: u8) -> Found
     ensures { Gives (common_plain header m.now) result }
 {
     if header == Common::END_MARK {
-        return Found::Nowhere;
+        return None;
     }
     contents(m, Key::Header(header))
 }
@@ -100,15 +90,9 @@ pub fn common_by_length(m: &[u8], header: u8) -> Found
 pub fn transfer_by_length(m: &[u8], name: u8, which: usize) -> Found
     ensures { Gives (transfer_plain name which m.now) result }
 {
-    let Found::At(s, e) = contents(m, Key::Header(Common::TRANSFER_DATA)) else {
-        return Found::Nowhere;
-    };
-    let Found::At(a, b) = contents(&m[s..e], Key::Name(name, which)) else {
-        return Found::Nowhere;
-    };
-    let start = s + a;
-    let end = s + b;
-    Found::At(start, end)
+    let (s, e) = contents(m, Key::Header(Common::TRANSFER_DATA))?;
+    let (a, b) = contents(&m[s..e], Key::Name(name, which))?;
+    Some((s + a, s + b))
 }
 
 // The same of the parameter sought.
@@ -121,48 +105,34 @@ fn found_by_length(m: &[u8], k: Key) -> Found
     }
 }
 
-// Reading's refusals, then 16, or where the contents stand of the parameter sought.
-fn find(m: &[u8], k: Key) -> Finding
-    ensures { Tells m.now (found_by k m.now) result }
+// Both answers of one finding: reading's refusals, then 16, or where the contents stand of the parameter sought, and these.
+pub fn find_both(m: &[u8], k: Key) -> Result<(usize, &[u8]), Refusal>
+    ensures answer { Gives (find_answer m.now (found_by k m.now)) (answer_told result) }
+    ensures part { Gives (find_part m.now (found_by k m.now)) (part_told result) }
 {
-    let a = verdict(m);
-    let Answer::Accepted(_) = a else {
-        return Finding(a, 0, 0);
+    verdict(m)?;
+    let Some((start, end)) = found_by_length(m, k) else {
+        return Err(Refusal(Refusal::ABSENT, 0));
     };
-    let Found::At(start, end) = found_by_length(m, k) else {
-        return Finding(Answer::Refused(Answer::ABSENT, 0), 0, 0);
-    };
-    Finding(Answer::Accepted(start), start, end)
-}
-
-// The answer to the second question, and how many octets the contents have, 0 if refused.
-#[derive(Clone, Copy)]
-pub struct Stretch {
-    pub answer: Answer,
-    pub len: usize,
-}
-
-// Both answers of one finding: the second question's, and the length of the part.
-pub fn find_both(m: &[u8], k: Key) -> Stretch
-    ensures { Gives (find_answer m.now (found_by k m.now)) result.answer ×
-        Gives (length (find_part m.now (found_by k m.now))) result.len }
-{
-    let f = find(m, k);
-    let answer = f.0;
-    Stretch {
-        answer: answer,
-        len: f.2 - f.1,
-    }
+    Ok((start, &m[start..end]))
 }
 
 // The part of the message that they are, the empty part if refused.
 fn part(m: &[u8], k: Key) -> &[u8]
     ensures { result.now ≡ find_part m.now (found_by k m.now) }
 {
-    let f = find(m, k);
-    let start = f.1;
-    let end = f.2;
-    &m[start..end]
+    match find_both(m, k) {
+        Ok((_, contents)) => contents,
+        Err(_) => &m[..0],
+    }
+}
+
+// The second question: where they start.
+fn place(m: &[u8], k: Key) -> Answer
+    ensures { result ≡ find_answer m.now (found_by k m.now) }
+{
+    let (start, _) = find_both(m, k)?;
+    Ok(start)
 }
 
 // The contents of the common parameter with this header, the empty part if refused.
@@ -176,7 +146,7 @@ pub fn find_common(m: &[u8], header: u8) -> &[u8]
 pub fn find_common_answer(m: &[u8], header: u8) -> Answer
     ensures { FindCommonAnswerPromise m.now header result }
 {
-    find(m, Key::Header(header)).0
+    place(m, Key::Header(header))
 }
 
 // The contents of that one of the transfer parameters with this name, counted from 0; the empty part if refused.
@@ -190,5 +160,5 @@ pub fn find_transfer(m: &[u8], name: u8, which: usize) -> &[u8]
 pub fn find_transfer_answer(m: &[u8], name: u8, which: usize) -> Answer
     ensures { FindTransferAnswerPromise m.now name which result }
 {
-    find(m, Key::Name(name, which)).0
+    place(m, Key::Name(name, which))
 }

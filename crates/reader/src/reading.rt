@@ -1,30 +1,22 @@
 // Reading a message to its record: the verdict, and where it is accepted the record, filled parameter by parameter.
-ghost use Rattle.std.specs.Prelude.{◌≡◌, [], ◌+◌, ◌≤◌, length};
+ghost use Rattle.std.specs.Prelude.{◌≡◌, [], ◌+◌, ◌≤◌, ◌<◌, length};
 ghost use Rattle.std.proofs.lemmas.List.Edits.{sets};
-ghost use Rattle.annex.specs.Heads.{most_transfers, most_values};
+ghost use Rattle.annex.specs.Heads.{most_commons, most_values};
 ghost use Rattle.annex.specs.Reading.{verdict_of, record_of};
-ghost use Rattle.annex.specs.declared.Answer.TheVariants.{Accepted};
+ghost use Rattle.annex.specs.Answers.{Accepted};
 ghost use Rattle.annex.specs.Items.{item_of};
 ghost use Rattle.annex.specs.Opening.{part_head};
-ghost use Rattle.annex.specs.Records.{head_of, values_of, pack};
+ghost use Rattle.annex.specs.Records.{head_of, pack};
 ghost use Rattle.annex.specs.Promises.{ReadPromise, Gives};
-ghost use Rattle.reader.specs.Filling.{items_from, filled_with};
+ghost use Rattle.reader.specs.Filling.{items_from, items_under, unfilled, Room, filled_with, common_with};
 
 use super::verdict::verdict;
-use annex::{Answer, Common, Found, Reading, Record, Transfer};
+use annex::{Common, Reading, Record, Transfer};
 use common::call::{call_value, is_call};
 use octets::octet_at;
 use parameter::opening::open;
 use units::{common_extent_of, extent_of};
 use walk::stretch::stretch_at;
-
-// A record's struct, and how many of its transfer parameters and values are filled in.
-#[derive(Clone, Copy)]
-struct Filled {
-    held: Record,
-    transfers: usize,
-    used: usize,
-}
 
 // The record of nothing, which stands beside a refusal.
 pub fn empty() -> Record
@@ -67,31 +59,55 @@ fn open_held(
     open(header, contents, values, used)
 }
 
-// The parameters of the transfer data t, put into the struct behind those that it has.
-fn with_transfers(begun: Record, t: &[u8], transfers: usize, taken: usize) -> Filled
-    requires { (transfers + length (items_from t.now) ≤ most_transfers)
-        × (taken + length (values_of (items_from t.now)) ≤ most_values) }
-    ensures { result ≡ filled_with begun (items_from t.now) transfers taken }
-{
-    let mut q = begun;
-    let mut k = transfers;
-    let mut used = taken;
-    let mut i = 0;
-    loop {
-        let h = octet_at(t, i);
-        let Found::At(start, to) = stretch_at(t, i, extent_of(h)) else {
-            break;
-        };
-        let x = open_held(h, &t[start..to], &mut q.values, used);
-        q.transfer[k] = x;
-        k += 1;
-        used += x.len as usize;
-        i = to;
+// A record's struct as far as it is filled in: how many of its transfer parameters and values are.
+#[derive(Clone, Copy)]
+struct Filled {
+    held: Record,
+    transfers: usize,
+    used: usize,
+}
+
+impl Filled {
+    // Nothing filled in.
+    fn none() -> Filled
+        ensures { result ≡ unfilled }
+    {
+        Filled {
+            held: empty(),
+            transfers: 0,
+            used: 0,
+        }
     }
-    Filled {
-        held: q,
-        transfers: k,
-        used: used,
+
+    // With the parameters of the transfer data t put in.
+    fn with_transfers(mut self, t: &[u8]) -> Filled
+        requires { Room self (items_from t.now) }
+        ensures { result ≡ filled_with self.held (items_from t.now) self.transfers self.used }
+    {
+        let mut i = 0;
+        while let Some((start, to)) = stretch_at(t, i, extent_of(octet_at(t, i))) {
+            let x = open_held(t[i], &t[start..to], &mut self.held.values, self.used);
+            self.held.transfer[self.transfers] = x;
+            self.transfers += 1;
+            self.used += x.len as usize;
+            i = to;
+        }
+        self
+    }
+
+    // With a common parameter put in, and the transfer parameters of a C5 with it.
+    fn with_common(mut self, header: u8, own: &[u8], contents: &[u8]) -> Filled
+        requires { (self.held.commons < most_commons) × Room self (items_under header contents.now) }
+        ensures { result ≡ common_with self header own.now contents.now }
+    {
+        let before = self.transfers;
+        if header == Common::TRANSFER_DATA {
+            self = self.with_transfers(contents);
+        }
+        let k = self.held.commons as usize;
+        self.held.common[k] = part_head(header, own, (self.transfers - before) as u8);
+        self.held.commons += 1;
+        self
     }
 }
 
@@ -100,50 +116,26 @@ fn fill(m: &[u8]) -> Record
     requires { verdict_of m.now ≡ Accepted (length m.now) }
     ensures { result ≡ pack (record_of m.now) }
 {
-    let mut q = empty();
-    let mut transfers: usize = 0;
-    let mut used: usize = 0;
+    let mut filled = Filled::none();
     let mut i = 0;
-    loop {
-        let h = octet_at(m, i);
-        let Found::At(start, to) = stretch_at(m, i, common_extent_of(h)) else {
-            break;
-        };
-        let from = i + 1;
+    while let Some((start, to)) = stretch_at(m, i, common_extent_of(octet_at(m, i))) {
+        let header = m[i];
+        if header != Common::END_MARK {
+            filled = filled.with_common(header, &m[i + 1..to], &m[start..to]);
+        }
         i = to;
-        if h == Common::END_MARK {
-            continue;
-        }
-        let before = transfers;
-        if h == Common::TRANSFER_DATA {
-            let f = with_transfers(q, &m[start..to], transfers, used);
-            q = f.held;
-            transfers = f.transfers;
-            used = f.used;
-        }
-        let c = part_head(h, &m[from..to], (transfers - before) as u8);
-        let k = q.commons as usize;
-        q.common[k] = c;
-        q.commons = (k + 1) as u8;
     }
-    q
+    filled.held
 }
 
 // The record of a message, with the verdict beside it; where refused, the empty record.
 pub fn read(m: &[u8]) -> Reading
     ensures { ReadPromise m.now result }
 {
-    let a = verdict(m);
-    let Answer::Accepted(_) = a else {
-        let none = empty();
-        return Reading {
-            answer: a,
-            record: none,
-        };
+    let answer = verdict(m);
+    let record = match answer {
+        Ok(_) => fill(m),
+        Err(_) => empty(),
     };
-    let held = fill(m);
-    Reading {
-        answer: a,
-        record: held,
-    }
+    Reading { answer, record }
 }

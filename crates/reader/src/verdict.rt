@@ -5,8 +5,9 @@ ghost use Rattle.annex.specs.Answers.{place_of, shifted};
 ghost use Rattle.annex.specs.Reading.{transfers_verdict, data_of, common_of, message_verdict};
 ghost use Rattle.annex.specs.Promises.{VerdictPromise, Gives};
 
-use annex::{Answer, Common, Message, Transfer};
+use annex::{Answer, Common, Message, Refusal};
 use common::form::{common_form, end_mark};
+use common::seen::Seen;
 use parameter::transfer::transfer;
 
 // An answer about a part that starts at s, told of the whole.
@@ -15,30 +16,26 @@ fn shift(a: Answer, s: usize) -> Answer
     ensures { result ≡ shifted s a }
 {
     match a {
-        Answer::Accepted(n) => Answer::Accepted(n),
-        Answer::Refused(k, p) => Answer::Refused(k, s + p),
+        Ok(n) => Ok(n),
+        Err(Refusal(k, p)) => Err(Refusal(k, s + p)),
     }
 }
 
-// Transfer data: accepted with its length, or the first refusal, its place counted from the first octet of t.
+// Transfer data: accepted with its length, or the first refusal, its place counted from the first octet of t. The place goes on by as many
+// octets as the parameter takes, so no `for` counts it.
 fn transfers(t: &[u8]) -> Answer
     ensures { Gives (transfers_verdict t.now) result }
 {
-    let mut seen = [0u8; Transfer::NAMES];
+    let mut seen = Seen::none();
     let mut i = 0;
     while i < t.len() {
-        let h = t[i];
-        let name = (h % 64) as usize;
+        let header = t[i];
         let from = i + 1;
-        let times = seen[name];
-        let a = transfer(times, h, &t[from..]);
-        let Answer::Accepted(n) = a else {
-            return shift(a, i);
-        };
-        seen[name] = times + 1;
+        let n = shift(transfer(seen.times(header), header, &t[from..]), i)?;
+        seen.count(header);
         i = from + n;
     }
-    Answer::Accepted(i)
+    Ok(i)
 }
 
 // C5, of whose octets after the header n are its own: the parameters behind the length octet.
@@ -46,11 +43,8 @@ fn transfer_data(n: usize, xs: &[u8]) -> Answer
     requires { (1 ≤ n) × (n ≤ length xs.now) × (length xs.now ≤ most_octets) }
     ensures { result ≡ data_of n xs.now }
 {
-    let a = transfers(&xs[1..n]);
-    let Answer::Accepted(_) = a else {
-        return shift(a, 2);
-    };
-    Answer::Accepted(n)
+    shift(transfers(&xs[1..n]), 2)?;
+    Ok(n)
 }
 
 // A common parameter whose name stood so many times before. whole: 01 and 06 have been seen.
@@ -58,51 +52,34 @@ fn common(times: u8, whole: bool, header: u8, xs: &[u8]) -> Answer
     requires { length xs.now ≤ most_octets }
     ensures { result ≡ common_of times whole header xs.now }
 {
-    let a = common_form(times, header, xs);
-    let Answer::Accepted(n) = a else {
-        return a;
-    };
+    let n = common_form(times, header, xs)?;
     match header {
         Common::END_MARK => end_mark(whole, xs),
         Common::TRANSFER_DATA => transfer_data(n, xs),
-        _ => Answer::Accepted(n),
+        _ => Ok(n),
     }
 }
 
-// Both tests, as a value.
-fn both(a: bool, b: bool) -> bool
-    ensures { result ≡ a && b }
-{
-    if a { b } else { false }
-}
-
-// The parameters of a message, to the end mark.
+// The parameters of a message, to the end mark, in the same way. A loop of its own: its step is told what stood of 01 and 06, and it ends
+// with the end mark, so that one loop over a closure would be no plainer.
 fn message(m: &[u8]) -> Answer
     requires { length m.now ≤ most_octets }
     ensures { result ≡ message_verdict m.now }
 {
-    let mut seen = [0u8; Transfer::NAMES];
+    let mut seen = Seen::none();
     let mut i = 0;
     while i < m.len() {
-        let h = m[i];
-        let name = (h % 64) as usize;
+        let header = m[i];
         let from = i + 1;
-        let times = seen[name];
-        let whole = both(
-            0 < seen[Common::USER_CLASS as usize],
-            0 < seen[Common::SIGNAL_KIND as usize],
-        );
-        let a = common(times, whole, h, &m[from..]);
-        let Answer::Accepted(n) = a else {
-            return shift(a, i);
-        };
-        seen[name] = times + 1;
+        let whole = (0 < seen.times(Common::USER_CLASS)) & (0 < seen.times(Common::SIGNAL_KIND));
+        let n = shift(common(seen.times(header), whole, header, &m[from..]), i)?;
+        seen.count(header);
         i = from + n;
     }
-    if 0 < seen[Common::END_MARK as usize] {
-        return Answer::Accepted(i);
+    if 0 < seen.times(Common::END_MARK) {
+        return Ok(i);
     }
-    Answer::Refused(Answer::CUT_SHORT, i)
+    Err(Refusal(Refusal::CUT_SHORT, i))
 }
 
 // The verdict of a message: accepted with its length, or the first refusal.
@@ -110,11 +87,8 @@ pub fn verdict(m: &[u8]) -> Answer
     ensures { VerdictPromise m.now result }
 {
     let n = m.len();
-    if n == 0 {
-        return Answer::Refused(Answer::OVER_LIMITS, 0);
-    }
-    if Message::MOST_OCTETS < n {
-        return Answer::Refused(Answer::OVER_LIMITS, 0);
+    if n == 0 || Message::MOST_OCTETS < n {
+        return Err(Refusal(Refusal::OVER_LIMITS, 0));
     }
     message(m)
 }

@@ -1,20 +1,14 @@
 -- The steps of refusing a record, as the code takes them: each parameter is judged at place 0, and a common parameter without its transfer
 -- parameters first.
-use Rattle.std.specs.Prelude.{ℕ, ◌+◌, ◌-◌, ◌≤◌, ◌≡◌, Bool, not, List, [], ◌∷◌, ltb, length}
+use Rattle.std.specs.Prelude.{Err, ℕ, ◌+◌, ◌-◌, ◌≤◌, ◌≡◌, Bool, not, List, [], ◌∷◌, ltb, length}
 use Rattle.std.proofs.Common.{arith, sym, ◌∙◌, length-append}
 use Rattle.std.proofs.Math.Path.{refl, ap}
 use Rattle.std.proofs.Math.Bool.{true, false, cond}
 use borrow.Author.Tests.{ltb-false, eq-eqb, ne_eqb, eqb-true, eqb-false}
 use Rattle.std.proofs.Math.Dec.{eqb, leb}
-use Rattle.annex.specs.Answers.{unlisted, repeated, not_allowed, missing, bad_form, transfer_over, refuse, and_then}
-use Rattle.annex.specs.Heads.{
-  among,
-  common_headers,
-  value_allowed,
-  sequence,
-  transfer_data,
-  most_transfer_octets,
-}
+use Rattle.annex.specs.Answers.{unlisted, repeated, not_allowed, missing, bad_form, transfer_over, refuse, and_then, placed_at, Answer, Accepted, Refused}
+use Rattle.annex.specs.declared.Refusal.{Refusal}
+use Rattle.annex.specs.Heads.{among, common_headers, value_allowed, sequence, transfer_data, most_transfer_octets}
 use Rattle.annex.specs.Items.{Item, Part}
 use Rattle.annex.specs.Layout.{layout_items, layout_part}
 use Rattle.annex.specs.Allowed.{value_right, value_fits}
@@ -22,8 +16,6 @@ use Rattle.annex.specs.Walk.{Seen, unseen, times_seen, counted}
 use Rattle.annex.specs.Reading.{whole_in}
 use Rattle.annex.specs.Records.{raw_part}
 use Rattle.annex.specs.Writing.{item_writing, items_writing, data_writing, part_writing, end_writing, parts_writing}
-use Rattle.annex.specs.declared.Answer.{Answer}
-use Rattle.annex.specs.declared.Answer.TheVariants.{Accepted, Refused}
 use Rattle.annex.specs.declared.Common.{Common}
 use Rattle.laws.specs.Bools.{cond_again}
 use Rattle.laws.specs.Steps.{passed, then_passed, refuse_then}
@@ -31,6 +23,17 @@ use Rattle.laws.specs.Places.{told_at, refuse_told, item_told}
 use Rattle.theorems.specs.Writings.{item_written}
 use Rattle.limits.specs.Along.{part_from}
 use Rattle.refusing.specs.Laying.{head_length, head_laid, plain_laid}
+
+-- ---- an answer at place 0, told of the place p: a refusal as the code moves it, and an accepted length added
+
+module _ (p : ℕ) where
+  pub placed_err : (a : Answer) (r : Refusal) → placed_at p a ≡ Err r → told_at p a ≡ Err r
+  placed_err (Accepted m) r e = cc
+  placed_err (Err d) r e = e
+
+  pub placed_ok : (a : Answer) (n : ℕ) → placed_at p a ≡ Accepted n → a ≡ Accepted n
+  placed_ok (Accepted m) n e = e
+  placed_ok (Err d) n e = cc
 
 -- ---- a transfer parameter
 
@@ -45,6 +48,9 @@ module _ (seen : Seen) (p h : ℕ) (i : Item) (is : List Item) (a : Answer) (sam
 
   pub items_refused : (k z : ℕ) → a ≡ Refused k z → items_writing seen p (i ∷ is) ≡ Refused k p
   items_refused k z r = rw (told, r)
+
+  pub items_placed : (r : Refusal) → placed_at p a ≡ Err r → items_writing seen p (i ∷ is) ≡ Err r
+  items_placed r f = rw (told, placed_err p a r f)
 
   pub items_accepted : (n : ℕ) → a ≡ Accepted n → items_writing seen p (i ∷ is) ≡ items_writing (counted seen h) (p + n) is
   items_accepted n r = rw (told, r)
@@ -185,6 +191,9 @@ module _ (seen : Seen) (p : ℕ) (c : Common) (is : List Item) (ps : List Part) 
 
   pub head_refused : (k z : ℕ) → a ≡ Refused k z → parts_writing seen p (part_from c is ∷ ps) ≡ Refused k p
   head_refused k z r = rw (parts_told, r)
+
+  pub head_placed : (r : Refusal) → placed_at p a ≡ Err r → parts_writing seen p (part_from c is ∷ ps) ≡ Err r
+  head_placed r f = rw (parts_told, placed_err p a r f)
 
   module _ (n : ℕ) (r : a ≡ Accepted n) where
     pub plain_accepted : (c.header ≡ transfer_data → ⊥)

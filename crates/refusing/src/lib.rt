@@ -13,20 +13,18 @@ ghost use Rattle.annex.specs.Walk.{unseen};
 ghost use Rattle.annex.specs.Writing.{items_writing, data_writing, part_writing, end_writing, parts_writing};
 ghost use Rattle.limits.specs.Along.{items_at, Within, Whole};
 
-use annex::{Answer, Common, Record, Transfer};
+use annex::{Answer, Common, Record, Refusal, Transfer};
 use common::call::is_call;
 use common::form::{listed, value_allowed};
+use common::seen::Seen;
 use layout::refusal;
-use limits::{over_limits, values_before};
+use limits::{items_from, over_limits};
 
 // The same answer, a refusal told at the place p.
 pub fn placed(a: Answer, p: usize) -> Answer
     ensures { Gives (placed_at p a) result }
 {
-    match a {
-        Answer::Accepted(n) => Answer::Accepted(n),
-        Answer::Refused(k, _) => Answer::Refused(k, p),
-    }
+    a.map_err(|Refusal(k, _)| Refusal(k, p))
 }
 
 // The n transfer parameters from index `first` of the array on, the header of the first of them at the place `start`: what refuses the
@@ -35,27 +33,14 @@ fn items_refusal(q: Record, first: usize, n: usize, start: usize) -> Answer
     requires { Within q (first + n) × (start ≤ 65536) }
     ensures { result ≡ items_writing unseen start (items_at q first n) }
 {
-    let values = q.values;
-    let end = first + n;
-    let mut seen = [0u8; Transfer::NAMES];
-    let mut used = values_before(q, first);
+    let mut seen = Seen::none();
     let mut at = start;
-    let mut k = first;
-    while k < end {
-        let t = q.transfer[k];
-        let e = used + t.len as usize;
-        let name = (t.header % 64) as usize;
-        let times = seen[name];
-        let a = refusal(times, t, &values[used..e]);
-        let Answer::Accepted(len) = a else {
-            return placed(a, at);
-        };
-        seen[name] = times + 1;
+    for (t, values) in items_from(&q, first, n) {
+        let len = placed(refusal(seen.times(t.header), t, values), at)?;
+        seen.count(t.header);
         at += len;
-        used = e;
-        k += 1;
     }
-    Answer::Accepted(at)
+    Ok(at)
 }
 
 // C5, its header at the place `at`, its n transfer parameters from index `first` of the array on: their refusals, then 14, or the place
@@ -65,28 +50,23 @@ fn data_refusal(q: Record, first: usize, n: usize, at: usize) -> Answer
     ensures { result ≡ data_writing at (items_at q first n) }
 {
     let start = at + 2;
-    let a = items_refusal(q, first, n, start);
-    let Answer::Accepted(end) = a else {
-        return a;
-    };
+    let end = items_refusal(q, first, n, start)?;
     if Transfer::MOST_OCTETS < end - start {
-        return Answer::Refused(Answer::TRANSFER_OVER, at);
+        return Err(Refusal(Refusal::TRANSFER_OVER, at));
     }
-    Answer::Accepted(end)
+    Ok(end)
 }
 
 // Whether the more-data mark of 04 has one bit, and a call number 24.
+#[tactic(auto, unfolding(annex::specs::Allowed::value_fits))]
 fn value_fits(c: Common) -> bool
     ensures { result ≡ value_fits (raw_part c []) }
 {
-    let value = c.value;
     if c.header == Common::SEQUENCE {
-        return c.more_data <= 1;
+        c.more_data <= 1
+    } else {
+        !is_call(c.header) || c.value < Common::CALL_NUMBER_BELOW
     }
-    if is_call(c.header) {
-        return value < Common::CALL_NUMBER_BELOW;
-    }
-    true
 }
 
 // How many octets a common parameter with this header, any at all, is laid out to, its transfer parameters aside.
@@ -102,36 +82,29 @@ pub fn head_refusal(times: u8, c: Common) -> Answer
     ensures { Gives (part_writing times 0 (raw_part c [])) result }
 {
     let header = c.header;
-    if header == Common::END_MARK {
-        return Answer::Refused(Answer::UNLISTED, 0);
-    }
-    if !listed(header) {
-        return Answer::Refused(Answer::UNLISTED, 0);
+    if header == Common::END_MARK || !listed(header) {
+        return Err(Refusal(Refusal::UNLISTED, 0));
     }
     if 0 < times {
-        return Answer::Refused(Answer::REPEATED, 0);
+        return Err(Refusal(Refusal::REPEATED, 0));
     }
     if !value_allowed(header, c.value) {
-        return Answer::Refused(Answer::NOT_ALLOWED, 0);
+        return Err(Refusal(Refusal::NOT_ALLOWED, 0));
     }
     if !value_fits(c) {
-        return Answer::Refused(Answer::BAD_FORM, 0);
+        return Err(Refusal(Refusal::BAD_FORM, 0));
     }
-    let len = head_len(header);
-    Answer::Accepted(len)
+    Ok(head_len(header))
 }
 
 // The end mark, where 01 and 06 stood so many times: 6 at place 0, or accepted with its one octet.
 pub fn end_refusal(class: u8, kind: u8) -> Answer
     ensures { Gives (end_writing (ltb 0 class && ltb 0 kind) 0) result }
 {
-    if class == 0 {
-        return Answer::Refused(Answer::MISSING, 0);
+    if class == 0 || kind == 0 {
+        return Err(Refusal(Refusal::MISSING, 0));
     }
-    if kind == 0 {
-        return Answer::Refused(Answer::MISSING, 0);
-    }
-    Answer::Accepted(1)
+    Ok(1)
 }
 
 // The same of the end mark at the place `at`: 6, or the place behind it.
@@ -139,12 +112,8 @@ fn ended(class: u8, kind: u8, at: usize) -> Answer
     requires { at ≤ 4096 }
     ensures { result ≡ end_writing (ltb 0 class && ltb 0 kind) at }
 {
-    let a = end_refusal(class, kind);
-    let Answer::Accepted(len) = a else {
-        return placed(a, at);
-    };
-    let end = at + len;
-    Answer::Accepted(end)
+    let len = placed(end_refusal(class, kind), at)?;
+    Ok(at + len)
 }
 
 // A record within its limits: the first refusal, or the message's length.
@@ -152,36 +121,25 @@ fn parts_refusal(q: Record) -> Answer
     requires { Whole q }
     ensures { result ≡ parts_writing unseen 0 (view q) }
 {
-    let n = q.commons as usize;
-    let mut seen = [0u8; Transfer::NAMES];
-    let mut at: usize = 0;
-    let mut first: usize = 0;
-    let mut k: usize = 0;
-    while k < n {
-        let c = q.common[k];
-        let name = (c.header % 64) as usize;
-        let times = seen[name];
-        let a = head_refusal(times, c);
-        let Answer::Accepted(len) = a else {
-            return placed(a, at);
-        };
-        seen[name] = times + 1;
-        k += 1;
+    let mut seen = Seen::none();
+    let mut at = 0;
+    let mut first = 0;
+    for c in &q.common[..q.commons as usize] {
+        let len = placed(head_refusal(seen.times(c.header), *c), at)?;
+        seen.count(c.header);
         if c.header != Common::TRANSFER_DATA {
             at += len;
             continue;
         }
         let count = c.transfers as usize;
-        let b = data_refusal(q, first, count, at);
-        let Answer::Accepted(behind) = b else {
-            return b;
-        };
-        at = behind;
+        at = data_refusal(q, first, count, at)?;
         first += count;
     }
-    let class = (Common::USER_CLASS % 64) as usize;
-    let kind = (Common::SIGNAL_KIND % 64) as usize;
-    ended(seen[class], seen[kind], at)
+    ended(
+        seen.times(Common::USER_CLASS),
+        seen.times(Common::SIGNAL_KIND),
+        at,
+    )
 }
 
 // A record, room aside: the first refusal, or the message's length.
@@ -189,7 +147,7 @@ pub fn record_refusal(held: Record) -> Answer
     ensures { RecordRefusalPromise held result }
 {
     if over_limits(held) {
-        return Answer::Refused(Answer::OVER_LIMITS, 0);
+        return Err(Refusal(Refusal::OVER_LIMITS, 0));
     }
     parts_refusal(held)
 }

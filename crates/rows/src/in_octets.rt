@@ -1,47 +1,42 @@
 // The table of rows as octets, for callers that lend no structs.
-ghost use Rattle.std.specs.Prelude.{◌≡◌, ◌+◌, ◌≤◌, length};
-ghost use Rattle.std.proofs.lemmas.List.Edits.{sets};
-ghost use Rattle.annex.specs.Packed.{row_octets, rows_octets, octets_to_a_row, octet_spans};
+ghost use Rattle.std.specs.Prelude.{◌≡◌, ◌*◌, ◌≤◌, length};
+ghost use Rattle.annex.specs.Packed.{octets_to_a_row, row_octets, rows_octets, octet_spans};
 ghost use Rattle.annex.specs.Promises.{OctetSpansPromise, OctetOrderPromise};
-ghost use Rattle.annex.specs.Spans.{rows_of};
-ghost use Rattle.laws.specs.Rows.{Accepts};
+ghost use Rattle.annex.specs.Walking.{first_cursor};
 ghost use Rattle.laws.specs.Runs.{Puts};
 ghost use Rattle.rows.specs.Tables.{count_after};
 
-use crate::opened;
 use crate::opened::check_order;
+use crate::walks::{Order, Parameters, Walk};
 use annex::{Answer, Message, Row};
+use octets::copy_in;
 use reader::rows::check;
 use reader::verdict::verdict;
-use walk::cursor::{first, next, row_here};
+use walk::cursor::first;
 
-// Writes a row from `at` on: offset, header, length of the contents; the two numbers in two octets each, least first.
-fn put_row(row: Row, at: usize, table: &mut [u8])
-    requires { at + octets_to_a_row ≤ length table.old }
-    ensures { table.new ≡ sets table.old at (row_octets row) }
+// A row: offset, header, length of the contents; the two numbers in two octets each, least first.
+fn octets_of(row: Row) -> [u8; Row::OCTETS]
+    ensures { result ≡ row_octets row }
 {
-    let offset = row.offset;
-    let len = row.len;
-    table[at] = (offset % 256) as u8;
-    table[at + 1] = (offset / 256 % 256) as u8;
-    table[at + 2] = row.header;
-    table[at + 3] = (len % 256) as u8;
-    table[at + 4] = (len / 256 % 256) as u8;
+    let [offset_low, offset_high, ..] = row.offset.to_le_bytes();
+    let [len_low, len_high, ..] = row.len.to_le_bytes();
+    [offset_low, offset_high, row.header, len_low, len_high]
 }
 
-// Writes the rows of an accepted message from the table's front on: where they end.
-fn put_rows(m: &[u8], table: &mut [u8]) -> usize
-    requires { Accepts m.now × (length (rows_octets (rows_of m.now)) ≤ length table.old) }
-    ensures { Puts (rows_octets (rows_of m.now)) 0 table.old result table.new }
+// Writes the rows of a walk from the table's front on: how many they are.
+fn put_rows<W: Walk>(m: &[u8], table: &mut [u8]) -> usize
+    requires { W.ahead m.now first_cursor × (length (rows_octets (W.left m.now first_cursor)) ≤ length table.old) }
+    ensures { Puts (rows_octets (W.left m.now first_cursor)) 0 table.old (result * octets_to_a_row) table.new }
 {
-    let mut place: usize = 0;
+    let mut n: usize = 0;
     let mut c = first();
-    while c.at < m.len() {
-        put_row(row_here(m, c), place, table);
-        place += Row::OCTETS;
-        c = next(m, c);
+    // no `for`: how long a walk is it tells turn by turn
+    while W::is_more(m, c) {
+        copy_in(table, n * Row::OCTETS, &octets_of(W::row_here(m, c)));
+        n += 1;
+        c = W::next(m, c);
     }
-    place
+    n
 }
 
 // What refuses a listing into a table of so many octets; else accepted. One with room for the most rows that a message has is not too
@@ -59,29 +54,14 @@ fn refusal(m: &[u8], octets: usize) -> Answer
 pub fn octet_spans(m: &[u8], table: &mut [u8]) -> Answer
     ensures { OctetSpansPromise m.now table.old result table.new }
 {
-    let a = refusal(m, table.len());
-    let Answer::Accepted(_) = a else {
-        return a;
-    };
-    let end = put_rows(m, table);
-    Answer::Accepted(end / Row::OCTETS)
+    refusal(m, table.len())?;
+    Ok(put_rows::<Parameters>(m, table))
 }
 
 // The rows of its connection order, in the same way.
 pub fn octet_order(m: &[u8], table: &mut [u8]) -> Answer
     ensures { OctetOrderPromise m.now table.old result table.new }
 {
-    let a = check_order(m, table.len() / Row::OCTETS);
-    let Answer::Accepted(n) = a else {
-        return a;
-    };
-    let end = n * Row::OCTETS;
-    let mut place: usize = 0;
-    let mut c = first();
-    while place < end {
-        put_row(opened::row_here(m, c), place, table);
-        place += Row::OCTETS;
-        c = opened::next(m, c);
-    }
-    a
+    check_order(m, table.len() / Row::OCTETS)?;
+    Ok(put_rows::<Order>(m, table))
 }

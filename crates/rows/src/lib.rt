@@ -3,42 +3,44 @@
 
 pub mod in_octets;
 pub mod opened;
+mod walks;
 
+ghost use Rattle.std.specs.Prelude.{◌≡◌, length};
 ghost use Rattle.annex.specs.Promises.{SpansPromise, OrderPromise};
+ghost use Rattle.annex.specs.Walking.{first_cursor};
 
 use annex::{Answer, Row};
 use opened::check_order;
-use reader::rows::{check, given};
-use walk::cursor::{first, next, row_here};
+use reader::rows::check;
+use walk::cursor::first;
+use walks::{Order, Parameters, Walk};
+
+// Stores the rows of a walk over as many places.
+fn fill<W: Walk>(m: &[u8], rows: &mut [Row])
+    requires { W.ahead m.now first_cursor × (length (W.left m.now first_cursor) ≡ length rows.old) }
+    ensures { rows.new ≡ W.left m.now first_cursor }
+{
+    let mut c = first();
+    for row in rows.iter_mut() {
+        *row = W::row_here(m, c);
+        c = W::next(m, c);
+    }
+}
 
 // The rows of a message, into the caller's table. Rows past the last stay, and a refusal leaves all.
 pub fn spans(m: &[u8], rows: &mut [Row]) -> Answer
     ensures { SpansPromise m.now rows.old result rows.new }
 {
-    let a = check(m, rows.len());
-    let n = given(a);
-    let mut i = 0;
-    let mut c = first();
-    while i < n {
-        rows[i] = row_here(m, c);
-        c = next(m, c);
-        i += 1;
-    }
-    a
+    let n = check(m, rows.len())?;
+    fill::<Parameters>(m, &mut rows[..n]);
+    Ok(n)
 }
 
 // The rows of its connection order, in the same way.
 pub fn order(m: &[u8], rows: &mut [Row]) -> Answer
     ensures { OrderPromise m.now rows.old result rows.new }
 {
-    let a = check_order(m, rows.len());
-    let n = given(a);
-    let mut k = 0;
-    let mut c = first();
-    while k < n {
-        rows[k] = opened::row_here(m, c);
-        c = opened::next(m, c);
-        k += 1;
-    }
-    a
+    let n = check_order(m, rows.len())?;
+    fill::<Order>(m, &mut rows[..n]);
+    Ok(n)
 }

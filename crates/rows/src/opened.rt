@@ -1,12 +1,13 @@
 // The connection order of a message (E0), listed by the length rule alone: a row to the form and one to each parameter behind it, up to the
 // first that is cut, whatever its form and its headers are.
-ghost use Rattle.std.specs.Prelude.{◌≡◌, length, get_or};
+ghost use Rattle.std.specs.Prelude.{◌≡◌, ltb, length, get_or};
 ghost use Rattle.annex.specs.Opened.{order_listing};
 ghost use Rattle.annex.specs.Promises.{Gives, OrderCheckPromise};
 ghost use Rattle.annex.specs.Walking.{no_row};
-ghost use Rattle.annex.specs.Ordering.{order_span, order_left, parameter_rows, taken_of, order_rows_plain, order_row_here, order_next};
+ghost use Rattle.annex.specs.Ordering.{order_span, order_left, parameter_rows, order_rows_plain, order_rows_from, order_row_here, order_next};
+ghost use Rattle.rows.specs.Orders.{own_size};
 
-use annex::{Answer, Cursor, Found, Key, Row, Transfer};
+use annex::{Answer, Cursor, Key, Refusal, Row, Transfer};
 use orders::lengths::order_size;
 use reader::finding::{find_both, transfer_by_length};
 
@@ -14,84 +15,54 @@ use reader::finding::{find_both, transfer_by_length};
 fn left(m: &[u8], c: Cursor) -> &[u8]
     ensures { result.now ≡ order_left m.now c }
 {
-    let at = c.at;
-    let end = c.end;
-    if m.len() < end {
-        return &m[..0];
-    }
-    if end < at {
-        return &m[..0];
-    }
-    &m[at..end]
+    m.get(c.at..c.end).unwrap_or(&[])
 }
 
-// How many octets the first parameter takes, its header among them: 0 where it is cut, or there is none. None has fewer than two.
-fn taken(rest: &[u8]) -> usize
-    ensures { result ≡ taken_of rest.now }
+// How many octets the first parameter has behind its header: none where it is cut, or there is none.
+fn own_size(rest: &[u8]) -> Option<usize>
+    ensures { result ≡ own_size rest.now }
 {
-    let len = rest.len();
-    if len < 2 {
-        return 0;
-    }
-    let n = order_size(rest[0], rest[1]);
-    if len - 1 < n {
-        return 0;
-    }
-    n + 1
+    let [header, next, ..] = rest else {
+        return None;
+    };
+    let n = order_size(*header, *next);
+    (n < rest.len()).then_some(n)
 }
 
 // How many rows contents have.
 fn count(contents: &[u8]) -> usize
     ensures { result ≡ length (order_listing 0 contents.now) }
 {
-    if contents.len() == 0 {
+    if contents.is_empty() {
         return 0;
     }
     let mut n: usize = 1;
     let mut i: usize = 1;
-    loop {
-        let k = taken(&contents[i..]);
-        if k == 0 {
-            return n;
-        }
+    while let Some(own) = own_size(&contents[i..]) {
         n += 1;
-        i += k;
+        i += own + 1;
     }
+    n
 }
 
 // The row count, or number and place: reading's, then 16 where there is no E0, then 15 where there is room for fewer rows.
 pub fn check_order(m: &[u8], room: usize) -> Answer
     ensures { OrderCheckPromise m.now room result }
 {
-    let found = find_both(m, Key::Name(Transfer::CONNECTION_ORDER % 64, 0));
-    let answer = found.answer;
-    let len = found.len;
-    let Answer::Accepted(start) = answer else {
-        return answer;
-    };
-    let from = Cursor {
-        at: start,
-        end: m.len(),
-    };
-    let rest = left(m, from);
-    let n = count(&rest[..len]);
+    let (_, contents) = find_both(m, Key::Name(Transfer::CONNECTION_ORDER % 64, 0))?;
+    let n = count(contents);
     if room < n {
-        return Answer::Refused(Answer::NO_ROOM, 0);
+        return Err(Refusal(Refusal::NO_ROOM, 0));
     }
-    Answer::Accepted(n)
+    Ok(n)
 }
 
 // From the first octet of E0's contents to behind their last; at 0 none, where there is no E0.
 fn span(m: &[u8]) -> Cursor
     ensures { result ≡ order_span m.now }
 {
-    let Found::At(start, end) = transfer_by_length(m, Transfer::CONNECTION_ORDER % 64, 0) else {
-        return Cursor { at: 0, end: 0 };
-    };
-    Cursor {
-        at: start,
-        end: end,
-    }
+    let (at, end) = transfer_by_length(m, Transfer::CONNECTION_ORDER % 64, 0).unwrap_or((0, 0));
+    Cursor { at, end }
 }
 
 // The empty row.
@@ -110,13 +81,12 @@ fn form_row(m: &[u8]) -> Row
     ensures { result ≡ get_or (order_rows_plain m.now) 0 no_row }
 {
     let s = span(m);
-    let rest = left(m, s);
-    if rest.len() == 0 {
+    let [form, ..] = left(m, s) else {
         return no_row();
-    }
+    };
     Row {
         offset: s.at,
-        header: rest[0],
+        header: *form,
         len: 0,
     }
 }
@@ -126,14 +96,24 @@ fn parameter_row(m: &[u8], c: Cursor) -> Row
     ensures { result ≡ get_or (parameter_rows c.at (order_left m.now c)) 0 no_row }
 {
     let rest = left(m, c);
-    let n = taken(rest);
-    if n == 0 {
+    let Some(len) = own_size(rest) else {
         return no_row();
-    }
+    };
     Row {
         offset: c.at,
         header: rest[0],
-        len: n - 1,
+        len,
+    }
+}
+
+// Whether a row is left from a cursor on; one at 0 stands before the form.
+pub(crate) fn is_more(m: &[u8], c: Cursor) -> bool
+    ensures { result ≡ ltb 0 (length (order_rows_from m.now c)) }
+{
+    if c.at == 0 {
+        !left(m, span(m)).is_empty()
+    } else {
+        own_size(left(m, c)).is_some()
     }
 }
 
@@ -151,20 +131,21 @@ pub fn row_here(m: &[u8], c: Cursor) -> Row
 pub fn next(m: &[u8], c: Cursor) -> Cursor
     ensures { Gives (order_next m.now c) result }
 {
-    let at = c.at;
-    if at == 0 {
+    if c.at == 0 {
         let s = span(m);
         return Cursor {
             at: s.at + 1,
             end: s.end,
         };
     }
-    let n = taken(left(m, c));
-    if n == 0 {
-        return Cursor { at: at, end: at };
-    }
+    let Some(own) = own_size(left(m, c)) else {
+        return Cursor {
+            at: c.at,
+            end: c.at,
+        };
+    };
     Cursor {
-        at: at + n,
+        at: c.at + own + 1,
         end: c.end,
     }
 }

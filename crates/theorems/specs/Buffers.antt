@@ -9,7 +9,7 @@ use Rattle.annex.specs.Layout.{layout}
 use Rattle.annex.specs.Allowed.{every, is_octet}
 use Rattle.annex.specs.Reading.{verdict_of, record_of}
 use Rattle.annex.specs.Editing.{Edit, editing_of, cleared, holding, buffer_of}
-use Rattle.annex.specs.declared.Answer.TheVariants.{Accepted, Refused}
+use Rattle.annex.specs.Answers.{Accepted, Refused}
 use Rattle.theorems.specs.Lists.{every_append, every_drop}
 use Rattle.theorems.specs.Layouts.{laid_then_read}
 use Rattle.theorems.specs.Reasons.{edited_in, edit_taken}

@@ -1,7 +1,7 @@
 -- Carriers (CC): what is sound opens to carriers that may be said and that lay out to it; carriers that may be said, laid out, are sound
 -- and open to themselves. Both are shown once for a level of entries, and hold of the two. And the rows of a message's carriers, with the
 -- digits of their codes: those of what its contents say.
-use Rattle.std.specs.Prelude.{ℕ, zero, suc, ◌+◌, ◌≤◌, ◌≡◌, Bool, true, false, cond, not, ◌&&◌, ◌↔◌, leb, ltb, get_or}
+use Rattle.std.specs.Prelude.{ℕ, zero, suc, ◌+◌, ◌≤◌, ◌≡◌, Bool, true, false, cond, not, ◌&&◌, ◌↔◌, leb, ltb, get_or, Err}
 use Rattle.std.proofs.Common.{arith, sym, ap, ◌∙◌}
 use Rattle.std.proofs.Math.Path.{refl}
 use mathlib.Core.List.{List, [], ◌∷◌, ◌++◌, map, map-append}
@@ -11,7 +11,7 @@ use Rattle.std.proofs.Math.ListN.{length, length-append}
 use Rattle.std.proofs.lemmas.List.{length-map}
 use Rattle.std.proofs.Math.Seq.{take-append_seam, drop-append_seam}
 use Rattle.annex.specs.Allowed.{every, Each, is_octet, items_in}
-use Rattle.annex.specs.Answers.{no_room, absent, refuse, and_then}
+use Rattle.annex.specs.Answers.{no_room, absent, refuse, and_then, Answer, Accepted, Refused, Fault, Sound}
 use Rattle.annex.specs.Heads.{carriers, zeroes_of, form_of}
 use Rattle.annex.specs.Contents.{fault_of}
 use Rattle.annex.specs.Items.{Item, contents_of}
@@ -77,12 +77,8 @@ use Rattle.annex.specs.Transit.{
 }
 use Rattle.annex.specs.Walk.{Par, pars}
 use Rattle.annex.specs.declared.Alphabet.TheVariants.{Decimal}
-use Rattle.annex.specs.declared.Answer.{Answer}
-use Rattle.annex.specs.declared.Answer.TheVariants.{Accepted, Refused}
 use Rattle.annex.specs.declared.CarrierRow.{CarrierRow}
 use Rattle.annex.specs.declared.Check.TheVariants.{Carriers}
-use Rattle.annex.specs.declared.Fault.{Fault}
-use Rattle.annex.specs.declared.Fault.TheVariants.{Sound}
 use Rattle.laws.specs.Bools.{and_left, and_right, and_both}
 use Rattle.laws.specs.Entries.{entry_size_lem, raw_entry, Counts, entries_count, entries_all, code_open, code_closed, code_few, entries_of_few}
 use Rattle.laws.specs.Faults.{then_sound, then_both}
@@ -521,4 +517,4 @@ digits_roomy m o which row room l = go (find_answer m (carriers_found which m)) 
     go : (a : Answer) → find_answer m (carriers_found which m) ≡ a
         → and_then a (λ _. code_answer x room) ≡ and_then a (λ _. refuse (not (is_code_entry x)) absent 0 (Accepted n))
     go (Accepted k) e = by (is_code_entry x) (λ t. listed_digits which row m o k e t)
-    go (Refused k p) e = refl
+    go (Err r) e = refl

@@ -9,7 +9,7 @@ use mathlib.Core.List.{List, [], ◌∷◌, ◌++◌, map, append_assoc, append-
 use borrow.Author.Tests.{eqb-true, eqb-false, eq-eqb, ne_eqb, leb-true, le-leb, ltb-true, lt-ltb, not-true}
 use Rattle.std.proofs.Math.ListN.{length, length-replicate}
 use Rattle.std.proofs.Math.Seq.{take_at, drop_at}
-use Rattle.annex.specs.Answers.{bad_digit, check_digit}
+use Rattle.annex.specs.Answers.{bad_digit, check_digit, Sound}
 use Rattle.annex.specs.Digits.{zero_from, zero_to}
 use Rattle.annex.specs.Rates.{
   kinds,
@@ -50,7 +50,6 @@ use Rattle.annex.specs.declared.Charges.{Charges}
 use Rattle.annex.specs.declared.Check.TheVariants.{Charging}
 use Rattle.annex.specs.declared.Drawn.{Drawn}
 use Rattle.annex.specs.declared.Drawn.TheVariants.{Whole, Halves, Character}
-use Rattle.annex.specs.declared.Fault.TheVariants.{Sound}
 use Rattle.annex.specs.declared.Field.{Field}
 use Rattle.laws.specs.Bools.{and_left, and_right, and_both, or_left, or_right}
 use Rattle.laws.specs.Drawings.{each_field, same_self, met, same_charges}

@@ -7,7 +7,7 @@ use Rattle.annex.specs.Units.{name_of}
 use Rattle.annex.specs.Heads.{name_count}
 use Rattle.annex.specs.Allowed.{times_in}
 use Rattle.annex.specs.Walk.{Seen, unseen, times_seen, counted, Par, Step}
-use Rattle.annex.specs.declared.Answer.TheVariants.{Accepted}
+use Rattle.annex.specs.Answers.{Accepted}
 use Rattle.theorems.specs.Trails.{seen_by, Trail}
 
 -- the names of parameters

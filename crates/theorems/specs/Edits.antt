@@ -14,7 +14,7 @@ use Rattle.annex.specs.Walk.{Par}
 use Rattle.annex.specs.Reading.{verdict_of, record_of}
 use Rattle.annex.specs.Editing.{Edit, new_header, new_item, instead, edited_items, edited, editing_of}
 use Rattle.annex.specs.Editing.Edit.{Replacing, Appending, Removing}
-use Rattle.annex.specs.declared.Answer.TheVariants.{Accepted}
+use Rattle.annex.specs.Answers.{Accepted}
 use Rattle.laws.specs.Bools.{and_left, and_right}
 use Rattle.laws.specs.Often.{some_often}
 use Rattle.theorems.specs.Lists.{each_append, each_left, each_right, every_take, times_append}

@@ -14,11 +14,10 @@ use Rattle.annex.specs.Reading.{record_of}
 use Rattle.annex.specs.Finding.{common_found, transfer_found, found_part, find_part}
 use Rattle.annex.specs.Editing.{Edit, new_header, new_after, new_item, edited_items, edited, editing_of, buffer_of}
 use Rattle.annex.specs.Editing.Edit.{Replacing, Appending}
-use Rattle.annex.specs.declared.Answer.TheVariants.{Accepted}
+use Rattle.annex.specs.Answers.{Accepted, At}
 use Rattle.annex.specs.declared.Extent.{Extent}
 use Rattle.annex.specs.declared.Extent.TheVariants.{Fixed, Counted}
 use Rattle.annex.specs.declared.CountingUnit.TheVariants.{HalfOctet, Octet}
-use Rattle.annex.specs.declared.Found.TheVariants.{At}
 use Rattle.laws.specs.Parts.{from_to}
 use Rattle.theorems.specs.Lists.{each_right}
 use Rattle.theorems.specs.Commons.{AllowedPart}

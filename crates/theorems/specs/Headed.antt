@@ -14,12 +14,9 @@ use Rattle.annex.specs.Allowed.{every, is_octet, times_in, items_in, names_of, A
 use Rattle.annex.specs.Reading.{verdict_of, record_of}
 use Rattle.annex.specs.Finding.{common_found, transfer_found, find_answer, find_part}
 use Rattle.annex.specs.Profile.{data_enquiry, some, is_enquiry, is_headed, values_under}
-use Rattle.annex.specs.declared.Answer.TheVariants.{Accepted}
+use Rattle.annex.specs.Answers.{Accepted, Sound, Found, At, Nowhere}
 use Rattle.annex.specs.declared.Check.{Check}
-use Rattle.annex.specs.declared.Fault.TheVariants.{Sound}
 use Rattle.annex.specs.declared.Form.TheVariants.{Checked}
-use Rattle.annex.specs.declared.Found.{Found}
-use Rattle.annex.specs.declared.Found.TheVariants.{At, Nowhere}
 use Rattle.laws.specs.Bools.{and_left, and_right}
 use Rattle.laws.specs.Leaves.{as_they_are}
 use Rattle.laws.specs.Members.{among_every}

@@ -5,7 +5,7 @@ use Rattle.std.specs.Prelude.{ℕ, zero, suc, ◌+◌, ◌≤◌, ◌<◌, ◌�
 use Rattle.std.proofs.Common.{arith, sym, ap, subst, ◌∙◌, ltb-true, ltb-false}
 use Rattle.std.proofs.lemmas.List.{map-append, length-map}
 use Rattle.std.proofs.lemmas.Bool.{not-false}
-use Rattle.annex.specs.Answers.{over_the_limits, no_room, refuse, and_then, room_after}
+use Rattle.annex.specs.Answers.{over_the_limits, no_room, refuse, and_then, room_after, Answer, Accepted}
 use Rattle.annex.specs.Heads.{transfer_data, most_commons, most_transfers, most_transfer_octets, most_octets}
 use Rattle.annex.specs.Items.{Item, Part, part, part_with, own_of, own_more_data}
 use Rattle.annex.specs.Layout.{layout}
@@ -33,8 +33,6 @@ use Rattle.annex.specs.Image.{
 }
 use Rattle.annex.specs.Image.Front.{Taken, Short}
 use Rattle.annex.specs.Packed.{image_writing, image_written}
-use Rattle.annex.specs.declared.Answer.{Answer}
-use Rattle.annex.specs.declared.Answer.TheVariants.{Accepted}
 use Rattle.annex.specs.declared.Imaged.{Imaged}
 use Rattle.laws.specs.Bools.{and_left, and_right, or_left, or_right}
 use Rattle.laws.specs.Laid.{own_values, own_held_item}

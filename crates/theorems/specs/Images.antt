@@ -28,7 +28,7 @@ use Rattle.annex.specs.Image.{
   most_image,
 }
 use Rattle.annex.specs.Image.Front.{Taken}
-use Rattle.annex.specs.declared.Answer.TheVariants.{Accepted}
+use Rattle.annex.specs.Answers.{Accepted}
 use Rattle.theorems.specs.Lists.{each_left, each_right, each_so}
 use Rattle.theorems.specs.Commons.{Kind, kind, AllowedPart}
 use Rattle.theorems.specs.Commons.Kind.{octet, call, many}

@@ -10,22 +10,11 @@ use Rattle.annex.specs.Allowed.{every, is_octet}
 use Rattle.annex.specs.Finding.{common_found, transfer_found}
 use Rattle.annex.specs.Editing.{Edit, new_header, editing_of, buffer_of}
 use Rattle.annex.specs.Editing.Edit.{Replacing, Appending, Removing}
-use Rattle.annex.specs.declared.Answer.TheVariants.{Accepted}
-use Rattle.annex.specs.declared.Found.TheVariants.{At}
+use Rattle.annex.specs.Answers.{Accepted, At}
 use Rattle.theorems.specs.Reasons.{edited_in, edit_taken}
 use Rattle.theorems.specs.Edits.{OfOctets}
 use Rattle.theorems.specs.Buffers.{buffer_edited}
-use Rattle.theorems.specs.Splices.{
-  with_part,
-  Stands,
-  Told,
-  Spliced,
-  edit_splices,
-  length-with,
-  head_of,
-  head-length,
-  head-set,
-}
+use Rattle.theorems.specs.Splices.{with_part, Stands, Told, Spliced, edit_splices, length-with, head_of, head-length, head-set}
 
 -- ---- a message with a part in its transfer data
 

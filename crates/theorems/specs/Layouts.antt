@@ -23,7 +23,7 @@ use Rattle.annex.specs.Reading.{
   commons_by,
   record_by,
 }
-use Rattle.annex.specs.declared.Answer.TheVariants.{Accepted}
+use Rattle.annex.specs.Answers.{Accepted}
 use Rattle.laws.specs.Bools.{and_both}
 use Rattle.laws.specs.Members.{sum_of}
 use Rattle.theorems.specs.Lists.{every_append, each_so, stands, times_rest, pigeons}

@@ -14,7 +14,7 @@ use Rattle.annex.specs.Layout.{call_octets, octet_of, data_octets, layout_item, 
 use Rattle.annex.specs.Allowed.{every, Each, is_octet, items_in, Allowed}
 use Rattle.annex.specs.Reading.{verdict_of, record_of}
 use Rattle.annex.specs.Spans.{transfer_rows, inner_rows, common_rows, rows_of, common_rows_by, rows_by}
-use Rattle.annex.specs.declared.Answer.TheVariants.{Accepted}
+use Rattle.annex.specs.Answers.{Accepted}
 use Rattle.annex.specs.declared.Extent.{Extent}
 use Rattle.annex.specs.declared.Row.{Row}
 use Rattle.laws.specs.Laid.{length-layout}

@@ -3,7 +3,7 @@
 use Rattle.std.specs.Prelude.{ℕ, ◌+◌, ◌≤◌, ◌≡◌, refl, Bool, true, false, cond, not, ◌||◌, List, [], ◌∷◌, ◌++◌, map, eqb, ltb, length}
 use Rattle.std.proofs.Common.{arith, sym, ap, ◌∙◌, append_assoc, eqb-true, ltb-true, ltb-false, length-append}
 use Rattle.std.proofs.lemmas.Bool.{not-true, not-false}
-use Rattle.annex.specs.Answers.{over_the_limits, cut_short}
+use Rattle.annex.specs.Answers.{over_the_limits, cut_short, Accepted}
 use Rattle.annex.specs.Units.{name_of}
 use Rattle.annex.specs.Heads.{among, end_mark, user_class, signal_kind, common_headers, most_octets}
 use Rattle.annex.specs.Layout.{layout}
@@ -24,7 +24,6 @@ use Rattle.annex.specs.Reading.{
   commons_by,
   record_by,
 }
-use Rattle.annex.specs.declared.Answer.TheVariants.{Accepted}
 use Rattle.annex.specs.Contents.{fault_of}
 use Rattle.laws.specs.Bools.{and_left, and_right, or_right}
 use Rattle.laws.specs.Steps.{passed, common_within}

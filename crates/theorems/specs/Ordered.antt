@@ -5,7 +5,7 @@ use Rattle.std.specs.Prelude.{ℕ, zero, suc, ◌+◌, ◌-◌, ◌≤◌, ◌�
 use Rattle.std.proofs.Common.{arith, sym, ap, ◌∙◌, append_assoc, eqb-true, eq-eqb, leb-true, le-leb, length-append, take-append-drop, length-take-le, drop-drop, get_or-take}
 use Rattle.std.proofs.lemmas.List.{length-map}
 use Rattle.std.proofs.Math.Seq.{drop-nil, take-append_seam, drop-append_seam}
-use Rattle.annex.specs.Answers.{and_then, is_sound, start_of, stop_of}
+use Rattle.annex.specs.Answers.{and_then, is_sound, start_of, stop_of, Accepted, Sound}
 use Rattle.annex.specs.Heads.{among, connection_order, zeroes_of, form_of}
 use Rattle.annex.specs.Orders.{
   order_forms,
@@ -49,9 +49,7 @@ use Rattle.annex.specs.Opened.{
   parameter_of,
   most_order_rows,
 }
-use Rattle.annex.specs.declared.Answer.TheVariants.{Accepted}
 use Rattle.annex.specs.declared.Check.TheVariants.{Order}
-use Rattle.annex.specs.declared.Fault.TheVariants.{Sound}
 use Rattle.annex.specs.declared.Row.{Row}
 use Rattle.laws.specs.Bools.{and_left, and_right, and_both, same_turned}
 use Rattle.laws.specs.Faults.{then_sound, then_both, is_sound_lem}

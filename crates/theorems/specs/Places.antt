@@ -6,7 +6,7 @@ use Rattle.std.proofs.Math.Nat.{add-zero, zero-add}
 use Rattle.std.proofs.Math.Path.{ap}
 use mathlib.Core.List.{List, [], ◌∷◌, ◌++◌, append-nil}
 use Rattle.std.proofs.Math.ListN.{length}
-use Rattle.annex.specs.Answers.{given_of, start_of}
+use Rattle.annex.specs.Answers.{given_of, start_of, Accepted, Found, At, Nowhere}
 use Rattle.annex.specs.Units.{name_of, lead_of, extent_of, common_extent_of}
 use Rattle.annex.specs.Heads.{among, end_mark, transfer_data, often_of, kth}
 use Rattle.annex.specs.Items.{Item, Part, contents_of, data_part}
@@ -15,9 +15,6 @@ use Rattle.annex.specs.Allowed.{every, Each, times_in, is_octet, items_in, heade
 use Rattle.annex.specs.Walk.{Par}
 use Rattle.annex.specs.Reading.{verdict_of, transfers_of, record_of}
 use Rattle.annex.specs.Finding.{stretch_of, common_in, common_found, transfer_in, transfer_among, transfer_found, found_answer}
-use Rattle.annex.specs.declared.Answer.TheVariants.{Accepted}
-use Rattle.annex.specs.declared.Found.{Found}
-use Rattle.annex.specs.declared.Found.TheVariants.{At, Nowhere}
 use Rattle.laws.specs.Bools.{same_turned}
 use Rattle.laws.specs.Often.{some_often}
 use Rattle.theorems.specs.Lists.{each_right, times_rest}

@@ -7,7 +7,7 @@ use Rattle.std.proofs.Math.Path.{ap}
 use borrow.Author.Tests.{eqb-true, eq-eqb, ltb-false, le-ltb, not-false}
 use Rattle.std.proofs.lemmas.List.{length-map}
 use Rattle.std.proofs.Math.Seq.{drop-append_seam}
-use Rattle.annex.specs.Answers.{outside_profile, given_of}
+use Rattle.annex.specs.Answers.{outside_profile, given_of, Accepted, Refused}
 use Rattle.annex.specs.Heads.{among, end_mark}
 use Rattle.annex.specs.Orders.{once}
 use Rattle.annex.specs.Items.{Item, Part}
@@ -41,7 +41,6 @@ use Rattle.annex.specs.Profile.{
   most_classes,
 }
 use Rattle.annex.specs.declared.AddedClass.{AddedClass}
-use Rattle.annex.specs.declared.Answer.TheVariants.{Accepted, Refused}
 use Rattle.annex.specs.declared.Record.{Record}
 use Rattle.laws.specs.Bools.{and_left, and_right, and_both}
 use Rattle.laws.specs.Members.{once_few}

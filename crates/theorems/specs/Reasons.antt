@@ -3,7 +3,7 @@
 use Rattle.std.specs.Prelude.{ℕ, ◌≤◌, ◌<◌, ◌≡◌, Bool, true, false, not, List, ◌↔◌, eqb, leb, ltb, length, get_or, take}
 use Rattle.std.proofs.Common.{arith, sym, ◌∙◌, eqb-true, eq-eqb, ne_eqb, leb-false, ltb-false, le-ltb, length-take-le}
 use Rattle.std.proofs.lemmas.Bool.{eqb-false, lt-leb, not-false}
-use Rattle.annex.specs.Answers.{repeated_name, transfer_over, no_room, absent, refuse, header_at}
+use Rattle.annex.specs.Answers.{repeated_name, transfer_over, no_room, absent, refuse, header_at, Accepted, Sound}
 use Rattle.annex.specs.Units.{name_of, after_of, extent_of, contents_in}
 use Rattle.annex.specs.Heads.{among, transfer_data, most_transfer_octets, name_used, pli_right, often_of}
 use Rattle.annex.specs.Contents.{fault_of}
@@ -13,8 +13,6 @@ use Rattle.annex.specs.Allowed.{times_in, headers_of, items_in, names_of}
 use Rattle.annex.specs.Reading.{verdict_of, record_of}
 use Rattle.annex.specs.Editing.{Edit, new_header, new_after, new_head, new_contents, edit_refusal, edited, record_editing, editing_of}
 use Rattle.annex.specs.Editing.Edit.{Replacing, Appending, Removing}
-use Rattle.annex.specs.declared.Answer.TheVariants.{Accepted}
-use Rattle.annex.specs.declared.Fault.TheVariants.{Sound}
 use Rattle.laws.specs.Steps.{passed, then_passed, sounded, head_taken, head_right}
 use Rattle.theorems.specs.Lengths.{Long}
 use Rattle.theorems.specs.Messages.{message_read}

@@ -5,7 +5,7 @@ use Rattle.annex.specs.Items.{Part}
 use Rattle.annex.specs.Layout.{layout}
 use Rattle.annex.specs.Allowed.{every, is_octet, Allowed}
 use Rattle.annex.specs.Reading.{verdict_of, record_of}
-use Rattle.annex.specs.declared.Answer.TheVariants.{Accepted}
+use Rattle.annex.specs.Answers.{Accepted}
 use Rattle.theorems.specs.Messages.{read_then_laid}
 use Rattle.theorems.specs.Layouts.{laid_then_read}
 

@@ -2,13 +2,15 @@
 -- parameter before that one has a bad octet. Any other number of a transfer parameter is told at its header.
 use Prim.Native.Nat.{ℕ, zero, suc, ◌+◌, ◌-◌, ◌≤◌}
 use native.Mathlib.Omega.{arith}
-use Rattle.std.specs.Prelude.{◌≡◌, Bool, true, false, cond, not, ◌||◌, ◌⊎◌, eqb, leb, ltb, length, get_or, take, drop}
+use Rattle.std.specs.Prelude.{◌≡◌, Bool, true, false, cond, not, ◌||◌, ◌⊎◌, eqb, leb, ltb, length, get_or, take, drop, Err}
 use Rattle.std.proofs.Math.Path.{refl, sym, ap}
 use Rattle.std.proofs.Common.{subst, ◌∙◌, inl, inr, get_or-take, get_or-drop, take-take, drop-drop}
 use mathlib.Core.List.{List, [], ◌∷◌, ◌++◌}
 use borrow.Author.Tests.{ltb-true, ltb-false, le-leb, eqb-true}
 use Rattle.std.proofs.Math.ListN.{length-drop}
 use Rattle.annex.specs.Answers.{
+  number_of,
+  place_of,
   over_the_limits,
   unlisted,
   repeated,
@@ -29,6 +31,17 @@ use Rattle.annex.specs.Answers.{
   shifted,
   outside_profile,
   absent,
+  Answer,
+  Accepted,
+  Refused,
+  ChargingAnswer,
+  Is,
+  Found,
+  At,
+  Nowhere,
+  Fault,
+  Sound,
+  Bad,
 }
 use Rattle.annex.specs.Units.{name_of, lead_of, extent_of, common_extent_of, contents_in}
 use Rattle.annex.specs.Heads.{among, listed_headers, end_mark, transfer_data, most_octets, name_used, pli_right, often_of}
@@ -96,14 +109,6 @@ use Rattle.annex.specs.Profile.{
   profile_reading,
   classes_answer,
 }
-use Rattle.annex.specs.declared.Answer.{Answer}
-use Rattle.annex.specs.declared.Answer.TheVariants.{Accepted, Refused}
-use Rattle.annex.specs.declared.ChargingAnswer.{ChargingAnswer}
-use Rattle.annex.specs.declared.ChargingAnswer.TheVariants as chargings
-use Rattle.annex.specs.declared.Found.{Found}
-use Rattle.annex.specs.declared.Found.TheVariants.{At, Nowhere}
-use Rattle.annex.specs.declared.Fault.{Fault}
-use Rattle.annex.specs.declared.Fault.TheVariants.{Sound, Bad}
 use Rattle.laws.specs.Extents.{lead_within}
 use Rattle.laws.specs.Parts.{from_to}
 use Rattle.laws.specs.Firsts.{first_bad, none_bad}
@@ -116,17 +121,17 @@ use Rattle.laws.specs.Plain.{Lies, pars_lie, each_listed, transfer_sized, transf
 
 -- an answer that refuses with j was not refused on the way with another number
 other : (b : Bool) (k p : ℕ) (a : Answer) (j q : ℕ) → (k ≡ j → ⊥) → refuse b k p a ≡ Refused j q → (b ≡ false) × (a ≡ Refused j q)
-other true k p a j q n e = absurd (n (let same : k ≡ j = cc in same))
+other true k p a j q n e = absurd (n (ap number_of e))
 other false k p a j q n e = (refl, e)
 
 -- 13 is placed at its octet
 placed : (s : ℕ) (f : Fault) (n q : ℕ) → sound_then (reading_at s) f (Accepted n) ≡ Refused bad_digit q
     → (i : ℕ) × (f ≡ Bad bad_digit i) × (q ≡ s + i)
 placed s Sound n q e = absurd (let z : ◌≡◌ {A = ℕ} 0 1 = cc in omega arith)
-placed s (Bad k i) n q e =
-    let number : k ≡ bad_digit = cc in
-    let place : reading_at s k i ≡ q = cc in
-    (i, rw number, sym place ∙ rw number)
+placed s (Err r) n q e =
+    let number : r.0 ≡ bad_digit = ap number_of e in
+    let place : reading_at s r.0 r.1 ≡ q = ap place_of e in
+    (r.1, rw number, sym place ∙ rw number)
 
 -- ---- a walk that is refused
 
@@ -182,15 +187,15 @@ module _ (step : Step) (close : Seen → ℕ → Answer) (size : Size)
             whole = λ l m w.
                 rw (f, ← z.0, le-leb n (length xs) z.1) (ap (λ (r : List Par). par_of p x n xs ∷ r) (s.whole l m w));
           }
-      go (Refused k q) f e ih =
-          let number : k ≡ num = cc in
-          let there : p + q ≡ pl = cc in
+      go (Err r) f e ih =
+          let number : r.0 ≡ num = ap number_of e in
+          let there : p + r.1 ≡ pl = ap place_of e in
           record {
             at = p;
             x = x;
             ys = xs;
             names = seen;
-            q = q;
+            q = r.1;
             refused = f ∙ rw number;
             place = sym there;
             whole = λ n m w. rw (f, ← m, le-leb n (length xs) w);
@@ -228,18 +233,18 @@ abbrev AtHeader : Answer → Type 0
 AtHeader a = (k q : ℕ) → a ≡ Refused k q → (k ≡ bad_digit) ⊎ (q ≡ 0)
 
 refuse_header : (b : Bool) (j : ℕ) (a : Answer) → AtHeader a → AtHeader (refuse b j 0 a)
-refuse_header true j a h k q e = inr (let there : 0 ≡ q = cc in sym there)
+refuse_header true j a h k q e = inr (sym (ap place_of e))
 refuse_header false j a h k q e = h k q e
 
 sound_header : (s : ℕ) (f : Fault) (n : ℕ) → AtHeader (sound_then (reading_at s) f (Accepted n))
 sound_header s Sound n k q e = absurd (let z : ◌≡◌ {A = ℕ} 0 1 = cc in omega arith)
-sound_header s (Bad j i) n k q e =
-    let number : j ≡ k = cc in
-    let place : reading_at s j i ≡ q = cc in
-    go (eqb j bad_digit) refl (sym number) place
+sound_header s (Err r) n k q e =
+    let number : r.0 ≡ k = ap number_of e in
+    let place : reading_at s r.0 r.1 ≡ q = ap place_of e in
+    go (eqb r.0 bad_digit) refl (sym number) place
   where
-    go : (b : Bool) → eqb j bad_digit ≡ b → k ≡ j → cond b (s + i) 0 ≡ q → (k ≡ bad_digit) ⊎ (q ≡ 0)
-    go true t number place = inl (number ∙ eqb-true j bad_digit t)
+    go : (b : Bool) → eqb r.0 bad_digit ≡ b → k ≡ r.0 → cond b (s + r.1) 0 ≡ q → (k ≡ bad_digit) ⊎ (q ≡ 0)
+    go true t number place = inl (number ∙ eqb-true r.0 bad_digit t)
     go false t number place = inr (sym place)
 
 pub at_the_header : (times h : ℕ) (xs : List ℕ) → AtHeader (transfer_of times h xs)
@@ -309,10 +314,10 @@ data_stops n xs q e = go (transfers_verdict (contents_in (common_extent_of trans
         → and_then (shifted 2 a) (λ _. Accepted n) ≡ Refused bad_digit q
         → (p : ℕ) × (transfers_verdict (contents_in (common_extent_of transfer_data) (take n xs)) ≡ Refused bad_digit p) × (q ≡ 2 + p)
     go (Accepted k) f e = absurd (let z : ◌≡◌ {A = ℕ} 0 1 = cc in omega arith)
-    go (Refused k p) f e =
-        let number : k ≡ bad_digit = cc in
-        let place : 2 + p ≡ q = cc in
-        (p, f ∙ rw number, sym place)
+    go (Err r) f e =
+        let number : r.0 ≡ bad_digit = ap number_of e in
+        let place : 2 + r.1 ≡ q = ap place_of e in
+        (r.1, f ∙ rw number, sym place)
 
 -- 13 of a common parameter: it is C5, which is not cut, and its transfer data is refused so
 common_stops : (times : ℕ) (whole : Bool) (h : ℕ) (xs : List ℕ) (q : ℕ) → common_of times whole h xs ≡ Refused bad_digit q →
@@ -339,8 +344,8 @@ common_stops times whole h xs q e = go (common_form times h xs) refl
     go (Accepted n) f =
         let t = form_taken times h xs n f in
         by_kind n t.size t.within (eqb h end_mark) (eqb h transfer_data) refl (sym (common_formed fault_of times whole h xs n f) ∙ e)
-    go (Refused k p) f =
-        let g = sym (common_refused fault_of times whole h xs k p f) ∙ e in
+    go (Err r) f =
+        let g = sym (common_refused fault_of times whole h xs r.0 r.1 f) ∙ e in
         absurd (form_stops times h xs q (f ∙ g))
 
 common_closed : (seen : Seen) (p q : ℕ) → common_close seen p ≡ Refused bad_digit q → ⊥
@@ -500,12 +505,12 @@ Passes m a = (p : ℕ) → a ≡ Refused bad_digit p → verdict_of m ≡ Refuse
 
 then_passes : (m : List ℕ) (a : Answer) (f : ℕ → Answer) → Passes m a → ((n p : ℕ) → f n ≡ Refused bad_digit p → ⊥) → Passes m (and_then a f)
 then_passes m (Accepted n) f g h p e = absurd (h n p e)
-then_passes m (Refused k q) f g h p e = g p e
+then_passes m (Err r) f g h p e = g p e
 
 -- 16, and 15, are other numbers
 absent_other : (f : Found) (p : ℕ) → found_answer f ≡ Refused bad_digit p → ⊥
 absent_other (At s e) p q = absurd (let z : ◌≡◌ {A = ℕ} 0 1 = cc in omega arith)
-absent_other Nowhere p q = let z : ◌≡◌ {A = ℕ} 16 13 = cc in omega arith
+absent_other Nowhere p q = let z : ◌≡◌ {A = ℕ} 16 13 = ap number_of q in omega arith
 
 number_other : (k : ℕ) → (k ≡ bad_digit → ⊥) → (b : Bool) (q n p : ℕ) → refuse b k q (Accepted n) ≡ Refused bad_digit p → ⊥
 number_other k o b q n p e =
@@ -541,7 +546,7 @@ profile_image_passes m room p e = go (profile_verdict m) (profile_passes m) e
   where
     go : (a : Answer) → Passes m a → and_then a (λ _. image_reading m room) ≡ Refused bad_digit p → verdict_of m ≡ Refused bad_digit p
     go (Accepted n) w f = image_passes m room p f
-    go (Refused k q) w f = w p f
+    go (Err r) w f = w p f
 
 pub profile_read_passes : (m : List ℕ) → Passes m (profile_reading m).answer
 unfolding profile_reading
@@ -549,7 +554,7 @@ profile_read_passes m = go (profile_verdict m) (profile_passes m)
   where
     go : (a : Answer) → Passes m a → Passes m (profile_by a (record_of m)).answer
     go (Accepted n) w = w
-    go (Refused k q) w = w
+    go (Err r) w = w
 
 pub classes_passes : (m : List ℕ) (room : ℕ) → Passes m (classes_answer m room)
 unfolding classes_answer
@@ -579,27 +584,27 @@ carrier_digits_passes m which row room =
     then_passes m (find_answer m (carriers_found which m)) _ (find_passes m (carriers_found which m))
     (λ _ p f. room_other (ltb room n) n p (other (not (is_code_entry e)) absent 0 _ bad_digit p (λ z. omega arith) f).1)
 
-pub charging_passes : (m : List ℕ) (p : ℕ) → charging_of m ≡ chargings.Refused bad_digit p → verdict_of m ≡ Refused bad_digit p
+pub charging_passes : (m : List ℕ) (p : ℕ) → charging_of m ≡ Refused bad_digit p → verdict_of m ≡ Refused bad_digit p
 unfolding charging_of
 charging_passes m p e = go (find_answer m (charging_found m)) (find_passes m (charging_found m)) e
   where
-    go : (a : Answer) → Passes m a → charging_by a (find_part m (charging_found m)) ≡ chargings.Refused bad_digit p
+    go : (a : Answer) → Passes m a → charging_by a (find_part m (charging_found m)) ≡ Refused bad_digit p
         → verdict_of m ≡ Refused bad_digit p
     go (Accepted n) w e = absurd (let z : ◌≡◌ {A = ℕ} 0 1 = cc in omega arith)
-    go (Refused k q) w e =
-        let number : k ≡ bad_digit = cc in
-        w q (rw number) ∙ (let there : q ≡ p = cc in rw there)
+    go (Err r) w e =
+        let number : r.0 ≡ bad_digit = ap number_of e in
+        w r.1 (rw number) ∙ ap (Refused bad_digit) (ap place_of e)
 
 pub octet_charging_passes : (m : List ℕ) (room : ℕ) → Passes m (octet_charging m room)
 unfolding octet_charging
 octet_charging_passes m room p e = go (charging_of m) (charging_passes m) e
   where
-    go : (a : ChargingAnswer) → ((p : ℕ) → a ≡ chargings.Refused bad_digit p → verdict_of m ≡ Refused bad_digit p)
+    go : (a : ChargingAnswer) → ((p : ℕ) → a ≡ Refused bad_digit p → verdict_of m ≡ Refused bad_digit p)
         → octet_charging_by a room ≡ Refused bad_digit p → verdict_of m ≡ Refused bad_digit p
-    go (chargings.Is c) w e = absurd (room_other (ltb room charging_octets) charging_octets p e)
-    go (chargings.Refused k q) w e =
-        let number : k ≡ bad_digit = cc in
-        w q (rw number) ∙ (let there : q ≡ p = cc in rw there)
+    go (Is c) w e = absurd (room_other (ltb room charging_octets) charging_octets p e)
+    go (Err r) w e =
+        let number : r.0 ≡ bad_digit = ap number_of e in
+        w r.1 (rw number) ∙ ap (Refused bad_digit) (ap place_of e)
 
 -- an edit passes on what reading refuses, and tells its own 13 at 0
 pub edit_passes : (e : Edit) (d : List ℕ) (n p : ℕ) → editing_of e d n ≡ Refused bad_digit p
@@ -612,4 +617,4 @@ edit_passes e d n p f =
         → and_then a (λ _. record_editing e (record_of (take n d)) (length d)) ≡ Refused bad_digit p
         → (verdict_of (take n d) ≡ Refused bad_digit p) ⊎ (((q : ℕ) × (verdict_of (take n d) ≡ Accepted q)) × (p ≡ 0))
     go (Accepted q) v g = inr ((q, v), omega (arith, (record_place e (record_of (take n d)) (length d)).at bad_digit p g))
-    go (Refused k q) v g = inl (v ∙ g)
+    go (Err r) v g = inl (v ∙ g)

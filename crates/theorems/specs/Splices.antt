@@ -15,8 +15,7 @@ use Rattle.annex.specs.Reading.{transfers_verdict, verdict_of, transfers_of, rec
 use Rattle.annex.specs.Finding.{common_found, transfer_found}
 use Rattle.annex.specs.Editing.{Edit, new_header, edited, editing_of}
 use Rattle.annex.specs.Editing.Edit.{Replacing, Appending, Removing}
-use Rattle.annex.specs.declared.Answer.TheVariants.{Accepted}
-use Rattle.annex.specs.declared.Found.TheVariants.{At}
+use Rattle.annex.specs.Answers.{Accepted, At}
 use Rattle.theorems.specs.Lists.{every_take}
 use Rattle.theorems.specs.Counts.{names_in}
 use Rattle.theorems.specs.Transfers.{item_par, item_pars, transfers_built}

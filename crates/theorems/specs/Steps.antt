@@ -1,9 +1,9 @@
 -- What an accepted step says of a parameter with its own octets, and that the same is enough for the step to accept it, whatever follows.
-use Rattle.std.specs.Prelude.{ℕ, ◌≤◌, ◌<◌, ◌≡◌, refl, Bool, true, false, cond, not, List, [], ◌∷◌, ◌++◌, eqb, ltb, length, get_or, take}
+use Rattle.std.specs.Prelude.{ℕ, ◌≤◌, ◌<◌, ◌≡◌, refl, Bool, true, false, cond, not, List, [], ◌∷◌, ◌++◌, eqb, ltb, length, get_or, take, Err}
 use Rattle.std.proofs.Common.{arith, sym, ◌∙◌, ltb-false, le-ltb, length-append}
 use Rattle.std.proofs.lemmas.Bool.{not-true, not-false, lt-leb}
 use Rattle.std.proofs.Math.Seq.{take-append_seam}
-use Rattle.annex.specs.Answers.{missing, left_over, and_then, shifted}
+use Rattle.annex.specs.Answers.{missing, left_over, and_then, shifted, Answer, Accepted, Refused, Sound}
 use Rattle.annex.specs.Units.{name_of, after_of, extent_of, common_extent_of, contents_in}
 use Rattle.annex.specs.Heads.{value_allowed, among, common_headers, end_mark, transfer_data, name_used, pli_right, often_of}
 use Rattle.annex.specs.Contents.{fault_of}
@@ -19,9 +19,6 @@ use Rattle.annex.specs.Reading.{
   data_by,
   common_by,
 }
-use Rattle.annex.specs.declared.Answer.{Answer}
-use Rattle.annex.specs.declared.Answer.TheVariants.{Accepted, Refused}
-use Rattle.annex.specs.declared.Fault.TheVariants.{Sound}
 use Rattle.laws.specs.Steps.{passed, transfer_taken, FormTaken, form_taken, common_formed, common_refused, data_taken}
 use Rattle.laws.specs.Members.{among_every}
 use Rattle.theorems.specs.Lists.{among_each}
@@ -116,7 +113,7 @@ common_accepted times whole h n xs e = go (common_form times h xs) refl
 
     go : (a : Answer) → common_form times h xs ≡ a → Outcome (eqb h end_mark) times whole h n xs
     go (Accepted k) f = by k (eqb h end_mark) (form_taken times h xs k f) (sym (common_formed fault_of times whole h xs k f) ∙ e)
-    go (Refused k q) f = absurd (let g = common_refused fault_of times whole h xs k q f in let z : ◌≡◌ {A = ℕ} 0 1 = cc in omega arith)
+    go (Err r) f = absurd (let g = common_refused fault_of times whole h xs r.0 r.1 f in let z : ◌≡◌ {A = ℕ} 0 1 = cc in omega arith)
 
 -- one that a record may hold, of its own octets
 pub record CommonOwn (times h : ℕ) (own : List ℕ) : Type 0 where

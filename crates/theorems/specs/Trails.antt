@@ -3,15 +3,14 @@
 use Prim.Native.Nat.{ℕ, zero, suc, ◌+◌, ◌≤◌}
 use native.Mathlib.Omega.{arith}
 use Rattle.std.proofs.Math.Nat.{add-zero}
-use Rattle.std.specs.Prelude.{◌≡◌, take}
+use Rattle.std.specs.Prelude.{◌≡◌, take, Err}
 use Rattle.std.proofs.Math.Path.{refl, ap}
 use Rattle.std.proofs.Common.{sym, ◌∙◌, length-append, length-take-le}
 use mathlib.Core.List.{List, [], ◌∷◌, ◌++◌}
 use Rattle.std.proofs.Math.ListN.{length}
 use Rattle.std.proofs.Math.Seq.{take-append_seam, drop-append_seam}
 use Rattle.annex.specs.Walk.{Seen, counted, Par, Step, Walker, by_step, walk, judging, listing}
-use Rattle.annex.specs.declared.Answer.{Answer}
-use Rattle.annex.specs.declared.Answer.TheVariants.{Accepted, Refused}
+use Rattle.annex.specs.Answers.{Answer, Accepted, Refused}
 use Rattle.laws.specs.Walks.{accepted, walk_end}
 
 -- parameters, header and own octets, one after the other
@@ -60,7 +59,7 @@ module _ (step : Step) (close : Seen → ℕ → Answer)
           ((k : ℕ) → k ≤ length xs → walk (judging step close) (counted seen x) k (p + 1) xs ≡ Accepted n
           → Walked step close (counted seen x) k (p + 1) n xs (rest k))
           → Walked step close seen 0 p n (x ∷ xs) (by_step a (λ k q. []) (λ n. record { place = p; head = x; own = take n xs } ∷ rest n))
-      go (Refused k q) f g ih = absurd (let z : ◌≡◌ {A = ℕ} 0 1 = cc in omega arith)
+      go (Err r) f g ih = absurd (let z : ◌≡◌ {A = ℕ} 0 1 = cc in omega arith)
       go (Accepted k) f g ih =
           let l = within seen x xs k f in
           let w = ih k l g in

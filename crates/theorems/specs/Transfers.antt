@@ -9,8 +9,7 @@ use Rattle.annex.specs.Layout.{led_by, layout_item, layout_items}
 use Rattle.annex.specs.Allowed.{every, Each, times_in, is_octet, length_right, fault_in, HeldItem, names_of}
 use Rattle.annex.specs.Walk.{Seen, unseen, times_seen, counted, Par, walk, judging, listing}
 use Rattle.annex.specs.Reading.{transfer_step, transfers_verdict, transfers_of, open_transfer, transfers_verdict_by, transfers_by}
-use Rattle.annex.specs.declared.Answer.TheVariants.{Accepted}
-use Rattle.annex.specs.declared.Fault.TheVariants.{Sound}
+use Rattle.annex.specs.Answers.{Accepted, Sound}
 use Rattle.annex.specs.Contents.{fault_of}
 use Rattle.laws.specs.Bools.{and_left, and_right, and_both}
 use Rattle.laws.specs.Steps.{transfer_taken}
@@ -18,17 +17,7 @@ use Rattle.laws.specs.Leaves.{opened, closed}
 use Rattle.theorems.specs.Lists.{every_append, every_left, every_right, every_drop, each_so, each_map}
 use Rattle.theorems.specs.Lengths.{cut, lead}
 use Rattle.theorems.specs.Trails.{laid_out, Trail, walked, built, made_list, made_answer}
-use Rattle.theorems.specs.Counts.{
-  names_in,
-  Full,
-  full_unseen,
-  full_counted,
-  none_seen,
-  Sparing,
-  sparing_first,
-  sparing_rest,
-  sparing_trail,
-}
+use Rattle.theorems.specs.Counts.{names_in, Full, full_unseen, full_counted, none_seen, Sparing, sparing_first, sparing_rest, sparing_trail}
 use Rattle.theorems.specs.Steps.{TransferOwn, transfer_own, transfer_accepts}
 
 -- one allowed transfer parameter

@@ -12,7 +12,7 @@ use Rattle.annex.specs.Allowed.{every, times_in, is_octet, items_in, names_of, A
 use Rattle.annex.specs.Reading.{record_of}
 use Rattle.annex.specs.Editing.{Edit, new_header, new_item, edited_items, edited, editing_of, buffer_of}
 use Rattle.annex.specs.Editing.Edit.{Appending, Removing}
-use Rattle.annex.specs.declared.Answer.TheVariants.{Accepted}
+use Rattle.annex.specs.Answers.{Accepted}
 use Rattle.theorems.specs.Lists.{times_append, times_here}
 use Rattle.theorems.specs.Records.{names_append}
 use Rattle.theorems.specs.Parted.{Parted, one_data}

@@ -4,7 +4,7 @@
 use Rattle.std.specs.Prelude.{ℕ, suc, ◌+◌, ◌-◌, ◌≤◌, ◌<◌, ◌≡◌, refl, Bool, true, false, cond, not, List, [], ◌∷◌, ◌++◌, ◌↔◌, eqb, leb, ltb, length, drop}
 use Rattle.std.proofs.Common.{arith, sym, ap, ◌∙◌, length-append}
 use borrow.Author.Tests.{not-false, leb-false, lt-leb, ltb-true, ltb-false, le-ltb}
-use Rattle.annex.specs.Answers.{missing, transfer_over, over_the_limits, refuse, header_at}
+use Rattle.annex.specs.Answers.{missing, transfer_over, over_the_limits, refuse, header_at, Accepted}
 use Rattle.annex.specs.Units.{name_of, extent_of}
 use Rattle.annex.specs.Heads.{
   among,
@@ -54,7 +54,6 @@ use Rattle.annex.specs.Writing.{
 }
 use Rattle.annex.specs.Records.{pack, is_whole, view, reading_of}
 use Rattle.annex.specs.declared.Record.{Record}
-use Rattle.annex.specs.declared.Answer.TheVariants.{Accepted}
 use Rattle.laws.specs.Bools.{and_left, and_right}
 use Rattle.laws.specs.Steps.{passed, then_passed, sounded, head_taken, head_right}
 use Rattle.laws.specs.Laid.{length-layout, lead_small, length_small}

@@ -17,6 +17,13 @@ use Rattle.annex.specs.Answers.{
   unused_name,
   other_pli,
   formed,
+  Answer,
+  Accepted,
+  Refused,
+  Fault,
+  Sound,
+  Bad,
+  Found,
 }
 use Rattle.annex.specs.Units.{counted_by, whole_count, octets_of, halves_in, after_of, lead_of, common_extent_of, extent_of}
 use Rattle.annex.specs.Heads.{value_allowed, among, listed_headers, is_call, name_used, pli_right, often_of, zeroes_of, form_of}
@@ -69,6 +76,8 @@ use Rattle.annex.specs.Reading.{
 }
 use Rattle.annex.specs.Finding.{common_in, common_found, find_answer, find_part, found_by}
 use Rattle.annex.specs.Records.{
+  held_from,
+  held_at,
   value_head,
   octet_head,
   data_head,
@@ -93,14 +102,13 @@ use Rattle.annex.specs.Image.{image_head, head_front, item_size, common_front}
 use Rattle.annex.specs.Promises.{Gives, Keeps}
 use Rattle.annex.specs.Bench.{K, record_of_k, record_of_m}
 use Rattle.annex.specs.Opened.{order_listing}
-use Rattle.annex.specs.Entering.{entry_stretch, entry_next, is_code_here}
+use Rattle.annex.specs.Entering.{first_entry, entry_stretch, entry_next, is_code_here, cursors_from}
 use Rattle.annex.specs.Ordering.{taken_of, order_rows_from, order_row_here, order_next}
-use Rattle.annex.specs.Walking.{sought_in, search_in, common_plain, stretch_at, cursor_to, stretch_here, row_here, next_of, transfer_plain}
+use Rattle.annex.specs.Walk.{unseen, times_seen, counted}
+use Rattle.annex.specs.Walking.{first_cursor, sought_in, search_in, common_plain, stretch_at, cursor_to, stretch_here, row_here, next_of, transfer_plain, steps_from, rows_left}
 use Rattle.annex.specs.Memory.{Request, put, laid_at, spliced, copying, splicing, packing, unpacking, laying, laying_head, values_fit}
 use Rattle.annex.specs.Opening.{head_for, values_with, opened_head, opened_values, part_head}
 use Rattle.annex.specs.declared.Alphabet.TheVariants.{Dialled, Numbered, Decimal}
-use Rattle.annex.specs.declared.Answer.{Answer}
-use Rattle.annex.specs.declared.Answer.TheVariants.{Accepted, Refused}
 use Rattle.annex.specs.declared.Charges.{Charges}
 use Rattle.annex.specs.declared.Check.TheVariants.{Nothing}
 use Rattle.annex.specs.declared.Common.{Common}
@@ -108,11 +116,8 @@ use Rattle.annex.specs.declared.CountingUnit.TheVariants.{HalfOctet, Octet}
 use Rattle.annex.specs.declared.Cursor.{Cursor}
 use Rattle.annex.specs.declared.Extent.{Extent}
 use Rattle.annex.specs.declared.Extent.TheVariants.{Counted}
-use Rattle.annex.specs.declared.Fault.{Fault}
-use Rattle.annex.specs.declared.Fault.TheVariants.{Sound, Bad}
 use Rattle.annex.specs.declared.Form.{Form}
 use Rattle.annex.specs.declared.Form.TheVariants.{Checked, Digits, Number, Calling, Generic}
-use Rattle.annex.specs.declared.Found.{Found}
 use Rattle.annex.specs.declared.HalfOctets.{HalfOctets}
 use Rattle.annex.specs.declared.Holding.{Holding}
 use Rattle.annex.specs.declared.Holding.TheVariants.{AsContents, AsDigits, AsNumber, AsGeneric}
@@ -308,13 +313,14 @@ rows =
     finds (entry_stretch coded (cursor_to 1 1)) (entry_stretch coded (cursor_to 3 9)) ∷  -- inside
     gives Cursor (λ c. c.at) (entry_next coded (cursor_to 1 1)) (entry_next coded (cursor_to 3 9)) ∷  -- entries::cursor::next
     tests (is_code_here coded (cursor_to 5 9)) (is_code_here coded (cursor_to 5 5)) ∷  -- entries::cursor::is_code
+    gives (List Cursor) length (cursors_from coded first_entry) (cursors_from [] first_entry) ∷  -- entries::cursor::entries
     faults (carriers_fault coded) (carriers_fault (0x04 ∷ [])) ∷  -- carriers_fault, form
     faults (carriers_fault (coded_by 0x01)) (carriers_fault (coded_by 0x11)) ∷  -- carriers_fault, digits
-    faults (formed true) (formed false) ∷  -- Fault::formed
+    faults (formed true) (formed false) ∷  -- Flaw::unless
     answers (sound_then (header_at 0) Sound (Accepted 1)) (sound_then (header_at 0) (Bad 13 2) (Accepted 1)) ∷  -- at_header
     counts (get_or (0x21 ∷ 0x43 ∷ []) 0 0) (get_or (0x21 ∷ 0x43 ∷ []) 1 0) ∷  -- octet_at
     lists (drop 0 (0x21 ∷ [])) (drop 1 (0x21 ∷ [])) ∷  -- octets_from
-    lists (take 1 (drop 0 (0x21 ∷ []))) (take 1 (drop 1 (0x21 ∷ []))) ∷  -- stretch_from
+    lists (take 1 (drop 0 (0x21 ∷ []))) (take 1 (drop 1 (0x21 ∷ []))) ∷  -- so many octets from a place on
     faults (fault_of 0x90 (0x01 ∷ 0x0A ∷ [])) (fault_of 0x90 (0x01 ∷ 0x00 ∷ [])) ∷  -- contents_fault
     answers (transfer_of 0 0x41 (0x01 ∷ [])) (transfer_of 0 0x41 []) ∷  -- transfer
     gives Holding held_number (holding_by Generic 0x06) (holding_by Generic 0x07) ∷  -- holding_by
@@ -340,7 +346,10 @@ rows =
     stores (laying_head (value_head 0x06 0x11) (lent 2) 0) (laying_head (value_head 0x06 0x11) (lent 2) 1) ∷  -- lay_head
     finds (stretch_at K 0 (Counted Octet)) (stretch_at [] 0 (Counted Octet)) ∷  -- stretch_at
     gives Row (λ r. r.offset) (row_here K (cursor_to 0 0)) (row_here K (cursor_to 2 2)) ∷  -- row_here
+    counts (times_seen (counted unseen 0x41) 0x41) (times_seen unseen 0x41) ∷  -- Seen::times
+    lists (counted unseen 0x40) (counted unseen 0x41) ∷  -- Seen::count
     gives Cursor (λ c. c.at) (next_of K (cursor_to 0 0)) (next_of K (cursor_to 2 2)) ∷  -- next
+    gives (List Row) length (rows_left (0x01 ∷ 0x02 ∷ []) first_cursor) (rows_left [] first_cursor) ∷  -- walk::cursor::rows_in
     commons (λ c. c.value) (part_head 0x83 (0x39 ∷ 0x30 ∷ 0x00 ∷ []) 0) (part_head 0x83 (0x30 ∷ 0x39 ∷ 0x00 ∷ []) 0) ∷  -- part_head
     finds (search_in (Name 0x01 0) (0x41 ∷ 0x01 ∷ [])) (search_in (Name 0x01 1) (0x41 ∷ 0x01 ∷ [])) ∷  -- search_by_length
     finds (common_plain 0x01 K) (common_plain 0x06 K) ∷  -- common_by_length
@@ -350,8 +359,10 @@ rows =
     gives Answer given_of (find_answer short (found_by (Header 0x01) short)) (find_answer short (found_by (Header 0x06) short))
     ∷  -- find_both, answer
     counts (length (find_part short (found_by (Header 0x01) short))) (length (find_part short (found_by (Header 0x00) short)))
-    ∷  -- find_both, len
-    counts (given_of (Accepted 9)) (given_of (Refused 15 0)) ∷  -- given
+    ∷  -- find_both, how many octets the part has
+    lists (find_part short (found_by (Header 0x01) short)) (find_part short (found_by (Header 0x06) short)) ∷  -- find_both, part
+    counts (given_of (Accepted 9)) (given_of (Refused 15 0)) ∷  -- the count that an answer gives
+    gives (List (Transfer × List ℕ)) length (held_at (pack record_of_m) 0 0) (held_at (pack record_of_m) 0 1) ∷  -- items_from
     counts (lengths_of (take 0 (pack record_of_m).transfer)) (lengths_of (take 1 (pack record_of_m).transfer)) ∷  -- values_before
     tests (struct_over (pack record_of_k)) (struct_over (pack (record_of_k ++ (record_of_k ++ (record_of_k ++ record_of_k))))) ∷  -- over_limits
     counts (length (layout_part (value_part 0x83 0))) (length (layout_part (value_part 0x01 0))) ∷  -- head_len
@@ -373,6 +384,7 @@ unfolding after_of extent_of common_extent_of lead_of name_used pli_right often_
     value_fits walk transfer_by value_allowed common_form end_of common_by message_verdict_by verdict_by commons_by common_in common_found pad values_of
     pack lengths_of transfers_sum is_whole view_items view_parts view over_limits item_writing part_writing layout_part pars sought_in stretch_at
     stretch_here row_here next_of order_listing taken_of order_rows_from order_next entry_stretch entry_next put spliced
+    steps_from held_from rows_left cursors_from
 rows_differ = refl
 
 -- every row's programs are shut out

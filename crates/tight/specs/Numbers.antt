@@ -1,9 +1,9 @@
 -- The promises by number, place and value. Where a function answers an enum, keeping its promise is the same as this: the number, the place
 -- and the value of its answer, which `Answers` and `Charging` state for every case, are those of the definition's, and a refusal has a
 -- number.
-use Rattle.std.specs.Prelude.{ℕ, ◌≡◌, refl, List, ◌∷◌, ◌↔◌, length, get_or, drop}
+use Rattle.std.specs.Prelude.{ℕ, ◌≡◌, refl, List, ◌∷◌, ◌↔◌, length, get_or, drop, Err}
 use Rattle.std.proofs.Common.{arith, sym, ap, ◌∙◌}
-use Rattle.annex.specs.Answers.{number_of, place_of, given_of, class_value_of, class_number_of, class_place_of, class_given_of}
+use Rattle.annex.specs.Answers.{number_of, place_of, given_of, class_value_of, class_given_of, Answer, Accepted, Refused, ChargingAnswer, Is, ClassAnswer}
 use Rattle.annex.specs.Items.{Part}
 use Rattle.annex.specs.Reading.{verdict_of, record_of}
 use Rattle.annex.specs.Records.{read_by, reading_of}
@@ -14,15 +14,7 @@ use Rattle.annex.specs.Spans.{spans_of, table_of}
 use Rattle.annex.specs.Editing.{Edit, editing_of, buffer_of}
 use Rattle.annex.specs.Classes.{class_of}
 use Rattle.annex.specs.Rates.{field_row, value_of}
-use Rattle.annex.specs.Charging.{
-  charging_of,
-  charging_number_of,
-  charging_place_of,
-  field_numbers,
-  charging_given_of,
-  octet_charging,
-  octet_charged,
-}
+use Rattle.annex.specs.Charging.{charging_of, field_numbers, charging_given_of, octet_charging, octet_charged}
 use Rattle.annex.specs.Opened.{order_answer, order_table}
 use Rattle.annex.specs.Transit.{digits_answer, digits_given}
 use Rattle.annex.specs.Profile.{
@@ -79,15 +71,9 @@ use Rattle.annex.specs.Promises.{
   ImageWritePromise,
   FromImagePromise,
 }
-use Rattle.annex.specs.declared.Answer.{Answer}
-use Rattle.annex.specs.declared.Answer.TheVariants.{Accepted, Refused}
 use Rattle.annex.specs.declared.Charges.{Charges}
-use Rattle.annex.specs.declared.ChargingAnswer.{ChargingAnswer}
-use Rattle.annex.specs.declared.ChargingAnswer.TheVariants as chargings
 use Rattle.annex.specs.declared.Class.{Class}
 use Rattle.annex.specs.declared.Class.TheVariants.{Named, HeldBack, Spare}
-use Rattle.annex.specs.declared.ClassAnswer.{ClassAnswer}
-use Rattle.annex.specs.declared.ClassAnswer.TheVariants as classes
 use Rattle.annex.specs.declared.Imaged.{Imaged}
 use Rattle.annex.specs.declared.ProfileReading.{ProfileReading}
 use Rattle.annex.specs.declared.Reading.{Reading}
@@ -131,9 +117,9 @@ pub record Right (d r : Answer) : Type 0 where
 
 same_answer_lem : (d r : Answer) → HasNumber d → Right d r → r ≡ d
 same_answer_lem (Accepted n) (Accepted k) t e = ap Accepted e.value
-same_answer_lem (Accepted n) (Refused k p) t e = absurd (omega (arith, e.told, e.number))
-same_answer_lem (Refused j q) (Accepted k) t e = absurd (omega (arith, e.number))
-same_answer_lem (Refused j q) (Refused k p) t e = rw (e.number, e.place)
+same_answer_lem (Accepted n) (Err r) t e = absurd (omega (arith, e.told, e.number))
+same_answer_lem (Err r) (Accepted k) t e = absurd (omega (arith, e.number))
+same_answer_lem (Err r) (Err w) t e = rw (e.number, e.place)
 
 pub right : (d r : Answer) → HasNumber d → (r ≡ d) ↔ Right d r
 right d r t =
@@ -248,7 +234,7 @@ same_imaged r d e = ap (λ a. record { answer = a; held = r.held }) e.0 ∙ ap (
 
 pub read_answer : (a : Answer) (r : List Part) → (read_by a r).answer ≡ a
 read_answer (Accepted n) r = refl
-read_answer (Refused k p) r = refl
+read_answer (Err w) r = refl
 
 pub read_numbers : (m : List ℕ) (r : Reading)
     → ReadPromise m r ↔ (Right (verdict_of m) r.answer × (r.«record» ≡ (reading_of m).«record»))
@@ -262,7 +248,7 @@ read_numbers m r =
 
 pub profile_answer : (a : Answer) (r : List Part) → (profile_by a r).answer ≡ a
 profile_answer (Accepted n) r = refl
-profile_answer (Refused k p) r = refl
+profile_answer (Err w) r = refl
 
 same_profile : (r d : ProfileReading)
     → (r.answer ≡ d.answer) × (r.«record» ≡ d.«record») × (r.profile ≡ d.profile) → r ≡ d
@@ -294,8 +280,8 @@ imaged_numbers image r =
 
 pub record RightClass (d r : ClassAnswer) : Type 0 where
   pub told : ClassHasNumber r
-  pub number : class_number_of r ≡ class_number_of d
-  pub place : class_place_of r ≡ class_place_of d
+  pub number : number_of r ≡ number_of d
+  pub place : place_of r ≡ place_of d
   pub value : class_given_of r ≡ class_given_of d
 
 same_class_lem : (c b : Class) → class_value_of c ≡ class_value_of b → c ≡ b
@@ -310,14 +296,14 @@ same_class_lem Spare HeldBack e = absurd (omega arith)
 same_class_lem Spare Spare e = refl
 
 same_class_answer : (d r : ClassAnswer) → ClassHasNumber d → RightClass d r → r ≡ d
-same_class_answer (classes.Is c) (classes.Is b) t e = ap classes.Is (same_class_lem b c e.value)
-same_class_answer (classes.Is c) (classes.Refused k p) t e = absurd (omega (arith, e.told, e.number))
-same_class_answer (classes.Refused j q) (classes.Is b) t e = absurd (omega (arith, e.number))
-same_class_answer (classes.Refused j q) (classes.Refused k p) t e = rw (e.number, e.place)
+same_class_answer (Is c) (Is b) t e = ap Is (same_class_lem b c e.value)
+same_class_answer (Is c) (Err r) t e = absurd (omega (arith, e.told, e.number))
+same_class_answer (Err r) (Is b) t e = absurd (omega (arith, e.number))
+same_class_answer (Err r) (Err w) t e = rw (e.number, e.place)
 
 pub class_numbers : (h x : ℕ) (r : ClassAnswer) → ClassPromise h x r ↔ RightClass (class_of h x) r
 class_numbers h x r = (
-  λ e. record { told = rw e (class_told h x); number = ap class_number_of e; place = ap class_place_of e; value = ap class_given_of e },
+  λ e. record { told = rw e (class_told h x); number = ap number_of e; place = ap place_of e; value = ap class_given_of e },
   same_class_answer (class_of h x) r (class_told h x),
 )
 
@@ -325,8 +311,8 @@ class_numbers h x r = (
 
 pub record RightCharging (d r : ChargingAnswer) : Type 0 where
   pub told : ChargingHasNumber r
-  pub number : charging_number_of r ≡ charging_number_of d
-  pub place : charging_place_of r ≡ charging_place_of d
+  pub number : number_of r ≡ number_of d
+  pub place : place_of r ≡ place_of d
   pub value : charging_given_of r ≡ charging_given_of d
 
 same_numbers : (c b : Charges) → c.kind ∷ field_numbers c ≡ b.kind ∷ field_numbers b → c ≡ b
@@ -335,13 +321,13 @@ same_numbers c b e =
     (λ f. sym (at_place (λ g. value_of g c) 0 f) ∙ ap (λ l. get_or (drop 1 l) (field_row f).place 0) e ∙ at_place (λ g. value_of g b) 0 f)
 
 same_charging_answer : (d r : ChargingAnswer) → ChargingHasNumber d → RightCharging d r → r ≡ d
-same_charging_answer (chargings.Is c) (chargings.Is b) t e = ap chargings.Is (same_numbers b c e.value)
-same_charging_answer (chargings.Is c) (chargings.Refused k p) t e = absurd (omega (arith, e.told, e.number))
-same_charging_answer (chargings.Refused j q) (chargings.Is b) t e = absurd (omega (arith, e.number))
-same_charging_answer (chargings.Refused j q) (chargings.Refused k p) t e = rw (e.number, e.place)
+same_charging_answer (Is c) (Is b) t e = ap Is (same_numbers b c e.value)
+same_charging_answer (Is c) (Err r) t e = absurd (omega (arith, e.told, e.number))
+same_charging_answer (Err r) (Is b) t e = absurd (omega (arith, e.number))
+same_charging_answer (Err r) (Err w) t e = rw (e.number, e.place)
 
 pub charging_numbers : (m : List ℕ) (r : ChargingAnswer) → ChargingPromise m r ↔ RightCharging (charging_of m) r
 charging_numbers m r = (
-  λ e. record { told = rw e (charging_told m); number = ap charging_number_of e; place = ap charging_place_of e; value = ap charging_given_of e },
+  λ e. record { told = rw e (charging_told m); number = ap number_of e; place = ap place_of e; value = ap charging_given_of e },
   same_charging_answer (charging_of m) r (charging_told m),
 )

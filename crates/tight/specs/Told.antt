@@ -1,6 +1,6 @@
 -- Every refusal has a number: by no definition is anything refused with 0, which stands for accepted.
 use Prim.Native.Nat.{ℕ, zero, suc, ◌+◌, ◌-◌, ◌%◌, ◌<◌}
-use Rattle.std.proofs.Common.{arith}
+use Rattle.std.proofs.Common.{arith, Err}
 use Rattle.std.specs.Prelude.{Bool, true, false, cond, not, ◌&&◌, ◌||◌, eqb, leb, ltb, length, get_or, take, drop}
 use mathlib.Core.List.{List, [], ◌∷◌}
 use Rattle.annex.specs.Answers.{
@@ -28,6 +28,18 @@ use Rattle.annex.specs.Answers.{
   shifted,
   formed_then,
   fault_then,
+  Answer,
+  Accepted,
+  Refused,
+  ChargingAnswer,
+  Is,
+  ClassAnswer,
+  Fault,
+  Sound,
+  Bad,
+  Found,
+  At,
+  Nowhere,
 }
 use Rattle.annex.specs.Units.{name_of, whole_count, after_of, lead_of, extent_of, common_extent_of, contents_in}
 use Rattle.annex.specs.Heads.{
@@ -169,22 +181,12 @@ use Rattle.annex.specs.Profile.{
 }
 use Rattle.annex.specs.declared.Alphabet.{Alphabet}
 use Rattle.annex.specs.declared.Alphabet.TheVariants.{Dialled, Numbered, Decimal}
-use Rattle.annex.specs.declared.Answer.{Answer}
-use Rattle.annex.specs.declared.Answer.TheVariants.{Accepted, Refused}
-use Rattle.annex.specs.declared.ChargingAnswer.{ChargingAnswer}
-use Rattle.annex.specs.declared.ChargingAnswer.TheVariants as chargings
 use Rattle.annex.specs.declared.Check.{Check}
 use Rattle.annex.specs.declared.Check.TheVariants.{Nothing, Long, Two, Charging, Order, Carriers}
 use Rattle.annex.specs.declared.Class.{Class}
-use Rattle.annex.specs.declared.ClassAnswer.{ClassAnswer}
-use Rattle.annex.specs.declared.ClassAnswer.TheVariants as classes
 use Rattle.annex.specs.declared.Drawn.{Drawn}
-use Rattle.annex.specs.declared.Fault.{Fault}
-use Rattle.annex.specs.declared.Fault.TheVariants.{Sound, Bad}
 use Rattle.annex.specs.declared.Form.{Form}
 use Rattle.annex.specs.declared.Form.TheVariants.{Checked, Digits, Number, Calling, Generic}
-use Rattle.annex.specs.declared.Found.{Found}
-use Rattle.annex.specs.declared.Found.TheVariants.{At, Nowhere}
 use Rattle.annex.specs.declared.Holding.{Holding}
 use Rattle.annex.specs.declared.Holding.TheVariants.{AsContents, AsDigits, AsNumber, AsGeneric}
 use Rattle.annex.specs.declared.OrderLayout.{OrderLayout}
@@ -205,19 +207,19 @@ use Rattle.annex.specs.declared.Record.{Record}
 
 abbrev pub HasNumber : Answer → Type 0
 HasNumber (Accepted n) = Unit {0}
-HasNumber (Refused k p) = 0 < k
+HasNumber (Err r) = 0 < r.0
 
 abbrev FaultHasNumber : Fault → Type 0
 FaultHasNumber Sound = Unit {0}
-FaultHasNumber (Bad k i) = 0 < k
+FaultHasNumber (Err r) = 0 < r.0
 
 abbrev pub ClassHasNumber : ClassAnswer → Type 0
-ClassHasNumber (classes.Is c) = Unit {0}
-ClassHasNumber (classes.Refused k p) = 0 < k
+ClassHasNumber (Is c) = Unit {0}
+ClassHasNumber (Err r) = 0 < r.0
 
 abbrev pub ChargingHasNumber : ChargingAnswer → Type 0
-ChargingHasNumber (chargings.Is c) = Unit {0}
-ChargingHasNumber (chargings.Refused k p) = 0 < k
+ChargingHasNumber (Is c) = Unit {0}
+ChargingHasNumber (Err r) = 0 < r.0
 
 refused : (b : Bool) (k p : ℕ) (a : Answer) → 0 < k → HasNumber a → HasNumber (refuse b k p a)
 refused true k p a h t = h
@@ -225,15 +227,15 @@ refused false k p a h t = t
 
 followed : (a : Answer) (f : ℕ → Answer) → HasNumber a → ((n : ℕ) → HasNumber (f n)) → HasNumber (and_then a f)
 followed (Accepted n) f t g = g n
-followed (Refused k p) f t g = t
+followed (Err r) f t g = t
 
 sounded : (place : ℕ → ℕ → ℕ) (f : Fault) (a : Answer) → FaultHasNumber f → HasNumber a → HasNumber (sound_then place f a)
 sounded place Sound a h t = t
-sounded place (Bad k i) a h t = h
+sounded place (Err r) a h t = h
 
 moved : (s : ℕ) (a : Answer) → HasNumber a → HasNumber (shifted s a)
 moved s (Accepted n) t = record {}
-moved s (Refused k p) t = t
+moved s (Err r) t = t
 
 either : (b : Bool) (a c : Answer) → HasNumber a → HasNumber c → HasNumber (cond b a c)
 either true a c t u = t
@@ -264,7 +266,7 @@ number_told z at s =
 
 faulted : (f g : Fault) → FaultHasNumber f → FaultHasNumber g → FaultHasNumber (fault_then f g)
 faulted Sound g t u = u
-faulted (Bad k i) g t u = t
+faulted (Err r) g t u = t
 
 drawn_told : (at : ℕ) (ds : List Drawn) (xs : List ℕ) → FaultHasNumber (drawn_fault at ds xs)
 unfolding drawn_fault
@@ -388,7 +390,7 @@ module _ (step : Step) (close : Seen → ℕ → Answer) (each : (seen : Seen) (
       go : (a : Answer) → HasNumber a → ((k p : ℕ) → HasNumber (walk (judging step close) (counted seen x) k p xs))
           → HasNumber (by_step a (λ k q. Refused k (p + q)) (λ n. walk (judging step close) (counted seen x) n (p + 1) xs))
       go (Accepted n) t rest = rest n (p + 1)
-      go (Refused k q) t rest = t
+      go (Err r) t rest = t
 
 transfer_told : (seen : Seen) (h : ℕ) (xs : List ℕ) → HasNumber (transfer_step seen h xs)
 unfolding transfer_by
@@ -571,7 +573,7 @@ unfolding class_of
 class_told h x = among_told class_lists
   where
     one : (b c : Bool) (k : Class) (rest : ClassAnswer) → ClassHasNumber rest
-        → ClassHasNumber (cond b (cond c (classes.Is k) (classes.Refused bad_form 0)) rest)
+        → ClassHasNumber (cond b (cond c (Is k) (Refused bad_form 0)) rest)
     one true true k rest t = record {}
     one true false k rest t = omega arith
     one false c k rest t = t
@@ -588,15 +590,15 @@ charging_told m = go (find_answer m (charging_found m)) (find_part m (charging_f
   where
     go : (a : Answer) (s : List ℕ) → HasNumber a → ChargingHasNumber (charging_by a s)
     go (Accepted n) s t = record {}
-    go (Refused k p) s t = t
+    go (Err r) s t = t
 
 pub octet_charging_told : (m : List ℕ) (room : ℕ) → HasNumber (octet_charging m room)
 unfolding octet_charging
 octet_charging_told m room = go (charging_of m) (charging_told m)
   where
     go : (a : ChargingAnswer) → ChargingHasNumber a → HasNumber (octet_charging_by a room)
-    go (chargings.Is c) t = refused (ltb room charging_octets) no_room 0 (Accepted charging_octets) (omega arith) (record {})
-    go (chargings.Refused k p) t = t
+    go (Is c) t = refused (ltb room charging_octets) no_room 0 (Accepted charging_octets) (omega arith) (record {})
+    go (Err r) t = t
 
 -- ---- the connection order, for a table of rows or of octets
 

@@ -53,13 +53,11 @@ use Rattle.annex.specs.Promises.{
   Gives,
   Stores,
 }
-use Rattle.annex.specs.declared.Answer.{Answer}
+use Rattle.annex.specs.Answers.{Answer, ClassAnswer, ChargingAnswer}
 use Rattle.annex.specs.declared.Record.{Record}
 use Rattle.annex.specs.declared.Reading.{Reading}
 use Rattle.annex.specs.declared.Imaged.{Imaged}
 use Rattle.annex.specs.declared.Row.{Row}
-use Rattle.annex.specs.declared.ClassAnswer.{ClassAnswer}
-use Rattle.annex.specs.declared.ChargingAnswer.{ChargingAnswer}
 use Rattle.annex.specs.declared.ProfileReading.{ProfileReading}
 use Rattle.laws.specs.Found.{stretch_from, part_where}
 

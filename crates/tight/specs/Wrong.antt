@@ -5,7 +5,7 @@
 -- Constants.
 use Rattle.std.specs.Prelude.{ℕ, ◌≡◌, refl, true, false, List, [], ◌∷◌, ◌++◌, length, get_or, replicate}
 use Rattle.std.proofs.Common.{arith, ap, ◌∙◌}
-use Rattle.annex.specs.Answers.{number_of, place_of, given_of}
+use Rattle.annex.specs.Answers.{number_of, place_of, given_of, Answer, Accepted, Refused}
 use Rattle.annex.specs.Units.{after_of, lead_of, common_extent_of, extent_of}
 use Rattle.annex.specs.Heads.{value_allowed, among, name_used, pli_right, often_of, zeroes_of, form_of}
 use Rattle.annex.specs.Digits.{halves, joined, digit_of, code_of, is_code, halves_fault, digits_fault, digits_of, packed, number_fault_in}
@@ -60,8 +60,6 @@ use Rattle.annex.specs.Promises.{
   EditPromise,
 }
 use Rattle.annex.specs.Bench.{M, K, record_of_k, record_of_m}
-use Rattle.annex.specs.declared.Answer.{Answer}
-use Rattle.annex.specs.declared.Answer.TheVariants.{Accepted, Refused}
 use Rattle.annex.specs.declared.Record.{Record}
 use Rattle.annex.specs.declared.Reading.{Reading}
 

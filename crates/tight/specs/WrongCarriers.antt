@@ -4,15 +4,7 @@ use Rattle.std.proofs.Common.{arith, ap, ◌∙◌}
 use Rattle.annex.specs.Units.{after_of, lead_of, common_extent_of, extent_of}
 use Rattle.annex.specs.Heads.{value_allowed, name_used, pli_right, often_of, zeroes_of, form_of}
 use Rattle.annex.specs.Digits.{halves, digit_of, is_code, halves_fault, digits_fault, digits_of}
-use Rattle.annex.specs.Carriers.{
-  entries_formed,
-  entries_fault,
-  code_formed,
-  code_fault,
-  code_digits,
-  carriers_formed,
-  carriers_fault,
-}
+use Rattle.annex.specs.Carriers.{entries_formed, entries_fault, code_formed, code_fault, code_digits, carriers_formed, carriers_fault}
 use Rattle.annex.specs.Contents.{fault_of}
 use Rattle.annex.specs.Walk.{walk, pars}
 use Rattle.annex.specs.Reading.{
@@ -32,8 +24,7 @@ use Rattle.annex.specs.Transit.{flat_entries, entries_of, carrier_rows_of, carri
 use Rattle.annex.specs.Packed.{packed_answer, carrier_rows_octets, octet_carriers, octet_carriers_table}
 use Rattle.annex.specs.Promises.{CarriersPromise, CarrierDigitsPromise, TkCarriersPromise, TkCarrierDigitsPromise}
 use Rattle.annex.specs.Bench.{K}
-use Rattle.annex.specs.declared.Answer.{Answer}
-use Rattle.annex.specs.declared.Answer.TheVariants.{Accepted, Refused}
+use Rattle.annex.specs.Answers.{Answer, Accepted, Refused}
 use Rattle.tight.specs.WrongPacked.{lent, at}
 
 -- two CC. The first, its contents from 8 on: direction 1, and F9 with FD, which carries an octet, and FE with the code 123. The second,

@@ -23,10 +23,8 @@ use Rattle.annex.specs.Charging.{charging_of, charging_given_of, octet_charging,
 use Rattle.annex.specs.Packed.{packed_answer}
 use Rattle.annex.specs.Promises.{ChargingPromise, OctetChargingPromise, TkChargingPromise}
 use Rattle.annex.specs.Bench.{K}
-use Rattle.annex.specs.declared.Answer.{Answer}
-use Rattle.annex.specs.declared.Answer.TheVariants.{Accepted}
+use Rattle.annex.specs.Answers.{Answer, Accepted, Is}
 use Rattle.annex.specs.declared.Charges.{Charges}
-use Rattle.annex.specs.declared.ChargingAnswer.TheVariants.{Is}
 use Rattle.tight.specs.WrongPacked.{lent, at}
 
 -- MBI 12 alone, with the check digit 1

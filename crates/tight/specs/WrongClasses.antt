@@ -1,13 +1,11 @@
 -- Class functions that the promise shuts out, each with an input at which it breaks it.
-use Rattle.std.specs.Prelude.{ℕ, ◌≡◌}
+use Rattle.std.specs.Prelude.{ℕ, ◌≡◌, Err}
 use Rattle.std.proofs.Common.{arith, ap}
-use Rattle.annex.specs.Answers.{class_given_of}
+use Rattle.annex.specs.Answers.{class_given_of, ClassAnswer, Is, Refused}
 use Rattle.annex.specs.Heads.{zeroes_of}
 use Rattle.annex.specs.Classes.{class_of}
 use Rattle.annex.specs.Promises.{ClassPromise}
 use Rattle.annex.specs.declared.Class.TheVariants.{Named, HeldBack, Spare}
-use Rattle.annex.specs.declared.ClassAnswer.{ClassAnswer}
-use Rattle.annex.specs.declared.ClassAnswer.TheVariants.{Is, Refused}
 
 -- every value of every header is named
 abbrev pub always_named : ℕ → ℕ → ClassAnswer
@@ -23,7 +21,7 @@ abbrev pub released : ClassAnswer → ClassAnswer
 released (Is Named) = Is Named
 released (Is HeldBack) = Is Spare
 released (Is Spare) = Is Spare
-released (Refused k p) = Refused k p
+released (Err r) = Err r
 
 abbrev pub never_held_back : ℕ → ℕ → ClassAnswer
 never_held_back h x = released (class_of h x)

@@ -1,20 +1,11 @@
 -- Wrong programs that the promises about connection orders shut out, each with the message at which it breaks its promise.
 use Rattle.std.specs.Prelude.{ℕ, ◌*◌, ◌≡◌, refl, List, [], ◌∷◌, ◌++◌, get_or, replicate}
 use Rattle.std.proofs.Common.{arith, ap, ◌∙◌}
-use Rattle.annex.specs.Answers.{number_of, given_of}
+use Rattle.annex.specs.Answers.{number_of, given_of, Answer, Accepted, Refused}
 use Rattle.annex.specs.Units.{after_of, lead_of, common_extent_of, extent_of}
 use Rattle.annex.specs.Heads.{value_allowed, name_used, pli_right, often_of, zeroes_of, form_of}
 use Rattle.annex.specs.Digits.{halves, is_code, halves_fault, digits_fault}
-use Rattle.annex.specs.Orders.{
-  forms_of,
-  layout_of,
-  order_after,
-  layout_fault,
-  own_fault,
-  parameter_fault,
-  parameters_fault,
-  order_fault,
-}
+use Rattle.annex.specs.Orders.{forms_of, layout_of, order_after, layout_fault, own_fault, parameter_fault, parameters_fault, order_fault}
 use Rattle.annex.specs.Contents.{fault_of}
 use Rattle.annex.specs.Walk.{walk, pars}
 use Rattle.annex.specs.Walking.{no_row}
@@ -35,8 +26,6 @@ use Rattle.annex.specs.Opened.{order_listing, order_rows_of, order_answer, order
 use Rattle.annex.specs.Packed.{packed_answer, rows_octets, octet_order, octet_order_table}
 use Rattle.annex.specs.Promises.{OrderCheckPromise, OrderPromise, OctetOrderPromise, TkOrderPromise}
 use Rattle.annex.specs.Bench.{K}
-use Rattle.annex.specs.declared.Answer.{Answer}
-use Rattle.annex.specs.declared.Answer.TheVariants.{Accepted, Refused}
 use Rattle.annex.specs.declared.Row.{Row}
 use Rattle.tight.specs.Wrong.{short}
 use Rattle.tight.specs.WrongRows.{row_for}

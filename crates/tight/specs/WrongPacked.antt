@@ -3,7 +3,7 @@
 -- tk_carrier_digits in WrongCarriers, those of the functions of the mobile call profile in WrongProfile.
 use Rattle.std.specs.Prelude.{ℕ, ◌+◌, ◌*◌, ◌%◌, ◌<◌, ◌≡◌, refl, List, [], ◌∷◌, ◌++◌, get_or, replicate}
 use Rattle.std.proofs.Common.{arith, ap, ◌∙◌}
-use Rattle.annex.specs.Answers.{number_of, given_of}
+use Rattle.annex.specs.Answers.{number_of, given_of, Answer, Accepted, Refused, Is}
 use Rattle.annex.specs.Units.{after_of, lead_of, common_extent_of}
 use Rattle.annex.specs.Heads.{value_allowed, zeroes_of}
 use Rattle.annex.specs.Items.{own_of}
@@ -23,17 +23,7 @@ use Rattle.annex.specs.Reading.{
 }
 use Rattle.annex.specs.Records.{pad, values_of, pack, view_items, lengths_of, transfers_sum, view_parts, is_whole, view}
 use Rattle.annex.specs.Writing.{part_writing, parts_writing, over_limits, record_writing, struct_writing, writing_of}
-use Rattle.annex.specs.Image.{
-  image_item,
-  image_items,
-  image_part,
-  image_parts,
-  image_of,
-  items_front,
-  parts_front,
-  is_within,
-  imaged_of,
-}
+use Rattle.annex.specs.Image.{image_item, image_items, image_part, image_parts, image_of, items_front, parts_front, is_within, imaged_of}
 use Rattle.annex.specs.Spans.{common_rows_by, rows_by, spans_by}
 use Rattle.annex.specs.Editing.{Edit, editing_of}
 use Rattle.annex.specs.Editing.Edit.{Removing}
@@ -63,24 +53,10 @@ use Rattle.annex.specs.Promises.{
   TkEditPromise,
 }
 use Rattle.annex.specs.Bench.{M}
-use Rattle.annex.specs.declared.Answer.{Answer}
-use Rattle.annex.specs.declared.Answer.TheVariants.{Accepted, Refused}
 use Rattle.annex.specs.declared.Record.{Record}
 use Rattle.annex.specs.declared.Imaged.{Imaged}
 use Rattle.annex.specs.declared.Class.TheVariants.{HeldBack}
-use Rattle.annex.specs.declared.ClassAnswer.TheVariants as classes
-use Rattle.tight.specs.Wrong.{
-  short,
-  shorter,
-  another,
-  twice,
-  second,
-  roomy,
-  said,
-  replaced_differs,
-  appended_differs,
-  removed_differs,
-}
+use Rattle.tight.specs.Wrong.{short, shorter, another, twice, second, roomy, said, replaced_differs, appended_differs, removed_differs}
 
 -- the image of case 2's record, and with an octet left over
 abbrev image_of_k : List ℕ
@@ -110,8 +86,8 @@ record SaidPacked : Type 0 where
   written_lacking : image_written lacking (lent 6) ≡ lent 6
   rows_short : octet_spans short 14 ≡ Refused 15 0
   table_short : octet_table short (lent 16) ≡ 0 ∷ 0 ∷ 0x01 ∷ 1 ∷ 0 ∷ 2 ∷ 0 ∷ 0x06 ∷ 1 ∷ 0 ∷ 4 ∷ 0 ∷ 0x00 ∷ 0 ∷ 0 ∷ 0xEE ∷ []
-  held_back : class_of 0xD7 2 ≡ classes.Is HeldBack
-  no_list : class_of 0x01 1 ≡ classes.Refused 17 0
+  held_back : class_of 0xD7 2 ≡ Is HeldBack
+  no_list : class_of 0x01 1 ≡ Refused 17 0
 
 said_packed : SaidPacked
 unfolding after_of lead_of common_extent_of zeroes_of own_of layout_item layout_items layout_part layout value_fits walk value_allowed common_form end_of

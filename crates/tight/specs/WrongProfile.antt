@@ -2,7 +2,7 @@
 use Rattle.std.specs.Prelude.{ℕ, ◌+◌, ◌*◌, ◌≡◌, refl, List, [], ◌∷◌, ◌++◌, length, get_or, replicate}
 use Rattle.std.proofs.Common.{arith, ◌∙◌}
 use Rattle.std.proofs.Math.Path.{ap}
-use Rattle.annex.specs.Answers.{number_of, place_of, given_of}
+use Rattle.annex.specs.Answers.{number_of, place_of, given_of, Answer, Accepted, Refused}
 use Rattle.annex.specs.Units.{after_of, lead_of, common_extent_of, extent_of}
 use Rattle.annex.specs.Heads.{value_allowed, name_used, pli_right, often_of, zeroes_of, form_of}
 use Rattle.annex.specs.Contents.{fault_of}
@@ -72,8 +72,6 @@ use Rattle.annex.specs.Promises.{
 }
 use Rattle.annex.specs.Bench.{K, record_of_k}
 use Rattle.annex.specs.declared.AddedClass.{AddedClass}
-use Rattle.annex.specs.declared.Answer.{Answer}
-use Rattle.annex.specs.declared.Answer.TheVariants.{Accepted, Refused}
 use Rattle.annex.specs.declared.Network.{Network}
 use Rattle.annex.specs.declared.Network.TheVariants.{Phs, Mobile}
 use Rattle.annex.specs.declared.Profile.{Profile}

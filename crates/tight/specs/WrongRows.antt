@@ -1,28 +1,16 @@
 -- Listings that the promise shuts out: an invented row count of any message, the others at a message at which they break it.
 use Rattle.std.specs.Prelude.{ℕ, ◌+◌, ◌/◌, ◌≤◌, ◌≡◌, refl, Bool, true, false, List, [], ◌∷◌, ◌++◌, ltb, length, get_or, drop}
 use Rattle.std.proofs.Common.{arith, ap, ◌∙◌, le-ltb}
-use Rattle.annex.specs.Answers.{no_room, number_of, given_of, refuse}
+use Rattle.annex.specs.Answers.{no_room, number_of, given_of, refuse, Answer, Accepted}
 use Rattle.annex.specs.Units.{after_of, lead_of, common_extent_of}
 use Rattle.annex.specs.Heads.{value_allowed}
 use Rattle.annex.specs.Allowed.{every, is_octet, items_in}
 use Rattle.annex.specs.Walk.{walk}
-use Rattle.annex.specs.Reading.{
-  verdict_of,
-  record_of,
-  common_form,
-  end_of,
-  data_by,
-  common_by,
-  message_verdict_by,
-  verdict_by,
-  commons_by,
-}
+use Rattle.annex.specs.Reading.{verdict_of, record_of, common_form, end_of, data_by, common_by, message_verdict_by, verdict_by, commons_by}
 use Rattle.annex.specs.Spans.{rows_of, spans_of, table_of, common_rows_by, rows_by, spans_by}
 use Rattle.annex.specs.Packed.{octets_to_a_row}
 use Rattle.annex.specs.Promises.{SpansCheckPromise, SpansPromise, OctetSpansPromise}
 use Rattle.annex.specs.Walking.{no_row}
-use Rattle.annex.specs.declared.Answer.{Answer}
-use Rattle.annex.specs.declared.Answer.TheVariants.{Accepted}
 use Rattle.annex.specs.declared.Row.{Row}
 use Rattle.theorems.specs.Listings.{row_count}
 use Rattle.tight.specs.Wrong.{short}

@@ -8,11 +8,11 @@ ghost use Rattle.annex.specs.Units.{octets_counted, after_of, lead_of, common_ex
 use annex::{Common, CountingUnit, Extent, HalfOctets, Octets};
 
 // What the PLI of a transfer header says.
+#[tactic(auto, unfolding(annex::specs::Units::extent_of))]
 pub fn extent_of(header: u8) -> Extent
     ensures { Gives (extent_of header) result }
 {
-    let pli = header / 64;
-    match pli {
+    match header / 64 {
         0 => Extent::Fixed(0),
         1 => Extent::Fixed(1),
         2 => Extent::Counted(CountingUnit::HalfOctet),
@@ -21,14 +21,14 @@ pub fn extent_of(header: u8) -> Extent
 }
 
 // What the PLI of a common header says. The end mark has no contents.
+#[tactic(auto, unfolding(annex::specs::Units::common_extent_of))]
 pub fn common_extent_of(header: u8) -> Extent
     ensures { Gives (common_extent_of header) result }
 {
     if header == Common::END_MARK {
         return Extent::Fixed(0);
     }
-    let pli = header / 64;
-    match pli {
+    match header / 64 {
         0 => Extent::Fixed(1),
         1 => Extent::Fixed(2),
         2 => Extent::Fixed(3),
@@ -41,37 +41,30 @@ fn counted(unit: CountingUnit, octet: u8) -> Octets
     ensures { result ≡ octets_counted unit octet }
 {
     match unit {
-        CountingUnit::HalfOctet => {
-            let count = HalfOctets::counted_by(octet);
-            count.octets()
-        }
-        CountingUnit::Octet => Octets(octet as usize),
+        CountingUnit::HalfOctet => HalfOctets::counted_by(octet).octets(),
+        CountingUnit::Octet => Octets(usize::from(octet)),
     }
 }
 
 // How many octets follow a header; next is the octet right after it, or 0.
+#[tactic(auto, unfolding(annex::specs::Units::after_of))]
 pub fn octets_after(e: Extent, next: u8) -> usize
     ensures { Gives (after_of e next) result }
 {
     match e {
         Extent::Fixed(n) => n,
-        Extent::Counted(unit) => {
-            let octets = counted(unit, next);
-            1 + octets.0
-        }
+        Extent::Counted(unit) => 1 + counted(unit, next).0,
     }
 }
 
 // How many of them stand before the contents: a length octet, and no count octet.
+#[tactic(auto, unfolding(annex::specs::Units::lead_of))]
 pub fn lead(e: Extent) -> usize
     ensures { Gives (lead_of e) result }
 {
     match e {
-        Extent::Fixed(_) => 0,
-        Extent::Counted(unit) => match unit {
-            CountingUnit::HalfOctet => 0,
-            CountingUnit::Octet => 1,
-        },
+        Extent::Fixed(_) | Extent::Counted(CountingUnit::HalfOctet) => 0,
+        Extent::Counted(CountingUnit::Octet) => 1,
     }
 }
 
@@ -82,25 +75,13 @@ pub struct After {
     pub lead: usize,
 }
 
-// Both by one look at the PLI; next is the octet right after the header, or 0.
+// Both; next is the octet right after the header, or 0.
 pub fn after_header(header: u8, next: u8) -> After
     ensures { Gives (after_of (extent_of header) next) result.octets × Gives (lead_of (extent_of header)) result.lead }
 {
-    let pli = header / 64;
-    match pli {
-        0 => After { octets: 0, lead: 0 },
-        1 => After { octets: 1, lead: 0 },
-        2 => {
-            let count = HalfOctets::counted_by(next);
-            let own = count.octets();
-            After {
-                octets: 1 + own.0,
-                lead: 0,
-            }
-        }
-        _ => After {
-            octets: 1 + next as usize,
-            lead: 1,
-        },
+    let e = extent_of(header);
+    After {
+        octets: octets_after(e, next),
+        lead: lead(e),
     }
 }

@@ -2,7 +2,7 @@
 use Prim.Native.Nat.{ℕ, zero, suc, ◌+◌, ◌-◌, ◌≤◌, ◌<◌}
 use Rattle.std.proofs.Math.Nat.{zero-add}
 use native.Mathlib.Omega.{arith}
-use Rattle.std.specs.Prelude.{◌≡◌, Bool, cond, eqb, ltb, leb}
+use Rattle.std.specs.Prelude.{◌≡◌, Bool, cond, eqb, ltb, leb, Err}
 use Rattle.std.proofs.Math.Path.{refl, ap}
 use Rattle.std.proofs.Common.{sym, subst, ◌∙◌, drop_of_length-le, get_or-take, drop-cons}
 use Rattle.std.proofs.Math.Bool.{true, false}
@@ -16,11 +16,9 @@ use Rattle.annex.specs.Allowed.{Each}
 use Rattle.annex.specs.Walk.{Par, Size, common_size, transfer_size, pars}
 use Rattle.annex.specs.Reading.{verdict_of, data_in}
 use Rattle.annex.specs.Spans.{par_row, transfer_rows, inner_rows, common_rows, rows_of, rows_by, common_rows_by}
-use Rattle.annex.specs.declared.Answer.{Answer}
-use Rattle.annex.specs.declared.Answer.TheVariants.{Accepted, Refused}
+use Rattle.annex.specs.Answers.{Answer, Accepted, At}
 use Rattle.annex.specs.declared.Extent.{Extent}
 use Rattle.annex.specs.declared.Extent.TheVariants.{Fixed, Counted}
-use Rattle.annex.specs.declared.Found.TheVariants.{At}
 use Rattle.annex.specs.Contents.{fault_of}
 use Rattle.annex.specs.Walking.{no_row, cursor_to, first_cursor, extent_here, stretch_here, row_here, next_of}
 use Rattle.laws.specs.Extents.{lead_within}
@@ -331,4 +329,4 @@ row_behind m k h = go (verdict_of m) refl h
         let f : row_here m c ∷ rows_from m (next_of m c) ≡ get_or (rows_of m) k no_row ∷ drop (suc k) (rows_of m) =
         sym t.rows ∙ b.1 ∙ drop-cons (rows_of m) k no_row l in
         cc
-    go (Refused n p) e l = absurd (omega arith)
+    go (Err r) e l = absurd (omega arith)

@@ -2,3 +2,5 @@
 pub mod Stretches
 pub mod Cursors
 pub mod Ahead
+pub mod Steps
+pub mod Rows

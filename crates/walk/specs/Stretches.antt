@@ -8,8 +8,7 @@ use Rattle.annex.specs.Units.{lead_of, contents_in}
 use Rattle.annex.specs.Walk.{Par, size_by, pars}
 use Rattle.annex.specs.Walking.{after_at, stretch_at}
 use Rattle.annex.specs.declared.Extent.{Extent}
-use Rattle.annex.specs.declared.Found.{Found}
-use Rattle.annex.specs.declared.Found.TheVariants.{At, Nowhere}
+use Rattle.annex.specs.Answers.{Found, At, Nowhere}
 use Rattle.laws.specs.Extents.{lead_within}
 use Rattle.laws.specs.Parts.{from_to}
 use Rattle.laws.specs.Plain.{pars_end, pars_short, pars_next}

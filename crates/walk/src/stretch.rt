@@ -8,18 +8,17 @@ use units::{lead, octets_after};
 
 // Where the contents of the parameter start and end whose header stands at i, if its PLI says e: nowhere where it is cut, or where the
 // octets end before i.
+#[tactic(auto, unfolding(annex::specs::Walking::stretch_at))]
 pub fn stretch_at(t: &[u8], i: usize, e: Extent) -> Found
     ensures { Gives (stretch_at t.now i e) result }
 {
     if t.len() <= i {
-        return Found::Nowhere;
+        return None;
     }
     let from = i + 1;
     let n = octets_after(e, octet_at(t, from));
     if t.len() - from < n {
-        return Found::Nowhere;
+        return None;
     }
-    let start = from + lead(e);
-    let end = from + n;
-    Found::At(start, end)
+    Some((from + lead(e), from + n))
 }

@@ -10,10 +10,10 @@ ghost use Rattle.annex.specs.Memory.{at_front};
 ghost use Rattle.limits.specs.Along.{items_at, Within, Whole};
 ghost use Rattle.refusing.specs.Laying.{data_laid};
 
-use annex::{Answer, Common, Record, Transfer};
+use annex::{Answer, Common, Record, Refusal, Transfer};
 use common::laying::lay_head;
 use layout::{contents_len, put};
-use limits::values_before;
+use limits::items_from;
 use refusing::{head_len, record_refusal};
 use units::{extent_of, lead};
 
@@ -22,8 +22,7 @@ fn item_len(t: Transfer, values: &[u8]) -> usize
     requires { length values.now ≤ most_values }
     ensures { result ≡ length (layout_item (item_from t values.now)) }
 {
-    let before = 1 + lead(extent_of(t.header));
-    before + contents_len(t, values)
+    1 + lead(extent_of(t.header)) + contents_len(t, values)
 }
 
 // Lays out the n transfer parameters from index `first` of the array on, and tells how many octets they take.
@@ -32,19 +31,10 @@ fn put_items(q: Record, first: usize, n: usize, room: &mut [u8]) -> usize
     ensures { (result ≡ length (layout_items (items_at q first n)))
         × (room.new ≡ at_front (layout_items (items_at q first n)) room.old) }
 {
-    let values = q.values;
-    let end = first + n;
-    let mut used = values_before(q, first);
-    let mut at: usize = 0;
-    let mut k = first;
-    while k < end {
-        let t = q.transfer[k];
-        let e = used + t.len as usize;
-        let own = &values[used..e];
-        put(t, own, &mut room[at..]);
-        at += item_len(t, own);
-        used = e;
-        k += 1;
+    let mut at = 0;
+    for (t, values) in items_from(&q, first, n) {
+        put(t, values, &mut room[at..]);
+        at += item_len(t, values);
     }
     at
 }
@@ -67,15 +57,11 @@ fn put_parts(q: Record, room: &mut [u8])
     requires { Whole q × (length (layout (view q)) ≤ length room.old) }
     ensures { room.new ≡ at_front (layout (view q)) room.old }
 {
-    let n = q.commons as usize;
-    let mut at: usize = 0;
-    let mut first: usize = 0;
-    let mut k: usize = 0;
-    while k < n {
-        let c = q.common[k];
-        k += 1;
+    let mut at = 0;
+    let mut first = 0;
+    for c in &q.common[..q.commons as usize] {
         if c.header != Common::TRANSFER_DATA {
-            lay_head(c, room, at);
+            lay_head(*c, room, at);
             at += head_len(c.header);
             continue;
         }
@@ -90,13 +76,10 @@ fn put_parts(q: Record, room: &mut [u8])
 pub fn write(held: Record, room: &mut [u8]) -> Answer
     ensures { WritePromise held room.old result room.new }
 {
-    let a = record_refusal(held);
-    let Answer::Accepted(n) = a else {
-        return a;
-    };
+    let n = record_refusal(held)?;
     if room.len() < n {
-        return Answer::Refused(Answer::NO_ROOM, 0);
+        return Err(Refusal(Refusal::NO_ROOM, 0));
     }
     put_parts(held, room);
-    Answer::Accepted(n)
+    Ok(n)
 }

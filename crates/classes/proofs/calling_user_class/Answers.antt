@@ -4,7 +4,7 @@ use native.Mathlib.Omega.{arith}
 use mathlib.Core.Path.{◌≡◌, ◌∙◌}
 use mathlib.Core.List.{[]}
 use Rattle.annex.specs.declared.Class.TheVariants.{Named, Spare}
-use Rattle.annex.specs.declared.ClassAnswer.TheVariants.{Is}
+use Rattle.annex.specs.Answers.{Is}
 use Rattle.laws.specs.Octet.{range}
 use Rattle.classes.specs.Listed.{listed_class}
 use Rattle.classes.proofs.Arms.{same_answer, same_answer_lem, in_range}

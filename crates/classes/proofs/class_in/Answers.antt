@@ -8,11 +8,10 @@ use mathlib.Core.Bool.{not, ◌||◌}
 use mathlib.Core.List.{List, [], ◌∷◌}
 use mathlib.Core.Logic.{◌⊎◌, inl, inr}
 use lib.Dec.{T}
-use Rattle.annex.specs.Answers.{no_class_list}
+use Rattle.annex.specs.Answers.{no_class_list, Refused}
 use Rattle.annex.specs.Heads.{among}
 use Rattle.annex.specs.Classes.{class_lists}
 use Rattle.classes.specs.Listed.{listed_class}
-use Rattle.annex.specs.declared.ClassAnswer.TheVariants.{Refused}
 use Rattle.laws.specs.Octet.{all, among_any, None, rest}
 use Rattle.classes.proofs.Arms.{listed, unlisted}
 use Rattle.classes.proofs.class_in.Goals as goal

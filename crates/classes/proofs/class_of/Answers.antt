@@ -12,10 +12,10 @@ pub returns-then-octet-asked-ne0 : goal.returns-then-octet-asked-ne0
 returns-then-octet-asked-ne0 c =
     let a = c.args in
     rw
-    (← class_cleared a.header a.octet, ← c.class_in-answer.ensures, c.in-Is.is, ← c.head_of-asked.ensures.1, ne_eqb _ _ c.if-octet-asked-ne0.true)
+    (← class_cleared a.header a.octet, ← c.class_in-answer.ensures, c.in-Ok.is, ← c.head_of-asked.ensures.1, ne_eqb _ _ c.if-octet-asked-ne0.true)
 
 pub returns : goal.returns
 returns c =
     let a = c.args in
     rw
-    (← class_cleared a.header a.octet, ← c.class_in-answer.ensures, c.in-Is.is, ← c.head_of-asked.ensures.1, eq-eqb _ _ c.if-octet-asked-ne0.false)
+    (← class_cleared a.header a.octet, ← c.class_in-answer.ensures, c.in-Ok.is, ← c.head_of-asked.ensures.1, eq-eqb _ _ c.if-octet-asked-ne0.false)

@@ -2,7 +2,7 @@
 use mathlib.Core.List.{[]}
 use native.Mathlib.Omega.{arith}
 use Rattle.annex.specs.declared.Class.TheVariants.{Named, Spare}
-use Rattle.annex.specs.declared.ClassAnswer.TheVariants.{Is}
+use Rattle.annex.specs.Answers.{Is}
 use Rattle.classes.specs.Listed.{listed_class}
 use Rattle.classes.proofs.Arms.{in_range}
 use Rattle.classes.proofs.initial_setting.Goals as goal

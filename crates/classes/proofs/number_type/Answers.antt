@@ -5,7 +5,7 @@ use mathlib.Core.Path.{◌≡◌, ◌∙◌}
 use mathlib.Core.List.{[], ◌∷◌}
 use Rattle.classes.specs.Listed.{listed_class}
 use Rattle.annex.specs.declared.Class.TheVariants.{Named, HeldBack, Spare}
-use Rattle.annex.specs.declared.ClassAnswer.TheVariants.{Is}
+use Rattle.annex.specs.Answers.{Is}
 use Rattle.laws.specs.Octet.{range}
 use Rattle.classes.proofs.Arms.{same_answer, same_answer_lem, at_keys, in_range}
 use Rattle.classes.proofs.number_type.Goals as goal

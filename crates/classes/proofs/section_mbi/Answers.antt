@@ -2,7 +2,7 @@
 use native.Mathlib.Omega.{arith}
 use Rattle.classes.specs.Listed.{listed_class}
 use Rattle.annex.specs.declared.Class.TheVariants.{Named, Spare}
-use Rattle.annex.specs.declared.ClassAnswer.TheVariants.{Is}
+use Rattle.annex.specs.Answers.{Is}
 use Rattle.classes.proofs.Arms.{in_halves}
 use Rattle.classes.proofs.section_mbi.Goals as goal
 

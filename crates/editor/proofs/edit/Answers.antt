@@ -9,10 +9,8 @@ use Rattle.std.specs.Prelude.{List, get_or}
 use Rattle.annex.specs.Heads.{transfer_data}
 use Rattle.annex.specs.Reading.{verdict_of}
 use Rattle.annex.specs.Walking.{common_plain}
-use Rattle.annex.specs.declared.Answer.{Answer}
-use Rattle.annex.specs.declared.Answer.TheVariants.{Accepted}
-use Rattle.annex.specs.declared.Found.{Found}
-use Rattle.annex.specs.declared.Found.TheVariants.{At}
+use Rattle.annex.specs.Answers.{Answer, Accepted, Found, At}
+use Rattle.laws.specs.Passed.{passed_on}
 use Rattle.laws.specs.Written.{octets_every}
 use Rattle.editor.specs.Steps.{spot_in, head_answer, contents_answer, own_answer, data_inside, refused, Data, own_refused, own_left}
 use Rattle.editor.specs.Splicing.{cut_placed, handed_edits}
@@ -30,24 +28,25 @@ returns-then-buffer-n c =
 pub slice_bounds-verdict-end-2 : goal.slice_bounds-verdict-end-2
 slice_bounds-verdict-end-2 c = sym (length-take-le _ _ c.if-buffer-n.false)
 
-pub returns-in_default : goal.returns-in_default
-returns-in_default c =
+pub returns-in_err-verdict : goal.returns-in_err-verdict
+returns-in_err-verdict c =
+    let p = passed_on c.from_residual.result c.in_err-verdict.field-0.0 c.from_residual.ensures.1 in
     refused c.args.kind _ c.requires _ _ _ _ _ (octets_every c.args.buffer.now (λ i. omega (arith, c.slice_known-1.given i)))
-    c.in_default.is
-    (rw (le-ltb _ _ c.if-buffer-n.false, ← c.verdict-message.ensures, c.in_default.is))
+    p
+    (rw (le-ltb _ _ c.if-buffer-n.false, ← c.verdict.ensures, c.in_err-verdict.was) (sym p))
 
 pub slice_bounds-common_by_length-end-2 : goal.slice_bounds-common_by_length-end-2
 slice_bounds-common_by_length-end-2 c = sym (length-take-le _ _ c.if-buffer-n.false)
 
-pub returns-in_default-common_by_length : goal.returns-in_default-common_by_length
-returns-in_default-common_by_length c =
+pub returns-in_default : goal.returns-in_default
+returns-in_default c =
     refused c.args.kind _ c.requires _ _ _ _ _ (octets_every c.args.buffer.now (λ i. omega (arith, c.slice_known-1.given i))) refl
     (rw (
       le-ltb _ _ c.if-buffer-n.false,
-      ← c.verdict-message.ensures,
-      c.in-Accepted.is,
+      ← c.verdict.ensures,
+      c.in_ok-verdict.was,
       ← c.common_by_length.ensures,
-      c.in_default-common_by_length.is,
+      c.in_default.is,
     ))
 
 found : (d : List ℕ) (n s t j : ℕ) (m : Answer) (f : Found) → ((i : ℕ) → get_or d i 0 < 256) → n ≤ length d
@@ -61,57 +60,63 @@ left : (k : Kind) (new t : List ℕ) (j a z : ℕ) (h r : Answer) (f : Found) �
     → f ≡ spot_in k new t → f ≡ At a z → r ≡ contents_answer new → own_answer k new t ≡ r
 left k new t j a z h r f e v g w q = own_left k new t j a z (sym e ∙ v) (sym g ∙ w) ∙ sym q
 
-pub returns-in_default-head : goal.returns-in_default-head
-returns-in_default-head c =
+pub returns-in_err-head_answer : goal.returns-in_err-head_answer
+returns-in_err-head_answer c =
+    let p = passed_on c.from_residual-in_err-head_answer.result c.in_err-head_answer.field-0.0 c.from_residual-in_err-head_answer.ensures.1 in
     let w =
-    found c.args.buffer.now c.args.n c.in-At.start c.in-At.end _ _ _ (λ i. omega (arith, c.slice_known-1.given i)) c.if-buffer-n.false
-    c.verdict-message.ensures c.in-Accepted.is c.common_by_length.ensures c.in-At.is in
-    own_refused c.args.kind _ _ _ _ _ _ _ _ c.requires w c.in_default-head.is (rw (← c.head_answer-head.ensures, c.in_default-head.is))
+    found c.args.buffer.now c.args.n c.in-Some.start c.in-Some.end _ _ _ (λ i. omega (arith, c.slice_known-1.given i)) c.if-buffer-n.false
+    c.verdict.ensures c.in_ok-verdict.was c.common_by_length.ensures c.in-Some.is in
+    own_refused c.args.kind _ _ _ _ _ _ _ _ c.requires w
+    p
+    (rw (← c.head_answer.ensures, c.in_err-head_answer.was) (sym p))
 
 pub slice_bounds-spot_in-start : goal.slice_bounds-spot_in-start
 slice_bounds-spot_in-start c =
     let w =
-    found c.args.buffer.now c.args.n c.in-At.start c.in-At.end _ _ _ (λ i. omega (arith, c.slice_known-1.given i)) c.if-buffer-n.false
-    c.verdict-message.ensures c.in-Accepted.is c.common_by_length.ensures c.in-At.is in
+    found c.args.buffer.now c.args.n c.in-Some.start c.in-Some.end _ _ _ (λ i. omega (arith, c.slice_known-1.given i)) c.if-buffer-n.false
+    c.verdict.ensures c.in_ok-verdict.was c.common_by_length.ensures c.in-Some.is in
     (data_inside w).0
 
 pub slice_bounds-spot_in-count : goal.slice_bounds-spot_in-count
 slice_bounds-spot_in-count c =
     let w =
-    found c.args.buffer.now c.args.n c.in-At.start c.in-At.end _ _ _ (λ i. omega (arith, c.slice_known-1.given i)) c.if-buffer-n.false
-    c.verdict-message.ensures c.in-Accepted.is c.common_by_length.ensures c.in-At.is in
+    found c.args.buffer.now c.args.n c.in-Some.start c.in-Some.end _ _ _ (λ i. omega (arith, c.slice_known-1.given i)) c.if-buffer-n.false
+    c.verdict.ensures c.in_ok-verdict.was c.common_by_length.ensures c.in-Some.is in
     (data_inside w).0
 
 pub slice_bounds-spot_in-end : goal.slice_bounds-spot_in-end
 slice_bounds-spot_in-end c =
     let w =
-    found c.args.buffer.now c.args.n c.in-At.start c.in-At.end _ _ _ (λ i. omega (arith, c.slice_known-1.given i)) c.if-buffer-n.false
-    c.verdict-message.ensures c.in-Accepted.is c.common_by_length.ensures c.in-At.is in
+    found c.args.buffer.now c.args.n c.in-Some.start c.in-Some.end _ _ _ (λ i. omega (arith, c.slice_known-1.given i)) c.if-buffer-n.false
+    c.verdict.ensures c.in_ok-verdict.was c.common_by_length.ensures c.in-Some.is in
     (data_inside w).1
 
 pub returns-in_default-spot_in : goal.returns-in_default-spot_in
 returns-in_default-spot_in c =
     let w =
-    found c.args.buffer.now c.args.n c.in-At.start c.in-At.end _ _ _ (λ i. omega (arith, c.slice_known-1.given i)) c.if-buffer-n.false
-    c.verdict-message.ensures c.in-Accepted.is c.common_by_length.ensures c.in-At.is in
+    found c.args.buffer.now c.args.n c.in-Some.start c.in-Some.end _ _ _ (λ i. omega (arith, c.slice_known-1.given i)) c.if-buffer-n.false
+    c.verdict.ensures c.in_ok-verdict.was c.common_by_length.ensures c.in-Some.is in
     own_refused c.args.kind _ _ _ _ _ _ _ _ c.requires w refl
     (rw (
-      ← c.head_answer-head.ensures,
-      c.in-Accepted-head.is,
+      ← c.head_answer.ensures,
+      c.in_ok-head_answer.was,
       ← c.spot_in.ensures,
       c.in_default-spot_in.is,
       ← c.no_spot.ensures,
     ))
 
-pub returns-in_default-contents : goal.returns-in_default-contents
-returns-in_default-contents c =
+pub returns-in_err-contents_answer : goal.returns-in_err-contents_answer
+returns-in_err-contents_answer c =
+    let p = passed_on c.from_residual-in_err-contents_answer.result c.in_err-contents_answer.field-0.0 c.from_residual-in_err-contents_answer.ensures.1 in
     let w =
-    found c.args.buffer.now c.args.n c.in-At.start c.in-At.end _ _ _ (λ i. omega (arith, c.slice_known-1.given i)) c.if-buffer-n.false
-    c.verdict-message.ensures c.in-Accepted.is c.common_by_length.ensures c.in-At.is in
+    found c.args.buffer.now c.args.n c.in-Some.start c.in-Some.end _ _ _ (λ i. omega (arith, c.slice_known-1.given i)) c.if-buffer-n.false
+    c.verdict.ensures c.in_ok-verdict.was c.common_by_length.ensures c.in-Some.is in
     let l =
-    left c.args.kind c.args.new.now (take (c.in-At.end - c.in-At.start) (drop c.in-At.start c.args.buffer.now)) _ _ _ _ _ _
-    c.head_answer-head.ensures c.in-Accepted-head.is c.spot_in.ensures c.in-At-spot_in.is c.contents_answer-contents.ensures in
-    own_refused c.args.kind _ _ _ _ _ _ _ _ c.requires w c.in_default-contents.is l
+    left c.args.kind c.args.new.now (take (c.in-Some.end - c.in-Some.start) (drop c.in-Some.start c.args.buffer.now)) _ _ _ _ _ _
+    c.head_answer.ensures c.in_ok-head_answer.was c.spot_in.ensures c.in-Some-spot_in.is c.contents_answer.ensures in
+    own_refused c.args.kind _ _ _ _ _ _ _ _ c.requires w
+    p
+    (l ∙ c.in_err-contents_answer.was ∙ sym p)
 
 -- ---- the last step
 
@@ -119,26 +124,26 @@ returns-in_default-contents c =
 pub splice_in-requires : goal.splice_in-requires
 splice_in-requires c =
     let w =
-    found c.args.buffer.now c.args.n c.in-At.start c.in-At.end _ _ _ (λ i. omega (arith, c.slice_known-1.given i)) c.if-buffer-n.false
-    c.verdict-message.ensures c.in-Accepted.is c.common_by_length.ensures c.in-At.is in
+    found c.args.buffer.now c.args.n c.in-Some.start c.in-Some.end _ _ _ (λ i. omega (arith, c.slice_known-1.given i)) c.if-buffer-n.false
+    c.verdict.ensures c.in_ok-verdict.was c.common_by_length.ensures c.in-Some.is in
     let l =
-    left c.args.kind c.args.new.now (take (c.in-At.end - c.in-At.start) (drop c.in-At.start c.args.buffer.now)) _ _ _ _ _ _
-    c.head_answer-head.ensures c.in-Accepted-head.is c.spot_in.ensures c.in-At-spot_in.is c.contents_answer-contents.ensures in
+    left c.args.kind c.args.new.now (take (c.in-Some.end - c.in-Some.start) (drop c.in-Some.start c.args.buffer.now)) _ _ _ _ _ _
+    c.head_answer.ensures c.in_ok-head_answer.was c.spot_in.ensures c.in-Some-spot_in.is c.contents_answer.ensures in
     let p =
     cut c.args.kind c.args.new.now _ _ _ _ _ _ _ c.requires (octets_every c.args.new.now (λ i. omega (arith, c.type_inv.new i))) w
-    (sym c.spot_in.ensures ∙ c.in-At-spot_in.is) (l ∙ c.in-Accepted-contents.is) in
+    (sym c.spot_in.ensures ∙ c.in-Some-spot_in.is) (l ∙ c.in_ok-contents_answer.was) in
     let q = cut_placed p in
     record { counted = q.counted; order = omega (arith, q.order); within = omega (arith, q.within, q.order); message = q.message; whole = q.whole }
 
 pub returns : goal.returns
 returns c =
     let w =
-    found c.args.buffer.now c.args.n c.in-At.start c.in-At.end _ _ _ (λ i. omega (arith, c.slice_known-1.given i)) c.if-buffer-n.false
-    c.verdict-message.ensures c.in-Accepted.is c.common_by_length.ensures c.in-At.is in
+    found c.args.buffer.now c.args.n c.in-Some.start c.in-Some.end _ _ _ (λ i. omega (arith, c.slice_known-1.given i)) c.if-buffer-n.false
+    c.verdict.ensures c.in_ok-verdict.was c.common_by_length.ensures c.in-Some.is in
     let l =
-    left c.args.kind c.args.new.now (take (c.in-At.end - c.in-At.start) (drop c.in-At.start c.args.buffer.now)) _ _ _ _ _ _
-    c.head_answer-head.ensures c.in-Accepted-head.is c.spot_in.ensures c.in-At-spot_in.is c.contents_answer-contents.ensures in
+    left c.args.kind c.args.new.now (take (c.in-Some.end - c.in-Some.start) (drop c.in-Some.start c.args.buffer.now)) _ _ _ _ _ _
+    c.head_answer.ensures c.in_ok-head_answer.was c.spot_in.ensures c.in-Some-spot_in.is c.contents_answer.ensures in
     let p =
     cut c.args.kind c.args.new.now _ _ _ _ _ _ _ c.requires (octets_every c.args.new.now (λ i. omega (arith, c.type_inv.new i))) w
-    (sym c.spot_in.ensures ∙ c.in-At-spot_in.is) (l ∙ c.in-Accepted-contents.is) in
-    handed_edits c.in-At-spot_in.from c.in-At-spot_in.to c.splice_in.ensures p (omega arith) (omega arith)
+    (sym c.spot_in.ensures ∙ c.in-Some-spot_in.is) (l ∙ c.in_ok-contents_answer.was) in
+    handed_edits c.in-Some-spot_in.from c.in-Some-spot_in.to c.splice_in.ensures p (omega arith) (omega arith)

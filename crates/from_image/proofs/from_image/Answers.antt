@@ -1,6 +1,5 @@
 -- `from_image` meets its contract: the first octet is the count, and the parameters stand behind it.
 use Prim.Native.Nat.{ℕ}
-use native.Mathlib.Omega.{arith}
 use mathlib.Core.Path.{sym, ap, ◌∙◌}
 use mathlib.Core.List.{List}
 use lib.ListN.{length, get_or}
@@ -9,15 +8,11 @@ use Rattle.laws.specs.Parts.{to_end}
 use Rattle.from_image.specs.Filling.{image_none, image_counted}
 use Rattle.from_image.proofs.from_image.Goals as goal
 
-pub returns-then-image-eq0 : goal.returns-then-image-eq0
-returns-then-image-eq0 c =
-    c.refused.ensures ∙ sym (image_none c.args.image.now c.if-image-eq0.true)
-
-pub overflow_cast-count : goal.overflow_cast-count
-overflow_cast-count c = omega (arith, c.type_inv.image 0)
+pub returns-in_default : goal.returns-in_default
+returns-in_default c = c.imaged.ensures ∙ sym (image_none c.args.image.now c.in_default.len_below)
 
 pub returns : goal.returns
 returns c =
     let m = c.args.image.now in
-    c.fill.ensures ∙ ap (λ (d : List ℕ). imaged_by (length d) (parts_front (get_or m 0 0) d)) (to_end 1 m)
-    ∙ sym (image_counted m c.if-image-eq0.false)
+    c.imaged-2.ensures ∙ c.fill.ensures ∙ ap (λ (d : List ℕ). imaged_by (length d) (parts_front (get_or m 0 0) d)) (to_end 1 m)
+    ∙ sym (image_counted m c.in-len1-up.len_at_least)

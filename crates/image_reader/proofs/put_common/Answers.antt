@@ -1,26 +1,14 @@
--- `put_common` meets its contract: its octets are stored one after the other.
-use native.Mathlib.Numerals.{towards_suc}
+-- `put_common` meets its contract: the octets of the head are stored as they are.
+use Prim.Native.Nat.{◌+◌, ◌-◌}
 use native.Mathlib.Omega.{arith}
-use lib.ListN.{length-set}
+use mathlib.Core.Path.{◌≡◌}
+use Rattle.annex.specs.Image.{image_common, octets_to_a_common_head}
+use Rattle.laws.specs.Fronts.{sets_part}
 use Rattle.image_reader.proofs.put_common.Goals as goal
 
 pub returns : goal.returns
-returns c = simp towards_suc
-
-pub bounds-out-at-2 : goal.bounds-out-at-2
-bounds-out-at-2 c = simp length-set (omega arith)
-
-pub bounds-out-at-3 : goal.bounds-out-at-3
-bounds-out-at-3 c = simp length-set (omega arith)
-
-pub bounds-out-at-4 : goal.bounds-out-at-4
-bounds-out-at-4 c = simp length-set (omega arith)
-
-pub bounds-out-at-5 : goal.bounds-out-at-5
-bounds-out-at-5 c = simp length-set (omega arith)
-
-pub bounds-out-at-6 : goal.bounds-out-at-6
-bounds-out-at-6 c = simp length-set (omega arith)
-
-pub bounds-out-at-7 : goal.bounds-out-at-7
-bounds-out-at-7 c = simp length-set (omega arith)
+returns c =
+    let a = c.args in
+    let k = a.at + octets_to_a_common_head in
+    let e : c.copy_from_slice.new.self ≡ image_common a.c = rw c.to_le_bytes.ensures at c.copy_from_slice.ensures.after in
+    rw e (sets_part a.at (k - a.at) a.out.now (image_common a.c) (omega arith) c.requires)

@@ -1,44 +1,14 @@
--- `put_transfer` meets its contract: its octets are stored one after the other.
-use Prim.Native.Nat.{suc, ◌+◌}
-use mathlib.Core.Path.{◌≡◌}
-use native.Mathlib.Numerals.{towards_suc}
+-- `put_transfer` meets its contract: the octets of the head are stored as they are.
+use Prim.Native.Nat.{◌+◌, ◌-◌}
 use native.Mathlib.Omega.{arith}
-use lib.ListN.{length-set}
+use mathlib.Core.Path.{◌≡◌}
+use Rattle.annex.specs.Image.{image_head, octets_to_a_transfer_head}
+use Rattle.laws.specs.Fronts.{sets_part}
 use Rattle.image_reader.proofs.put_transfer.Goals as goal
 
 pub returns : goal.returns
 returns c =
-    let at = c.args.at in
-    let e9 : at + 9 ≡ suc (at + 8) = omega arith in
-    let e10 : at + 10 ≡ suc (suc (at + 8)) = omega arith in
-    simp (e9, e10, towards_suc)
-
-pub bounds-out-at-2 : goal.bounds-out-at-2
-bounds-out-at-2 c = simp length-set (omega arith)
-
-pub bounds-out-at-3 : goal.bounds-out-at-3
-bounds-out-at-3 c = simp length-set (omega arith)
-
-pub bounds-out-at-4 : goal.bounds-out-at-4
-bounds-out-at-4 c = simp length-set (omega arith)
-
-pub bounds-out-at-5 : goal.bounds-out-at-5
-bounds-out-at-5 c = simp length-set (omega arith)
-
-pub bounds-out-at-6 : goal.bounds-out-at-6
-bounds-out-at-6 c = simp length-set (omega arith)
-
-pub bounds-out-at-7 : goal.bounds-out-at-7
-bounds-out-at-7 c = simp length-set (omega arith)
-
-pub bounds-out-at-8 : goal.bounds-out-at-8
-bounds-out-at-8 c = simp length-set (omega arith)
-
-pub bounds-out-at-9 : goal.bounds-out-at-9
-bounds-out-at-9 c = simp length-set (omega arith)
-
-pub bounds-out-at-10 : goal.bounds-out-at-10
-bounds-out-at-10 c = simp length-set (omega arith)
-
-pub bounds-out-at-11 : goal.bounds-out-at-11
-bounds-out-at-11 c = simp length-set (omega arith)
+    let a = c.args in
+    let k = a.at + octets_to_a_transfer_head in
+    let e : c.copy_from_slice.new.self ≡ image_head a.t = rw c.to_le_bytes.ensures at c.copy_from_slice.ensures.after in
+    rw e (sets_part a.at (k - a.at) a.out.now (image_head a.t) (omega arith) c.requires)

@@ -7,13 +7,10 @@ use Rattle.annex.specs.Image.{parts_front}
 use Rattle.image_writer.specs.Over.{over_by, over_from}
 use Rattle.image_writer.proofs.is_over.Given as goal
 
-abbrev pub invariant-loop-left : goal.invariant-loop-left
-invariant-loop-left l =
+abbrev pub invariant-loop : goal.invariant-loop
+invariant-loop l =
     (l.i ≤ length l.s) ×
-    (l.left ≤ l.count) ×
-    (l.transfers ≤ 255 * (l.count - l.left)) ×
-    (l.contents ≤ 16712190 * (l.count - l.left)) ×
-    (over_by (length l.s) (parts_front l.count l.s) ≡ over_from (length l.s) (l.count - l.left) l.transfers l.contents l.i (parts_front l.left (drop l.i l.s)))
-
-abbrev pub decreases-loop-left : goal.decreases-loop-left
-decreases-loop-left l = l.left
+    (l.transfers ≤ 255 * l.counter) ×
+    (l.contents ≤ 16712190 * l.counter) ×
+    (over_by (length l.s) (parts_front l.count l.s)
+    ≡ over_from (length l.s) l.counter l.transfers l.contents l.i (parts_front (l.count - l.counter) (drop l.i l.s)))

@@ -1,6 +1,6 @@
 use Prim.Native.Nat.{ℕ, suc, ◌≤◌, ◌<◌, ◌+◌, ◌-◌}
 use native.Mathlib.Omega.{arith}
-use mathlib.Core.Path.{◌≡◌, refl, sym, ap, ◌∙◌}
+use mathlib.Core.Path.{◌≡◌, sym, ap, ◌∙◌}
 use mathlib.Core.Bool.{Bool, true, false}
 use mathlib.Core.List.{List}
 use borrow.Author.Tests.{leb-true}
@@ -48,90 +48,63 @@ few i s t vs n h g l e =
     omega (arith, e, contents_most (item_from t vs), ap (λ (l : List ℕ). length l) (own_values (raw_item t vs)), l)
 
 -- the definition at a turn
-becomes : (n left contents i : ℕ) (s : List ℕ) → 0 < left
-    → summed_from 0 0 0 (items_front n s) ≡ summed_from (n - left) contents i (items_front left (drop i s))
-    → summed_from 0 0 0 (items_front n s) ≡ summed_from (n - left) contents i (items_front (suc (left - 1)) (drop i s))
-becomes n left contents i s some told =
-    let e : left ≡ suc (left - 1) = omega arith in
-    told ∙ ap (λ (k : ℕ). summed_from (n - left) contents i (items_front k (drop i s))) e
-
-pub loop-left-init : goal.loop-left-init
-loop-left-init c =
-    let n : c.args.count - c.args.count ≡ 0 = omega arith in
-    rw n (omega arith, omega arith, omega arith, refl)
-
-pub overflow_add-from : goal.overflow_add-from
-overflow_add-from c =
-    let i = c.loop-left.i in
-    let s = c.args.s.now in
-    omega (arith, ends i s (whole_here i s _ true c.is_whole.ensures c.if-not-is_whole.false))
-
-pub overflow_add-to : goal.overflow_add-to
-overflow_add-to c = omega (arith, ends_here c.loop-left.i c.args.s.now _ _ c.is_whole.ensures c.if-not-is_whole.false c.transfer_head-t.ensures)
-
-pub slice_bounds-contents_len-end : goal.slice_bounds-contents_len-end
-slice_bounds-contents_len-end c =
-    omega (arith, ends_here c.loop-left.i c.args.s.now _ _ c.is_whole.ensures c.if-not-is_whole.false c.transfer_head-t.ensures)
+becomes : (n k contents i : ℕ) (s : List ℕ) → k < n
+    → summed_from 0 0 0 (items_front n s) ≡ summed_from k contents i (items_front (n - k) (drop i s))
+    → summed_from 0 0 0 (items_front n s) ≡ summed_from k contents i (items_front (suc (n - (k + 1))) (drop i s))
+becomes n k contents i s some told =
+    let e : n - k ≡ suc (n - (k + 1)) = omega arith in
+    told ∙ ap (λ (m : ℕ). summed_from k contents i (items_front m (drop i s))) e
 
 pub overflow_add-contents : goal.overflow_add-contents
 overflow_add-contents c =
-    let i = c.loop-left.i in
+    let i = c.loop.i in
     let s = c.args.s.now in
     let n = i + octets_to_a_transfer_head in
     let t = c.transfer_head-t.result in
     let vs = take (n + t.len - n) (drop n s) in
     omega (arith, few i s t vs _ c.transfer_head-t.ensures (λ k. omega (arith, c.type_inv.s k)) (omega (arith, length-take (n + t.len - n) (drop n s))) c.contents_len-contents.ensures)
 
-pub loop-left-preserved : goal.loop-left-preserved
-loop-left-preserved c =
-    let v = c.loop-left in
+pub loop-preserved : goal.loop-preserved
+loop-preserved c =
+    let v = c.loop in
     let i = v.i in
     let s = c.args.s.now in
     let k = c.args.count in
     let n = i + octets_to_a_transfer_head in
     let t = c.transfer_head-t.result in
     let vs = take (n + t.len - n) (drop n s) in
-    let m : n + t.len - n ≡ t.len = omega arith in
-    let next : k - v.left + 1 ≡ k - (v.left - 1) = omega arith in (
+    let m : n + t.len - n ≡ t.len = omega arith in (
       omega (arith, ends_here i s _ _ c.is_whole.ensures c.if-not-is_whole.false c.transfer_head-t.ensures),
-      omega arith,
       omega (
         arith,
         few i s t vs _ c.transfer_head-t.ensures (λ k. omega (arith, c.type_inv.s k)) (omega (arith, length-take (n + t.len - n) (drop n s)))
             c.contents_len-contents.ensures,
-        next,
-        v.invariant.2,
+        v.invariant.1,
       ),
-      becomes k v.left v.contents i s c.loop-left-test.true v.invariant.3
-          ∙ sum_turn (k - v.left) v.contents i (v.left - 1) s (whole_here i s _ true c.is_whole.ensures c.if-not-is_whole.false) t
+      becomes k v.counter v.contents i s c.loop-test.true v.invariant.2
+          ∙ sum_turn v.counter v.contents i (k - (v.counter + 1)) s (whole_here i s _ true c.is_whole.ensures c.if-not-is_whole.false) t
           (head_here i s t c.transfer_head-t.ensures) vs (ap (λ (x : ℕ). take x (drop n s)) m)
-          ∙ rw (← c.contents_len-contents.ensures, next),
+          ∙ rw (← c.contents_len-contents.ensures),
     )
 
 pub returns-then-not-is_whole : goal.returns-then-not-is_whole
 returns-then-not-is_whole c =
-    let v = c.loop-left in
+    let v = c.loop in
     let i = v.i in
     let s = c.args.s.now in
-    record {
-      told =
-          sym
-          (becomes c.args.count v.left v.contents i s c.loop-left-test.true v.invariant.3
-          ∙ sum_cut (c.args.count - v.left) v.contents i (v.left - 1) s (whole_here i s _ false c.is_whole.ensures c.if-not-is_whole.true));
-      few = omega arith;
-      small = omega arith;
-      within = omega arith;
-    }
+    sym
+    (becomes c.args.count v.counter v.contents i s c.loop-test.true v.invariant.2
+    ∙ sum_cut v.counter v.contents i (c.args.count - (v.counter + 1)) s (whole_here i s _ false c.is_whole.ensures c.if-not-is_whole.true))
 
 pub returns : goal.returns
 returns c =
-    let v = c.loop-left in
+    let v = c.loop in
     let n = c.args.count in
-    let z : v.left ≡ 0 = omega arith in
-    let e : n - 0 ≡ n = omega arith in
+    let z : n - v.counter ≡ 0 = omega arith in
+    let e : v.counter ≡ n = omega arith in
     record {
-      told = sym (v.invariant.3 ∙ rw (z, e) (sum_end n v.contents v.i (drop v.i c.args.s.now)));
+      told = sym (v.invariant.2 ∙ rw (z, e) (sum_end n v.contents v.i (drop v.i c.args.s.now)));
       few = omega arith;
-      small = omega (arith, v.invariant.2);
+      small = omega (arith, v.invariant.1);
       within = v.invariant.0;
     }

@@ -7,12 +7,8 @@ use Rattle.annex.specs.Image.{items_front}
 use Rattle.image_writer.specs.Over.{summed_from}
 use Rattle.image_writer.proofs.items_sum.Given as goal
 
-abbrev pub invariant-loop-left : goal.invariant-loop-left
-invariant-loop-left l =
+abbrev pub invariant-loop : goal.invariant-loop
+invariant-loop l =
     (l.i ≤ length l.s) ×
-    (l.left ≤ l.count) ×
-    (l.contents ≤ 65538 * (l.count - l.left)) ×
-    (summed_from 0 0 0 (items_front l.count l.s) ≡ summed_from (l.count - l.left) l.contents l.i (items_front l.left (drop l.i l.s)))
-
-abbrev pub decreases-loop-left : goal.decreases-loop-left
-decreases-loop-left l = l.left
+    (l.contents ≤ 65538 * l.counter) ×
+    (summed_from 0 0 0 (items_front l.count l.s) ≡ summed_from l.counter l.contents l.i (items_front (l.count - l.counter) (drop l.i l.s)))

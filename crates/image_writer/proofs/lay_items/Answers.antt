@@ -13,22 +13,24 @@ use Rattle.annex.specs.Memory.{laid_at}
 use Rattle.annex.specs.Records.{item_from}
 use Rattle.annex.specs.Walk.{Seen}
 use Rattle.annex.specs.Image.{head_front, item_size, items_front, octets_to_a_transfer_head}
-use Rattle.annex.specs.declared.Answer.{Answer}
-use Rattle.annex.specs.declared.Answer.TheVariants.{Accepted}
+use Rattle.annex.specs.Answers.{Answer, Accepted}
 use Rattle.annex.specs.declared.Transfer.{Transfer}
 use Rattle.laws.specs.Often.{few_often}
 use Rattle.laws.specs.Parts.{to_end}
+use Rattle.laws.specs.Passed.{passed_on}
+use Rattle.image_writer.specs.Served.{placed_ok, placed_err}
+use Rattle.std.proofs.Common.{Err}
 use Rattle.theorems.specs.Writings.{ItemWritten, item_written}
 use Rattle.image_writer.specs.Drafts.{laid_length}
 use Rattle.image_writer.specs.Walked.{ItemsServed, items_cut, item_refused, item_accepted, items_done}
 use Rattle.image_writer.proofs.lay_items.Goals as goal
 
 -- where some are left, one stands in front
-one_left : (seen : Seen) (at i left : ℕ) (s before : List ℕ) (b : Answer) (end : ℕ) (d : List ℕ) → 0 < left
-    → ItemsServed seen at i before (items_front (suc (left - 1)) (drop i s)) b end d
-    → ItemsServed seen at i before (items_front left (drop i s)) b end d
-one_left seen at i left s before b end d m h =
-    let e : left ≡ suc (left - 1) = omega arith in
+one_left : (seen : Seen) (at i n k : ℕ) (s before : List ℕ) (b : Answer) (end : ℕ) (d : List ℕ) → k < n
+    → ItemsServed seen at i before (items_front (suc (n - (k + 1))) (drop i s)) b end d
+    → ItemsServed seen at i before (items_front (n - k) (drop i s)) b end d
+one_left seen at i n k s before b end d m h =
+    let e : n - k ≡ suc (n - (k + 1)) = omega arith in
     rw e h
 
 -- the octets from index i on
@@ -59,70 +61,69 @@ few_times times x n w = omega (arith, w.fewer, few_often (name_of x.header))
 pub returns-then-not-is_whole-clause-served : goal.returns-then-not-is_whole-clause-served
 returns-then-not-is_whole-clause-served c =
     let s = c.args.s.now in
-    let v = c.loop-left in
+    let v = c.loop in
     let w = whole_of s v.i _ _ c.is_whole.ensures c.if-not-is_whole.true in
-    rw (c.of.ensures.0, c.of.ensures.1)
-    (v.invariant.4 _ _ v.draft v.invariant.3
-    (one_left v.seen v.at v.i v.left s _ _ _ v.draft c.loop-left-test.true
-    (items_cut v.seen v.at v.i (v.left - 1) s _ v.draft w _ _ _)))
+    v.invariant.3 _ _ v.draft v.invariant.2
+    (one_left v.seen v.at v.i c.args.count v.counter s _ _ _ v.draft c.loop-test.true
+    (items_cut v.seen v.at v.i (c.args.count - (v.counter + 1)) s _ v.draft w _ _ _))
 
-pub returns-in_default-clause-served : goal.returns-in_default-clause-served
-returns-in_default-clause-served c =
+pub returns-in_err-len-clause-served : goal.returns-in_err-len-clause-served
+returns-in_err-len-clause-served c =
     let s = c.args.s.now in
-    let v = c.loop-left in
+    let v = c.loop in
     let t = c.transfer_head-t.result in
-    let d = c.lay-a.new.room in
+    let d = c.lay.new.room in
     let w = whole_of s v.i _ _ c.is_whole.ensures c.if-not-is_whole.false in
     let h = head_of s v.i t c.transfer_head-t.ensures in
-    let e = c.in_default.is in
-    let kept : d ≡ v.draft = rw (sym c.lay-a.ensures.told ∙ e) at c.lay-a.ensures.put in
-    rw (c.of-in_default.ensures.0, c.of-in_default.ensures.1, c.placed.ensures, e)
-    (v.invariant.4 _ _ d (ap (λ (l : List ℕ). length l) kept ∙ v.invariant.3)
-    (one_left v.seen v.at v.i v.left s _ _ _ d c.loop-left-test.true
-    (item_refused v.seen v.at v.i (v.left - 1) s _ d w t h _ (values_of s v.i t.len) _ (sym c.lay-a.ensures.told) _ _ _ e)))
+    let e = placed_err v.at _ _ _ c.placed.ensures c.in_err-len.was in
+    let kept : d ≡ v.draft = rw (sym c.lay.ensures.told ∙ e.1) at c.lay.ensures.put in
+    let gone = passed_on c.from_residual.result c.in_err-len.field-0.0 c.from_residual.ensures.1 ∙ ap Err e.2 in
+    rw gone
+    (v.invariant.3 _ _ d (ap (λ (l : List ℕ). length l) kept ∙ v.invariant.2)
+    (one_left v.seen v.at v.i c.args.count v.counter s _ _ _ d c.loop-test.true
+    (item_refused v.seen v.at v.i (c.args.count - (v.counter + 1)) s _ d w t h _ (values_of s v.i t.len) _ (sym c.lay.ensures.told) _ _ _ e.1)))
 
 pub overflow_add-seen : goal.overflow_add-seen
 overflow_add-seen c =
-    let taken = item_written _ _ _ _ (sym c.lay-a.ensures.told ∙ c.in-Accepted.is) in
+    let e = placed_ok c.loop.at _ _ _ c.placed.ensures c.in_ok-len.was in
+    let taken = item_written _ _ _ _ (sym c.lay.ensures.told ∙ e) in
     omega (arith, few_times _ _ _ taken)
 
 pub overflow_add-at : goal.overflow_add-at
 overflow_add-at c =
-    let taken = item_written _ _ _ _ (sym c.lay-a.ensures.told ∙ c.in-Accepted.is) in
-    omega (arith, taken.behind, taken.short, c.loop-left.invariant.2, c.requires)
+    let e = placed_ok c.loop.at _ _ _ c.placed.ensures c.in_ok-len.was in
+    let taken = item_written _ _ _ _ (sym c.lay.ensures.told ∙ e) in
+    omega (arith, taken.behind, taken.short, c.loop.invariant.1, c.requires)
 
-pub loop-left-preserved : goal.loop-left-preserved
-loop-left-preserved c =
+pub loop-preserved : goal.loop-preserved
+loop-preserved c =
     let s = c.args.s.now in
     let g = c.args in
-    let v = c.loop-left in
+    let v = c.loop in
     let t = c.transfer_head-t.result in
-    let n = c.in-Accepted.len in
-    let e = c.in-Accepted.is in
+    let n = c.in_ok-len.len in
+    let e = placed_ok v.at _ _ _ c.placed.ensures c.in_ok-len.was in
     let w = whole_of s v.i _ _ c.is_whole.ensures c.if-not-is_whole.false in
     let h = head_of s v.i t c.transfer_head-t.ensures in
-    let told = sym c.lay-a.ensures.told in
+    let told = sym c.lay.ensures.told in
     let taken = item_written _ _ _ _ (told ∙ e) in
-    let next : g.count - (v.left - 1) ≡ suc (g.count - v.left) = omega (arith, c.loop-left-test.true, v.invariant.1) in
     let vs = take (v.i + octets_to_a_transfer_head + t.len - (v.i + octets_to_a_transfer_head)) (drop (v.i + octets_to_a_transfer_head) s) in
     let xs = layout_item (item_from t vs) in
-    let d : c.lay-a.new.room ≡ laid_at (Accepted n) xs v.at v.draft = rw (told ∙ e) at c.lay-a.ensures.put in
-    let same : length c.lay-a.new.room ≡ length g.draft.now =
-    ap (λ (y : List ℕ). length y) d ∙ laid_length v.draft v.at xs n ∙ v.invariant.3 in (
+    let d : c.lay.new.room ≡ laid_at (Accepted n) xs v.at v.draft = rw (told ∙ e) at c.lay.ensures.put in
+    let same : length c.lay.new.room ≡ length g.draft.now =
+    ap (λ (y : List ℕ). length y) d ∙ laid_length v.draft v.at xs n ∙ v.invariant.2 in (
       ends_of s v.i t h w,
-      omega (arith, v.invariant.1),
-      omega (arith, taken.behind, taken.short, next, v.invariant.2),
+      omega (arith, taken.behind, taken.short, v.invariant.1),
       same,
       λ b end y m k.
-          v.invariant.4 b end y m
-          (one_left v.seen v.at v.i v.left s _ b end y c.loop-left-test.true
-          (item_accepted v.seen v.at v.i (v.left - 1) s end y w t h _ (values_of s v.i t.len) _ told n e v.draft (m ∙ sym v.invariant.3) b
+          v.invariant.3 b end y m
+          (one_left v.seen v.at v.i g.count v.counter s _ b end y c.loop-test.true
+          (item_accepted v.seen v.at v.i (g.count - (v.counter + 1)) s end y w t h _ (values_of s v.i t.len) _ told n e v.draft (m ∙ sym v.invariant.2) b
           (rw (← d) k))),
     )
 
 pub returns-clause-served : goal.returns-clause-served
 returns-clause-served c =
-    let v = c.loop-left in
-    let z : v.left ≡ 0 = omega (arith, c.loop-left-test.false) in
-    rw (c.of-2.ensures.0, c.of-2.ensures.1)
-    (v.invariant.4 _ _ v.draft v.invariant.3 (rw z (items_done v.seen v.at v.i (drop v.i c.args.s.now) v.draft)))
+    let v = c.loop in
+    let z : c.args.count - v.counter ≡ 0 = omega arith in
+    v.invariant.3 _ _ v.draft v.invariant.2 (rw z (items_done v.seen v.at v.i (drop v.i c.args.s.now) v.draft))

@@ -2,32 +2,23 @@
 -- it accepts, the image is one.
 use Prim.Native.Nat.{ℕ, ◌≤◌, ◌<◌, ◌-◌}
 use native.Mathlib.Omega.{arith}
-use mathlib.Core.Path.{◌≡◌, sym, ap, subst, ◌∙◌}
+use mathlib.Core.Path.{◌≡◌, refl, sym, ap, subst, ◌∙◌}
 use mathlib.Core.List.{List, []}
 use mathlib.Core.Bool.{Bool, true}
 use borrow.Author.Rules.{rules}
-use lib.ListN.{length, get_or, take, drop, length-drop}
+use lib.ListN.{length, get_or, take, drop}
 use lib.Seq.{length-take-le}
 use Rattle.annex.specs.Heads.{most_octets}
 use Rattle.annex.specs.Allowed.{every, is_octet}
 use Rattle.annex.specs.Image.{parts_front}
 use Rattle.annex.specs.Walk.{unseen}
-use Rattle.annex.specs.declared.Answer.{Answer}
-use Rattle.annex.specs.declared.Answer.TheVariants.{Accepted}
+use Rattle.annex.specs.Answers.{Answer, Accepted}
 use Rattle.laws.specs.Parts.{to_end}
 use Rattle.laws.specs.Written.{octets_every}
 use Rattle.image_writer.specs.Over.{over_by}
 use Rattle.image_writer.specs.Walked.{PartsServed}
-use Rattle.image_writer.specs.Answered.{
-  Gave,
-  none_written,
-  over_written,
-  refused_written,
-  left_written,
-  fit,
-  short_written,
-  done_written,
-}
+use Rattle.image_writer.specs.Answered.{Gave, none_written, over_written, refused_written, left_written, fit, short_written, done_written}
+use Rattle.image_writer.proofs.write_image.Goals.{In-Ok}
 use Rattle.image_writer.proofs.write_image.Goals as goal
 
 -- the parameters' octets, as the walk was handed them
@@ -51,60 +42,75 @@ long : (m room : List ℕ) → 0 < length m → (n end : ℕ) (d : List ℕ) →
     → every is_octet m ≡ true → length d ≡ most_octets → n ≤ length d
 long m room some n end d g all o l = omega (arith, l, (fit m room some n end d g all o).few)
 
-pub returns-then-image-eq0 : goal.returns-then-image-eq0
-returns-then-image-eq0 c = none_written c.args.image.now c.args.room.now c.if-image-eq0.true
-
-pub returns-then-is_over : goal.returns-then-is_over
-returns-then-is_over c =
-    let m = c.args.image.now in
-    over_written m c.args.room.now (omega (arith, c.if-image-eq0.false)) (over-told m _ _ c.is_over.ensures c.if-is_over.true)
+-- all octets behind the count, as the walk was handed them
+all_behind : (m : List ℕ) (n : ℕ) → n ≡ length (behind m) → n ≡ length (drop 1 m)
+all_behind m n e = e ∙ ap (λ (s : List ℕ). length s) (to_end 1 m)
 
 pub returns-in_default : goal.returns-in_default
-returns-in_default c =
-    let m = c.args.image.now in
-    let e = c.in_default.is in
-    rw e
-    (refused_written m c.args.room.now (omega (arith, c.if-image-eq0.false)) (over-told m _ _ c.is_over.ensures c.if-is_over.false) _ _
-    c.lay_parts-step.result.octets c.lay_parts-step.new.draft (gave m _ _ _ _ c.lay_parts-step.ensures e))
+returns-in_default c = none_written c.args.image.now c.args.room.now (omega (arith, c.in_default.len_below))
 
-pub returns-then-step-image : goal.returns-then-step-image
-returns-then-step-image c =
+pub returns-in-Err : goal.returns-in-Err
+returns-in-Err c =
     let m = c.args.image.now in
-    left_written m c.args.room.now (omega (arith, c.if-image-eq0.false)) c.in-Accepted.n c.lay_parts-step.result.octets c.lay_parts-step.new.draft
-    (gave m _ _ _ _ c.lay_parts-step.ensures c.in-Accepted.is) (λ e. c.if-step-image.true (e ∙ length-drop 1 m))
+    over_written m c.args.room.now (omega (arith, c.in-len1-up.len_at_least)) (over-told m _ _ c.is_over.ensures c.if-is_over.true)
+
+pub returns-in-Err-2 : goal.returns-in-Err-2
+returns-in-Err-2 c =
+    let m = c.args.image.now in
+    let r = c.in-Err.field-0 in
+    refused_written m c.args.room.now (omega (arith, c.in-len1-up.len_at_least)) (over-told m _ _ c.is_over.ensures c.if-is_over.false) r.0 r.1
+    0 c.lay_parts.new.draft (gave m _ _ _ _ c.in-Err.ensures refl)
+
+pub returns-then-step-s : goal.returns-then-step-s
+returns-then-step-s c =
+    let m = c.args.image.now in
+    let x = c.in-Ok.step in
+    left_written m c.args.room.now (omega (arith, c.in-len1-up.len_at_least)) x.behind x.octets c.lay_parts.new.draft
+    (gave m _ _ _ _ c.in-Ok.ensures refl) (λ e. c.if-step-s.true (e ∙ sym (ap (λ (s : List ℕ). length s) (to_end 1 m))))
 
 pub returns-then-room-n : goal.returns-then-room-n
 returns-then-room-n c =
     let m = c.args.image.now in
-    short_written m c.args.room.now (omega (arith, c.if-image-eq0.false)) c.in-Accepted.n c.lay_parts-step.result.octets
-    c.lay_parts-step.new.draft (gave m _ _ _ _ c.lay_parts-step.ensures c.in-Accepted.is) (c.if-step-image.false ∙ sym (length-drop 1 m))
+    let x = c.in-Ok.step in
+    short_written m c.args.room.now (omega (arith, c.in-len1-up.len_at_least)) x.behind x.octets c.lay_parts.new.draft
+    (gave m _ _ _ _ c.in-Ok.ensures refl) (all_behind m _ c.if-step-s.false)
     (octets_every m (λ i. omega (arith, c.type_inv.image i))) c.if-room-n.true
 
-pub slice_bounds-draft-end : goal.slice_bounds-draft-end
-slice_bounds-draft-end c =
+-- the message fits the draft, where it was accepted
+message_fits : (c : In-Ok) → c.in-Ok.step.octets ≡ length (behind c.args.image.now) → length c.lay_parts.new.draft ≡ most_octets
+    → c.in-Ok.step.behind ≤ length c.lay_parts.new.draft
+message_fits c all l =
     let m = c.args.image.now in
-    let l : length c.lay_parts-step.new.draft ≡ most_octets = search rules in
-    long m c.args.room.now (omega (arith, c.if-image-eq0.false)) c.in-Accepted.n c.lay_parts-step.result.octets c.lay_parts-step.new.draft
-    (gave m _ _ _ _ c.lay_parts-step.ensures c.in-Accepted.is) (c.if-step-image.false ∙ sym (length-drop 1 m)) (octets_every m (λ i. omega (arith, c.type_inv.image i))) l
+    let x = c.in-Ok.step in
+    long m c.args.room.now (omega (arith, c.in-len1-up.len_at_least)) x.behind x.octets c.lay_parts.new.draft
+    (gave m _ _ _ _ c.in-Ok.ensures refl) (all_behind m _ all) (octets_every m (λ i. omega (arith, c.type_inv.image i))) l
 
-pub slice_bounds-copy_in-end : goal.slice_bounds-copy_in-end
-slice_bounds-copy_in-end c =
-    let m = c.args.image.now in
-    let l : length c.lay_parts-step.new.draft ≡ most_octets = search rules in
-    sym
-    (length-take-le c.in-Accepted.n c.lay_parts-step.new.draft
-    (long m c.args.room.now (omega (arith, c.if-image-eq0.false)) c.in-Accepted.n c.lay_parts-step.result.octets c.lay_parts-step.new.draft
-    (gave m _ _ _ _ c.lay_parts-step.ensures c.in-Accepted.is) (c.if-step-image.false ∙ sym (length-drop 1 m)) (octets_every m (λ i. omega (arith, c.type_inv.image i))) l))
+pub slice_bounds-draft-end : goal.slice_bounds-draft-end
+slice_bounds-draft-end c = message_fits (goal.at.slice_bounds-draft-end c).In-Ok c.if-step-s.false (search rules)
+
+pub slice_bounds-copy_from_slice-end-3 : goal.slice_bounds-copy_from_slice-end-3
+slice_bounds-copy_from_slice-end-3 c =
+    let f = message_fits (goal.at.slice_bounds-copy_from_slice-end-3 c).In-Ok c.if-step-s.false (search rules) in
+    sym (length-take-le c.in-Ok.step.behind c.lay_parts.new.draft f)
+
+pub copy_from_slice-requires : goal.copy_from_slice-requires
+copy_from_slice-requires c =
+    let f = message_fits (goal.at.copy_from_slice-requires c).In-Ok c.if-step-s.false (search rules) in
+    length-take-le c.in-Ok.step.behind c.args.room.now c.if-room-n.false
+    ∙ sym (length-take-le c.in-Ok.step.behind c.lay_parts.new.draft f)
 
 pub returns : goal.returns
 returns c =
     let m = c.args.image.now in
     let room = c.args.room.now in
-    let d = c.lay_parts-step.new.draft in
-    let some : 0 < length m = omega (arith, c.if-image-eq0.false) in
-    let g = gave m _ _ _ _ c.lay_parts-step.ensures c.in-Accepted.is in
-    let all = c.if-step-image.false ∙ sym (length-drop 1 m) in
+    let x = c.in-Ok.step in
+    let d = c.lay_parts.new.draft in
+    let some : 0 < length m = omega (arith, c.in-len1-up.len_at_least) in
+    let g = gave m _ _ _ _ c.in-Ok.ensures refl in
+    let all = all_behind m _ c.if-step-s.false in
     let o = octets_every m (λ i. omega (arith, c.type_inv.image i)) in
     let l : length d ≡ most_octets = search rules in
-    done_written m room some c.in-Accepted.n c.lay_parts-step.result.octets d g all o c.if-room-n.false
-    (long m room some c.in-Accepted.n c.lay_parts-step.result.octets d g all o l) c.copy_in.result _ c.copy_in.ensures
+    let w =
+    done_written m room some x.behind x.octets d g all o c.if-room-n.false
+    (long m room some x.behind x.octets d g all o l) in
+    (w.0, rw c.copy_from_slice.ensures.after w.1)

@@ -8,4 +8,4 @@ pub returns : goal.returns
 returns c =
     let a = c.args in
     let i = raw_item a.t a.values.now in
-    rw (own_contents_lem i, ← contents_as c.held_as-held.result i c.held_as-held.ensures) c.len_as.ensures
+    rw (own_contents_lem i, ← contents_as c.held_as.result i c.held_as.ensures) c.len_as.ensures

@@ -3,32 +3,34 @@ use native.Mathlib.Omega.{arith}
 use mathlib.Core.Path.{◌≡◌, sym, ◌∙◌}
 use Rattle.annex.specs.Records.{raw_item}
 use Rattle.annex.specs.Writing.{item_writing}
-use Rattle.annex.specs.declared.Answer.TheVariants.{Accepted}
+use Rattle.annex.specs.Answers.{Accepted}
 use Rattle.laws.specs.Laid.{own_writing, own_layout}
+use Rattle.laws.specs.Passed.{passed_on}
 use Rattle.theorems.specs.Writings.{item_written}
 use Rattle.layout.proofs.Holdings.{held_of}
 use Rattle.layout.proofs.lay.Goals as goal
 
-pub judged-a-requires : goal.judged-a-requires
-judged-a-requires c =
+pub judged-requires : goal.judged-requires
+judged-requires c =
     let a = c.args in
     (c.head_of-asked.ensures, held_of a.t.header c.head_of-asked.result c.head_of-asked.ensures _ _ c.held_by-held.ensures)
 
-pub returns-in_default : goal.returns-in_default
-returns-in_default c =
+pub returns-in_err-len : goal.returns-in_err-len
+returns-in_err-len c =
     let a = c.args in
     let i = raw_item a.t a.values.now in
-    let e = c.in_default.is in
+    let e = sym c.judged.ensures ∙ c.in_err-len.was in
+    let gone = passed_on c.from_residual.result c.in_err-len.field-0.0 c.from_residual.ensures.1 in
     record {
-      told = rw (own_writing i a.times 0) c.judged-a.ensures;
-      put = rw (own_writing i a.times 0, ← c.judged-a.ensures, e);
+      told = rw (own_writing i a.times 0) (gone ∙ sym e);
+      put = rw (own_writing i a.times 0, e);
     }
 
 pub put_at-requires : goal.put_at-requires
 put_at-requires c =
     let taken : (let a = c.args in
-    item_writing a.times 0 (raw_item a.t a.values.now) ≡ Accepted c.in-Accepted.len) =
-    sym c.judged-a.ensures ∙ c.in-Accepted.is in
+    item_writing a.times 0 (raw_item a.t a.values.now) ≡ Accepted c.in_ok-len.len) =
+    sym c.judged.ensures ∙ c.in_ok-len.was in
     let a = c.args in (
       held_of a.t.header c.head_of-asked.result c.head_of-asked.ensures _ _ c.held_by-held.ensures,
       omega (arith, (item_written a.times 0 (raw_item a.t a.values.now) _ (taken)).behind),
@@ -37,8 +39,8 @@ put_at-requires c =
 pub returns : goal.returns
 returns c =
     let taken : (let a = c.args in
-    item_writing a.times 0 (raw_item a.t a.values.now) ≡ Accepted c.in-Accepted.len) =
-    sym c.judged-a.ensures ∙ c.in-Accepted.is in
+    item_writing a.times 0 (raw_item a.t a.values.now) ≡ Accepted c.in_ok-len.len) =
+    sym c.judged.ensures ∙ c.in_ok-len.was in
     let a = c.args in
     let i = raw_item a.t a.values.now in
     record {

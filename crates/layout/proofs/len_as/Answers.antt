@@ -9,18 +9,6 @@ use Rattle.annex.specs.declared.Alphabet.TheVariants.{Dialled, Numbered}
 use Rattle.laws.specs.Joined.{length-packed}
 use Rattle.layout.proofs.len_as.Goals as goal
 
-pub overflow_add-result : goal.overflow_add-result
-overflow_add-result c = omega (arith, ap (λ (n : Octets). n.0) c.packed_len.ensures)
-
-pub overflow_add-result-in-AsNumber : goal.overflow_add-result-in-AsNumber
-overflow_add-result-in-AsNumber c = omega (arith, ap (λ (n : Octets). n.0) c.packed_len-in-AsNumber.ensures)
-
-pub overflow_add-result-in-AsGeneric : goal.overflow_add-result-in-AsGeneric
-overflow_add-result-in-AsGeneric c = omega (arith, ap (λ (n : Octets). n.0) c.packed_len-in-AsGeneric.ensures)
-
-pub returns-in-AsContents : goal.returns-in-AsContents
-returns-in-AsContents c = rw c.in-AsContents.is
-
 pub returns-in-AsDigits : goal.returns-in-AsDigits
 returns-in-AsDigits c =
     let s = c.args.values.now in

@@ -5,41 +5,16 @@ use mathlib.Core.Path.{◌≡◌, sym, ◌∙◌}
 use mathlib.Core.Bool.{true}
 use borrow.Author.Tests.{leb-true}
 use lib.Dec.{leb}
-use lib.ListN.{length, length-drop}
+use lib.ListN.{length}
 use Rattle.annex.specs.Layout.{layout_item}
 use Rattle.annex.specs.Records.{raw_item}
-use Rattle.laws.specs.Parts.{to_end}
 use Rattle.laws.specs.Written.{put_part}
 use Rattle.layout.proofs.put_at.Goals as goal
 
-pub returns-then-not-lies_within : goal.returns-then-not-lies_within
-returns-then-not-lies_within c =
-    rw (← c.requires.1, ← c.lies_within.ensures, c.if-not-lies_within.true)
-
-pub slice_bounds-put_whole-start : goal.slice_bounds-put_whole-start
-slice_bounds-put_whole-start c =
+pub returns-then-lies_within : goal.returns-then-lies_within
+returns-then-lies_within c =
     let fits : leb (c.args.at + c.args.len) (length c.args.room.now) ≡ true =
-    sym c.lies_within.ensures ∙ c.if-not-lies_within.false in
-    let within : (let a = c.args in
-    a.at + a.len ≤ length a.room.now) =
-    let a = c.args in
-    leb-true (a.at + a.len) (length a.room.now) (fits) in
-    omega (arith, within)
-
-pub put_whole-requires : goal.put_whole-requires
-put_whole-requires c =
-    let fits : leb (c.args.at + c.args.len) (length c.args.room.now) ≡ true =
-    sym c.lies_within.ensures ∙ c.if-not-lies_within.false in
-    let within : (let a = c.args in
-    a.at + a.len ≤ length a.room.now) =
-    let a = c.args in
-    leb-true (a.at + a.len) (length a.room.now) (fits) in
-    (c.requires.0, rw (to_end c.args.at _, length-drop c.args.at _) (omega (arith, within, c.requires.1)))
-
-pub returns : goal.returns
-returns c =
-    let fits : leb (c.args.at + c.args.len) (length c.args.room.now) ≡ true =
-    sym c.lies_within.ensures ∙ c.if-not-lies_within.false in
+    sym c.lies_within.ensures ∙ c.if-lies_within.true in
     let within : (let a = c.args in
     a.at + a.len ≤ length a.room.now) =
     let a = c.args in

@@ -1,34 +1,12 @@
--- `put_contents` meets its contract: each way of holding is written in its own way.
+-- `put_contents` meets its contract: values that are held as contents are octets, and are copied to the front of the room.
+use native.Mathlib.Omega.{arith}
+use Rattle.laws.specs.Written.{octets_every}
+use Rattle.octets.specs.Copied.{copied_front}
 use Rattle.layout.proofs.put_contents.Goals as goal
-
-pub copy-requires : goal.copy-requires
-copy-requires c =
-    rw c.in-AsContents.is at c.requires
 
 pub returns-in-AsContents : goal.returns-in-AsContents
 returns-in-AsContents c =
-    rw c.in-AsContents.is c.copy.ensures
-
-pub put_digits-requires : goal.put_digits-requires
-put_digits-requires c =
-    rw c.in-AsDigits.is at c.requires
-
-pub returns-in-AsDigits : goal.returns-in-AsDigits
-returns-in-AsDigits c =
-    rw c.in-AsDigits.is c.put_digits.ensures
-
-pub put_number-requires : goal.put_number-requires
-put_number-requires c =
-    rw c.in-AsNumber.is at c.requires
-
-pub returns-in-AsNumber : goal.returns-in-AsNumber
-returns-in-AsNumber c =
-    rw c.in-AsNumber.is c.put_number.ensures
-
-pub put_generic-requires : goal.put_generic-requires
-put_generic-requires c =
-    rw c.in-AsGeneric.is at c.requires
-
-pub returns-in-AsGeneric : goal.returns-in-AsGeneric
-returns-in-AsGeneric c =
-    rw c.in-AsGeneric.is c.put_generic.ensures
+    let s = c.args.values.now in
+    let fits = rw c.in-AsContents.is at c.requires in
+    rw c.in-AsContents.is
+    (copied_front c.args.room.now s c.copy_in.new.d c.copy_in.result fits (octets_every s (λ i. omega (arith, c.type_inv.values i))) c.copy_in.ensures)

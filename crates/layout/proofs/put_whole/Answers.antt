@@ -76,8 +76,8 @@ bounds-room-1 c =
     layout_led (raw_item a.t a.values.now) (λ z. c.if-lead-eq0.false (c.lead.ensures ∙ ap lead_of c.extent_of.ensures ∙ z)) in
     simp length-set (omega (arith, rw (led) at c.requires.1))
 
-pub slice_bounds-put_contents-start-2 : goal.slice_bounds-put_contents-start-2
-slice_bounds-put_contents-start-2 c =
+pub slice_bounds-put_contents-start-else-lead-eq0 : goal.slice_bounds-put_contents-start-else-lead-eq0
+slice_bounds-put_contents-start-else-lead-eq0 c =
     let led : (let a = c.args in
     let i = raw_item a.t a.values.now in
     layout_item i ≡ i.header ∷ length (contents_of i) ∷ contents_of i) =
@@ -85,8 +85,8 @@ slice_bounds-put_contents-start-2 c =
     layout_led (raw_item a.t a.values.now) (λ z. c.if-lead-eq0.false (c.lead.ensures ∙ ap lead_of c.extent_of.ensures ∙ z)) in
     simp length-set (omega (arith, rw (led) at c.requires.1))
 
-pub slice_bounds-put_contents-count-2 : goal.slice_bounds-put_contents-count-2
-slice_bounds-put_contents-count-2 c =
+pub slice_bounds-put_contents-count-else-lead-eq0 : goal.slice_bounds-put_contents-count-else-lead-eq0
+slice_bounds-put_contents-count-else-lead-eq0 c =
     let led : (let a = c.args in
     let i = raw_item a.t a.values.now in
     layout_item i ≡ i.header ∷ length (contents_of i) ∷ contents_of i) =
@@ -94,8 +94,8 @@ slice_bounds-put_contents-count-2 c =
     layout_led (raw_item a.t a.values.now) (λ z. c.if-lead-eq0.false (c.lead.ensures ∙ ap lead_of c.extent_of.ensures ∙ z)) in
     simp length-set (omega (arith, rw (led) at c.requires.1))
 
-pub put_contents-requires-2 : goal.put_contents-requires-2
-put_contents-requires-2 c =
+pub put_contents-requires-else-lead-eq0 : goal.put_contents-requires-else-lead-eq0
+put_contents-requires-else-lead-eq0 c =
     let kept : (let i = raw_item c.args.t c.args.values.now in
     contents_by c.args.held i ≡ contents_of i) =
     contents_as c.args.held (raw_item c.args.t c.args.values.now) c.requires.0 in
@@ -106,8 +106,8 @@ put_contents-requires-2 c =
     layout_led (raw_item a.t a.values.now) (λ z. c.if-lead-eq0.false (c.lead.ensures ∙ ap lead_of c.extent_of.ensures ∙ z)) in
     rw (kept, to_end 2 _, length-drop 2 _, length-set, length-set) (omega (arith, rw (led) at c.requires.1))
 
-pub returns : goal.returns
-returns c =
+pub returns-else-lead-eq0 : goal.returns-else-lead-eq0
+returns-else-lead-eq0 c =
     let kept : (let i = raw_item c.args.t c.args.values.now in
     contents_by c.args.held i ≡ contents_of i) =
     contents_as c.args.held (raw_item c.args.t c.args.values.now) c.requires.0 in
@@ -120,10 +120,10 @@ returns c =
     let h = a.t.header in
     let i = raw_item a.t a.values.now in
     let s = contents_of i in
-    let x = c.len_as-len.result in
-    let m : x ≡ length s = rw (kept) at c.len_as-len.ensures in
+    let x = c.len_as.result in
+    let m : x ≡ length s = rw (kept) at c.len_as.ensures in
     let b : h ≡ h % 256 = omega arith in
     let low : h ∷ x % 256 ∷ [] ≡ low_octets (h ∷ length s ∷ []) = rw (← m) (ap (λ n. n ∷ x % 256 ∷ []) b) in
     rw (led)
-    (written_then a.room.now (h ∷ x % 256 ∷ []) (h ∷ length s ∷ []) s c.put_contents-2.new.room low
-    (omega (arith, rw (led) at c.requires.1)) (rw (kept) at c.put_contents-2.ensures))
+    (written_then a.room.now (h ∷ x % 256 ∷ []) (h ∷ length s ∷ []) s c.put_contents-else-lead-eq0.new.room low
+    (omega (arith, rw (led) at c.requires.1)) (rw (kept) at c.put_contents-else-lead-eq0.ensures))

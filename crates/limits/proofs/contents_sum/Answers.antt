@@ -1,104 +1,49 @@
-use Prim.Native.Nat.{◌-◌, ◌≤◌}
+use Prim.Native.Nat.{ℕ, ◌≤◌}
 use native.Mathlib.Omega.{arith}
-use mathlib.Core.Path.{◌≡◌, refl, ap}
+use mathlib.Core.List.{List}
+use mathlib.Core.Path.{◌≡◌, ap}
 use borrow.Author.Rules.{rules}
 use lib.ListN.{length}
-use Rattle.annex.specs.Heads.{most_transfers, most_values}
-use Rattle.annex.specs.Records.{raw_item, lengths_of, item_from}
-use Rattle.laws.specs.Laid.{own_values}
-use Rattle.limits.specs.Along.{transfer_at, own_at, Turn, turn, items_end, length_mapped}
+use Rattle.annex.specs.Heads.{most_values}
+use Rattle.annex.specs.Records.{raw_item, item_from}
+use Rattle.annex.specs.declared.Transfer.{Transfer}
+use Rattle.annex.specs.Items.{contents_of}
+use Rattle.laws.specs.Laid.{own_values as item_values}
+use Rattle.std.proofs.lemmas.List.{length_push}
+use Rattle.limits.specs.Along.{length_mapped}
+use Rattle.limits.specs.Held.{items_here, for_turn, for_end}
 use Rattle.limits.specs.Limits.{contents_most}
 use Rattle.limits.proofs.contents_sum.Goals as goal
 
-pub loop-k-init : goal.loop-k-init
-unfolding lengths_of
-loop-k-init c =
-    let n = c.args.n in
-    let e : n - 0 ≡ n = omega arith in
-    (omega arith, refl, omega arith, rw e (omega arith))
-
-pub offset_bounds-q-k : goal.offset_bounds-q-k
-offset_bounds-q-k c =
-    let here : Turn c.args.q c.loop-k.k c.loop-k.used =
-    let l : length c.args.q.transfer ≡ most_transfers = search (rules, length_mapped) in
-    let v : length c.args.q.values ≡ most_values = search rules in
-    turn c.args.q c.loop-k.k c.args.n c.loop-k.used l v c.requires c.loop-k-test.true c.loop-k.invariant.1 in
-    omega (arith, (here).place)
-
-pub bounds-q-k : goal.bounds-q-k
-bounds-q-k c =
-    let here : Turn c.args.q c.loop-k.k c.loop-k.used =
-    let l : length c.args.q.transfer ≡ most_transfers = search (rules, length_mapped) in
-    let v : length c.args.q.values ≡ most_values = search rules in
-    turn c.args.q c.loop-k.k c.args.n c.loop-k.used l v c.requires c.loop-k-test.true c.loop-k.invariant.1 in
-    (here).place
-
-pub overflow_add-e : goal.overflow_add-e
-overflow_add-e c =
-    let here : Turn c.args.q c.loop-k.k c.loop-k.used =
-    let l : length c.args.q.transfer ≡ most_transfers = search (rules, length_mapped) in
-    let v : length c.args.q.values ≡ most_values = search rules in
-    turn c.args.q c.loop-k.k c.args.n c.loop-k.used l v c.requires c.loop-k-test.true c.loop-k.invariant.1 in
-    omega (arith, (here).small)
-
-pub slice_bounds-contents_len-end : goal.slice_bounds-contents_len-end
-slice_bounds-contents_len-end c =
-    let here : Turn c.args.q c.loop-k.k c.loop-k.used =
-    let l : length c.args.q.transfer ≡ most_transfers = search (rules, length_mapped) in
-    let v : length c.args.q.values ≡ most_values = search rules in
-    turn c.args.q c.loop-k.k c.args.n c.loop-k.used l v c.requires c.loop-k-test.true c.loop-k.invariant.1 in
-    (here).end
+-- the contents of one come to few octets
+few : (t : Transfer) (vs : List ℕ) (r : ℕ) → length vs ≤ most_values → r ≡ length (contents_of (item_from t vs)) → r ≤ 515
+few t vs r l e = omega (arith, contents_most (item_from t vs), ap length (item_values (raw_item t vs)))
 
 pub overflow_add-sum : goal.overflow_add-sum
 overflow_add-sum c =
-    let here : Turn c.args.q c.loop-k.k c.loop-k.used =
-    let l : length c.args.q.transfer ≡ most_transfers = search (rules, length_mapped) in
-    let v : length c.args.q.values ≡ most_values = search rules in
-    turn c.args.q c.loop-k.k c.args.n c.loop-k.used l v c.requires c.loop-k-test.true c.loop-k.invariant.1 in
-    let len_is : c.contents_len-sum.result ≤ 515 =
-    let q = c.args.q in
-    let r = raw_item (transfer_at q c.loop-k.k) (own_at q c.loop-k.k c.loop-k.used) in
-    omega (
-      arith,
-      c.contents_len-sum.ensures,
-      contents_most (item_from (transfer_at q c.loop-k.k) (own_at q c.loop-k.k c.loop-k.used)),
-      ap length (own_values r),
-      (here).few,
-    ) in
-    omega (arith, len_is, (here).place)
-
-pub overflow_add-k : goal.overflow_add-k
-overflow_add-k c =
-    let here : Turn c.args.q c.loop-k.k c.loop-k.used =
-    let l : length c.args.q.transfer ≡ most_transfers = search (rules, length_mapped) in
-    let v : length c.args.q.values ≡ most_values = search rules in
-    turn c.args.q c.loop-k.k c.args.n c.loop-k.used l v c.requires c.loop-k-test.true c.loop-k.invariant.1 in
-    omega (arith, (here).place)
-
-pub loop-k-preserved : goal.loop-k-preserved
-loop-k-preserved c =
-    let here : Turn c.args.q c.loop-k.k c.loop-k.used =
-    let l : length c.args.q.transfer ≡ most_transfers = search (rules, length_mapped) in
-    let v : length c.args.q.values ≡ most_values = search rules in
-    turn c.args.q c.loop-k.k c.args.n c.loop-k.used l v c.requires c.loop-k-test.true c.loop-k.invariant.1 in
-    let len_is : c.contents_len-sum.result ≤ 515 =
-    let q = c.args.q in
-    let r = raw_item (transfer_at q c.loop-k.k) (own_at q c.loop-k.k c.loop-k.used) in
-    omega (
-      arith,
-      c.contents_len-sum.ensures,
-      contents_most (item_from (transfer_at q c.loop-k.k) (own_at q c.loop-k.k c.loop-k.used)),
-      ap length (own_values r),
-      (here).few,
-    ) in
     let q = c.args.q in
     let n = c.args.n in
-    let k = c.loop-k.k in
-    let h = here in
-    let s = rw (h.items n c.loop-k-test.true) at c.loop-k.invariant.3 in
-    (omega arith, h.next, omega (arith, len_is), omega (arith, s, c.contents_len-sum.ensures))
+    let g = c.loop-t in
+    let here = for_turn q 0 n c.into_iter-t-iterator.result (cc) g.yielded g.t-iterator g.yielded_by c.next.result c.next.new.self c.next.ensures.steps _ c.in-Some.is (search (rules, length_mapped)) (search rules) in
+    omega (arith, few c.in-Some.t c.in-Some.values.now c.contents_len-sum.result here.few c.contents_len-sum.ensures, here.place, c.loop-t.invariant.0)
+
+pub loop-t-preserved : goal.loop-t-preserved
+loop-t-preserved c =
+    let q = c.args.q in
+    let n = c.args.n in
+    let g = c.loop-t in
+    let here = for_turn q 0 n c.into_iter-t-iterator.result (cc) g.yielded g.t-iterator g.yielded_by c.next.result c.next.new.self c.next.ensures.steps _ c.in-Some.is (search (rules, length_mapped)) (search rules) in
+    let s = rw here.items at g.invariant.1 in
+    rw (length_push g.yielded (c.in-Some.t, c.in-Some.values)) (
+      omega (arith, few c.in-Some.t c.in-Some.values.now c.contents_len-sum.result here.few c.contents_len-sum.ensures, g.invariant.0),
+      omega (arith, s, c.contents_len-sum.ensures),
+    )
 
 pub returns : goal.returns
 returns c =
-    let s = rw (items_end c.args.q c.loop-k.k c.args.n c.loop-k-test.false) at c.loop-k.invariant.3 in
+    let q = c.args.q in
+    let n = c.args.n in
+    let g = c.loop-t in
+    let end = for_end q 0 n c.into_iter-t-iterator.result (cc) g.yielded g.t-iterator g.yielded_by c.next.result c.next.new.self c.next.ensures.steps c.in-None.is in
+    let s = rw (← items_here q 0 n, end) at g.invariant.1 in
     omega (arith, s)

@@ -10,13 +10,13 @@ pub returns-then-q-gt-MOST : goal.returns-then-q-gt-MOST
 unfolding is_whole
 returns-then-q-gt-MOST c = rw (lt-leb _ _ c.if-q-gt-MOST.true)
 
-pub returns-then-n-gt-MOST : goal.returns-then-n-gt-MOST
+pub returns-else-n-le-MOST : goal.returns-else-n-le-MOST
 unfolding is_whole
-returns-then-n-gt-MOST c =
-    rw (le-leb _ _ c.if-q-gt-MOST.false, ← c.transfers_sum-n.ensures, lt-leb _ _ c.if-n-gt-MOST.true)
+returns-else-n-le-MOST c =
+    rw (le-leb _ _ c.if-q-gt-MOST.false, ← c.transfers_sum-n.ensures, lt-leb _ _ c.if-n-le-MOST.false)
 
-pub returns : goal.returns
+pub returns-then-n-le-MOST : goal.returns-then-n-le-MOST
 unfolding is_whole
-returns c =
-    rw (le-leb _ _ c.if-q-gt-MOST.false, ← c.transfers_sum-n.ensures, le-leb _ _ c.if-n-gt-MOST.false)
+returns-then-n-le-MOST c =
+    rw (le-leb _ _ c.if-q-gt-MOST.false, ← c.transfers_sum-n.ensures, le-leb _ _ c.if-n-le-MOST.true)
     (ap (λ n. leb n most_values) c.values_before.ensures)

@@ -11,23 +11,20 @@ use Rattle.limits.proofs.over_limits.Goals as goal
 whole : (q : Record) (b : Bool) → b ≡ is_whole q → b ≡ true → Whole q
 whole q b e t = told_whole q (sym e ∙ t)
 
-pub transfers_sum-n-requires : goal.transfers_sum-n-requires
-transfers_sum-n-requires c = (whole c.args.q _ c.is_whole.ensures c.if-not-is_whole.false).commons
+pub transfers_sum-requires : goal.transfers_sum-requires
+transfers_sum-requires c = (whole c.args.q _ c.is_whole.ensures c.if-not-is_whole.false).commons
 
 pub contents_sum-requires : goal.contents_sum-requires
 contents_sum-requires c =
-    rw c.transfers_sum-n.ensures ((whole c.args.q _ c.is_whole.ensures c.if-not-is_whole.false).within)
+    rw c.transfers_sum.ensures ((whole c.args.q _ c.is_whole.ensures c.if-not-is_whole.false).within)
 
-pub returns-then-not-is_whole : goal.returns-then-not-is_whole
-returns-then-not-is_whole c = rw (← c.is_whole.ensures, c.if-not-is_whole.true)
-
-pub returns : goal.returns
-returns c =
+pub returns-else-not-is_whole : goal.returns-else-not-is_whole
+returns-else-not-is_whole c =
     let q = c.args.q in
     rw (
       ← c.is_whole.ensures,
       c.if-not-is_whole.false,
       over_contents q (whole q _ c.is_whole.ensures c.if-not-is_whole.false),
       c.contents_sum.ensures,
-      c.transfers_sum-n.ensures,
+      c.transfers_sum.ensures,
     )

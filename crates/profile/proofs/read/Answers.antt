@@ -7,7 +7,7 @@ use mathlib.Core.List.{List}
 use Rattle.annex.specs.Allowed.{every, is_octet}
 use Rattle.annex.specs.Profile.{profile_verdict}
 use Rattle.annex.specs.Records.{reading_of}
-use Rattle.annex.specs.declared.Answer.TheVariants.{Accepted}
+use Rattle.annex.specs.Answers.{Accepted}
 use Rattle.annex.specs.declared.Reading.{Reading}
 use Rattle.laws.specs.Written.{octets_every}
 use Rattle.profile.specs.Keeping.{keeps_plain}
@@ -30,21 +30,21 @@ returns-in_default c =
     let m = c.args.m.now in
     let octets = octets_every m (λ i. omega (arith, c.type_inv.m i)) in
     let e = c.in_default.is in
-    let v = sym (reading_verdict m c.read-r.result c.read-r.ensures) ∙ e in
+    let v = sym (reading_verdict m c.read-answer.result c.read-answer.ensures) ∙ e in
     c.refused-in_default.ensures ∙ ap refused_with e ∙ read_refused m octets (sym c.keeps.ensures ∙ c.if-not-keeps.false) _ _ v
 
-pub told-profile-requires : goal.told-profile-requires
-told-profile-requires c =
+pub told-requires : goal.told-requires
+told-requires c =
     let m = c.args.m.now in
     let octets = octets_every m (λ i. omega (arith, c.type_inv.m i)) in
     let kept = sym c.keeps.ensures ∙ c.if-not-keeps.false in
-    (c.in-Accepted.field-0, taken m octets kept c.read-r.result c.read-r.ensures _ c.in-Accepted.is)
+    (c.in-Ok.field-0, taken m octets kept c.read-answer.result c.read-answer.ensures _ c.in-Ok.is)
 
 pub returns : goal.returns
 returns c =
     let m = c.args.m.now in
     let octets = octets_every m (λ i. omega (arith, c.type_inv.m i)) in
     let kept = sym c.keeps.ensures ∙ c.if-not-keeps.false in
-    let t = taken m octets kept c.read-r.result c.read-r.ensures _ c.in-Accepted.is in
-    rw (c.told-profile.ensures, c.in-Accepted.is)
-    (read_taken m octets c.in-Accepted.field-0 t c.read-r.result c.read-r.ensures)
+    let t = taken m octets kept c.read-answer.result c.read-answer.ensures _ c.in-Ok.is in
+    rw (c.told.ensures, c.in-Ok.is)
+    (read_taken m octets c.in-Ok.field-0 t c.read-answer.result c.read-answer.ensures)

@@ -5,4 +5,4 @@ use Rattle.profile.proofs.refused.Goals as goal
 
 pub returns : goal.returns
 unfolding pad pairs_in values_under
-returns c = rw (c.none-none.ensures, c.empty-held.ensures)
+returns c = rw (c.none.ensures, c.empty.ensures)

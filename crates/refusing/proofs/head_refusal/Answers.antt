@@ -3,24 +3,25 @@ use mathlib.Core.Path.{◌≡◌, sym, ◌∙◌}
 use mathlib.Core.Bool.{true, not}
 use mathlib.Core.List.{[]}
 use borrow.Author.Tests.{ne_eqb, lt-ltb, le-ltb}
-use Rattle.annex.specs.Answers.{refuse, not_allowed, bad_form}
+use Rattle.annex.specs.Answers.{refuse, not_allowed, bad_form, Accepted}
 use Rattle.annex.specs.Heads.{among, common_headers, value_allowed}
 use Rattle.annex.specs.Allowed.{value_fits}
 use Rattle.annex.specs.Records.{value_head, raw_part}
 use Rattle.annex.specs.Writing.{part_writing}
-use Rattle.annex.specs.declared.Answer.TheVariants.{Accepted}
 use Rattle.refusing.specs.Laying.{head_length, head_laid}
 use Rattle.refusing.specs.Refusing.{head_checked}
+use Rattle.refusing.proofs.head_refusal.Goals.{then-header-eq-END_MARK-via-then-header-eq-END_MARK, then-header-eq-END_MARK-via-else-header-eq-END_MARK+then-not-listed}
 use Rattle.refusing.proofs.head_refusal.Goals as goal
 
 pub returns-then-header-eq-END_MARK : goal.returns-then-header-eq-END_MARK
-returns-then-header-eq-END_MARK c = rw (head_checked _ c.args.c, c.if-header-eq-END_MARK.true)
-
-pub returns-then-not-listed : goal.returns-then-not-listed
-returns-then-not-listed c =
-    let listed-is : c.listed.result ≡ among c.args.c.header common_headers =
-    c.listed.ensures ∙ rw (ne_eqb _ _ c.if-header-eq-END_MARK.false) in
-    rw (head_checked _ c.args.c, ← listed-is, c.if-not-listed.true)
+returns-then-header-eq-END_MARK c =
+    let a = c.args in
+    elim c.then-header-eq-END_MARK.branch [
+      | then-header-eq-END_MARK-via-then-header-eq-END_MARK w ↦ rw (head_checked _ a.c, w.if-header-eq-END_MARK.true)
+      | then-header-eq-END_MARK-via-else-header-eq-END_MARK+then-not-listed w ↦
+          let e : w.listed.result ≡ among a.c.header common_headers = w.listed.ensures ∙ rw (ne_eqb _ _ w.if-header-eq-END_MARK.false) in
+          rw (head_checked _ a.c, ← e, w.if-not-listed.true)
+    ]
 
 pub returns-then-times-gt0 : goal.returns-then-times-gt0
 returns-then-times-gt0 c =
@@ -82,6 +83,6 @@ returns c =
       c.if-not-value_allowed.false,
       ← c.value_fits.ensures,
       c.if-not-value_fits.false,
-      c.head_len-len.ensures,
+      c.head_len.ensures,
       head_laid (value_head c.args.c.header 0),
     )

@@ -1,151 +1,75 @@
-use Prim.Native.Nat.{suc, ◌+◌, ◌-◌}
+use Prim.Native.Nat.{◌<◌}
 use native.Mathlib.Omega.{arith}
 use mathlib.Core.Path.{◌≡◌, sym, ◌∙◌}
 use borrow.Author.Rules.{rules}
-use lib.ListN.{length}
-use Rattle.annex.specs.Heads.{most_transfers, most_values}
+use Rattle.std.proofs.lemmas.List.{length_push}
 use Rattle.annex.specs.Units.{name_of}
-use Rattle.annex.specs.Items.{Item}
 use Rattle.annex.specs.Records.{raw_item, item_from}
 use Rattle.annex.specs.Walk.{times_seen}
+use Rattle.annex.specs.Writing.{item_writing}
 use Rattle.laws.specs.Often.{few_often}
 use Rattle.laws.specs.Laid.{own_header}
+use Rattle.laws.specs.Passed.{passed_on}
 use Rattle.theorems.specs.Writings.{ItemWritten, item_written}
-use Rattle.limits.specs.Along.{transfer_at, own_at, Turn, turn, items_end, length_mapped}
-use Rattle.refusing.specs.Refusing.{items_refused, items_accepted, items_over}
+use Rattle.limits.specs.Along.{length_mapped}
+use Rattle.limits.specs.Held.{items_here, for_turn, for_end}
+use Rattle.refusing.specs.Refusing.{placed_ok, items_placed, items_accepted, items_over}
 use Rattle.refusing.proofs.items_refusal.Goals as goal
 
-pub overflow_add-end : goal.overflow_add-end
-overflow_add-end c = omega (arith, c.requires.0.places)
-
-pub loop-k-init : goal.loop-k-init
-loop-k-init c =
+pub returns-in_err-len : goal.returns-in_err-len
+returns-in_err-len c =
     let a = c.args in
-    let e : a.first + a.n - a.first ≡ a.n = omega arith in
-    (omega arith, omega arith, c.values_before-used.ensures, omega arith, rw e)
-
-pub offset_bounds-q-k : goal.offset_bounds-q-k
-offset_bounds-q-k c =
-    let here : Turn c.args.q c.loop-k.k c.loop-k.used =
-    let q = c.args.q in
-    let l : length q.transfer ≡ most_transfers = search (rules, length_mapped) in
-    let v : length q.values ≡ most_values = search rules in
-    turn q c.loop-k.k (c.args.first + c.args.n) c.loop-k.used l v c.requires.0 c.loop-k-test.true c.loop-k.invariant.2 in
-    omega (arith, (here).place)
-
-pub bounds-q-k : goal.bounds-q-k
-bounds-q-k c =
-    let here : Turn c.args.q c.loop-k.k c.loop-k.used =
-    let q = c.args.q in
-    let l : length q.transfer ≡ most_transfers = search (rules, length_mapped) in
-    let v : length q.values ≡ most_values = search rules in
-    turn q c.loop-k.k (c.args.first + c.args.n) c.loop-k.used l v c.requires.0 c.loop-k-test.true c.loop-k.invariant.2 in
-    (here).place
-
-pub overflow_add-e : goal.overflow_add-e
-overflow_add-e c =
-    let here : Turn c.args.q c.loop-k.k c.loop-k.used =
-    let q = c.args.q in
-    let l : length q.transfer ≡ most_transfers = search (rules, length_mapped) in
-    let v : length q.values ≡ most_values = search rules in
-    turn q c.loop-k.k (c.args.first + c.args.n) c.loop-k.used l v c.requires.0 c.loop-k-test.true c.loop-k.invariant.2 in
-    omega (arith, (here).small)
-
-pub slice_bounds-refusal-end : goal.slice_bounds-refusal-end
-slice_bounds-refusal-end c =
-    let here : Turn c.args.q c.loop-k.k c.loop-k.used =
-    let q = c.args.q in
-    let l : length q.transfer ≡ most_transfers = search (rules, length_mapped) in
-    let v : length q.values ≡ most_values = search rules in
-    turn q c.loop-k.k (c.args.first + c.args.n) c.loop-k.used l v c.requires.0 c.loop-k-test.true c.loop-k.invariant.2 in
-    (here).end
-
-pub returns-in_default : goal.returns-in_default
-returns-in_default c =
-    let here : Turn c.args.q c.loop-k.k c.loop-k.used =
-    let q = c.args.q in
-    let l : length q.transfer ≡ most_transfers = search (rules, length_mapped) in
-    let v : length q.values ≡ most_values = search rules in
-    turn q c.loop-k.k (c.args.first + c.args.n) c.loop-k.used l v c.requires.0 c.loop-k-test.true c.loop-k.invariant.2 in
-    let item_at : Item =
-    let q = c.args.q in
-    let k = c.loop-k.k in
-    item_from (transfer_at q k) (own_at q k c.loop-k.used) in
-    let header_is : (item_at).header ≡ (transfer_at c.args.q c.loop-k.k).header =
-    let q = c.args.q in
-    own_header (raw_item (transfer_at q c.loop-k.k) (own_at q c.loop-k.k c.loop-k.used)) in
-    let e = c.in_default.is in
-    c.placed.ensures ∙ rw e (sym (c.loop-k.invariant.4 ∙ rw ((here).items _ c.loop-k-test.true)
-    (items_refused c.loop-k.seen c.loop-k.at _ (item_at) _ _ (header_is) (sym c.refusal-a.ensures) _ _ e)))
-
-pub overflow_add-seen : goal.overflow_add-seen
-overflow_add-seen c =
-    let item_at : Item =
-    let q = c.args.q in
-    let k = c.loop-k.k in
-    item_from (transfer_at q k) (own_at q k c.loop-k.used) in
-    let taken : (let q = c.args.q in
-    ItemWritten (times_seen c.loop-k.seen (transfer_at q c.loop-k.k).header) 0 (item_at) c.in-Accepted.len) =
-    item_written _ _ _ _ (sym c.refusal-a.ensures ∙ c.in-Accepted.is) in
-    omega (arith, (taken).fewer, few_often (name_of (item_at).header))
+    let q = a.q in
+    let g = c.loop-t in
+    let t = c.in-Some.t in
+    let here = for_turn q a.first a.n c.into_iter-t-iterator.result (cc) g.yielded g.t-iterator g.yielded_by c.next.result c.next.new.self c.next.ensures.steps _ c.in-Some.is (search (rules, length_mapped)) (search rules) in
+    let own = c.in-Some.values.now in
+    let i = item_from t own in
+    let header_is : i.header ≡ t.header = own_header (raw_item t own) in
+    let judged : item_writing (times_seen g.seen.0 t.header) 0 i ≡ c.refusal.result = rw (← c.times.ensures) (sym c.refusal.ensures) in
+    passed_on c.from_residual.result c.in_err-len.field-0.0 c.from_residual.ensures.1
+    ∙ sym (rw (items_here q a.first a.n) (g.invariant.1
+    ∙ rw here.items (items_placed g.seen.0 g.at _ i _ _ header_is judged _ (sym c.placed.ensures ∙ c.in_err-len.was))))
 
 pub overflow_add-at : goal.overflow_add-at
 overflow_add-at c =
-    let here : Turn c.args.q c.loop-k.k c.loop-k.used =
-    let q = c.args.q in
-    let l : length q.transfer ≡ most_transfers = search (rules, length_mapped) in
-    let v : length q.values ≡ most_values = search rules in
-    turn q c.loop-k.k (c.args.first + c.args.n) c.loop-k.used l v c.requires.0 c.loop-k-test.true c.loop-k.invariant.2 in
-    let item_at : Item =
-    let q = c.args.q in
-    let k = c.loop-k.k in
-    item_from (transfer_at q k) (own_at q k c.loop-k.used) in
-    let taken : (let q = c.args.q in
-    ItemWritten (times_seen c.loop-k.seen (transfer_at q c.loop-k.k).header) 0 (item_at) c.in-Accepted.len) =
-    item_written _ _ _ _ (sym c.refusal-a.ensures ∙ c.in-Accepted.is) in
-    omega (arith, (taken).behind, (taken).short, (here).place)
+    let a = c.args in
+    let q = a.q in
+    let g = c.loop-t in
+    let t = c.in-Some.t in
+    let here = for_turn q a.first a.n c.into_iter-t-iterator.result (cc) g.yielded g.t-iterator g.yielded_by c.next.result c.next.new.self c.next.ensures.steps _ c.in-Some.is (search (rules, length_mapped)) (search rules) in
+    let own = c.in-Some.values.now in
+    let i = item_from t own in
+    let header_is : i.header ≡ t.header = own_header (raw_item t own) in
+    let judged : item_writing (times_seen g.seen.0 t.header) 0 i ≡ c.refusal.result = rw (← c.times.ensures) (sym c.refusal.ensures) in
+    let took = placed_ok g.at c.refusal.result c.in_ok-len.len (sym c.placed.ensures ∙ c.in_ok-len.was) in
+    let taken : ItemWritten (times_seen g.seen.0 t.header) 0 i c.in_ok-len.len = item_written _ _ _ _ (judged ∙ took) in
+    omega (arith, taken.behind, taken.short, here.place, g.invariant.0)
 
-pub overflow_add-k : goal.overflow_add-k
-overflow_add-k c =
-    let here : Turn c.args.q c.loop-k.k c.loop-k.used =
-    let q = c.args.q in
-    let l : length q.transfer ≡ most_transfers = search (rules, length_mapped) in
-    let v : length q.values ≡ most_values = search rules in
-    turn q c.loop-k.k (c.args.first + c.args.n) c.loop-k.used l v c.requires.0 c.loop-k-test.true c.loop-k.invariant.2 in
-    omega (arith, (here).place)
-
-pub loop-k-preserved : goal.loop-k-preserved
-loop-k-preserved c =
-    let here : Turn c.args.q c.loop-k.k c.loop-k.used =
-    let q = c.args.q in
-    let l : length q.transfer ≡ most_transfers = search (rules, length_mapped) in
-    let v : length q.values ≡ most_values = search rules in
-    turn q c.loop-k.k (c.args.first + c.args.n) c.loop-k.used l v c.requires.0 c.loop-k-test.true c.loop-k.invariant.2 in
-    let item_at : Item =
-    let q = c.args.q in
-    let k = c.loop-k.k in
-    item_from (transfer_at q k) (own_at q k c.loop-k.used) in
-    let header_is : (item_at).header ≡ (transfer_at c.args.q c.loop-k.k).header =
-    let q = c.args.q in
-    own_header (raw_item (transfer_at q c.loop-k.k) (own_at q c.loop-k.k c.loop-k.used)) in
-    let taken : (let q = c.args.q in
-    ItemWritten (times_seen c.loop-k.seen (transfer_at q c.loop-k.k).header) 0 (item_at) c.in-Accepted.len) =
-    item_written _ _ _ _ (sym c.refusal-a.ensures ∙ c.in-Accepted.is) in
-    let f = c.args.first in
-    let k = c.loop-k.k in
-    let e : k + 1 - f ≡ suc (k - f) = omega arith in (
-      omega arith,
-      omega arith,
-      (here).next,
-      omega (arith, (taken).behind, (taken).short, e, c.loop-k.invariant.3),
-      c.loop-k.invariant.4 ∙ rw ((here).items _ c.loop-k-test.true)
-          (items_accepted c.loop-k.seen c.loop-k.at _ (item_at) _ _ (header_is) (sym c.refusal-a.ensures) _
-          c.in-Accepted.is),
+pub loop-t-preserved : goal.loop-t-preserved
+loop-t-preserved c =
+    let a = c.args in
+    let q = a.q in
+    let g = c.loop-t in
+    let t = c.in-Some.t in
+    let here = for_turn q a.first a.n c.into_iter-t-iterator.result (cc) g.yielded g.t-iterator g.yielded_by c.next.result c.next.new.self c.next.ensures.steps _ c.in-Some.is (search (rules, length_mapped)) (search rules) in
+    let own = c.in-Some.values.now in
+    let i = item_from t own in
+    let header_is : i.header ≡ t.header = own_header (raw_item t own) in
+    let judged : item_writing (times_seen g.seen.0 t.header) 0 i ≡ c.refusal.result = rw (← c.times.ensures) (sym c.refusal.ensures) in
+    let took = placed_ok g.at c.refusal.result c.in_ok-len.len (sym c.placed.ensures ∙ c.in_ok-len.was) in
+    let taken : ItemWritten (times_seen g.seen.0 t.header) 0 i c.in_ok-len.len = item_written _ _ _ _ (judged ∙ took) in
+    let few : times_seen g.seen.0 t.header < 255 = omega (arith, taken.fewer, few_often (name_of i.header)) in
+    rw (length_push g.yielded (t, c.in-Some.values)) (
+      omega (arith, taken.behind, taken.short, g.invariant.0),
+      g.invariant.1
+          ∙ rw (here.items, c.count.ensures few) (items_accepted g.seen.0 g.at _ i _ _ header_is judged _ took),
     )
 
 pub returns : goal.returns
 returns c =
-    sym
-    (c.loop-k.invariant.4
-    ∙ rw
-    (items_end c.args.q c.loop-k.k (c.args.first + c.args.n) c.loop-k-test.false, items_over c.loop-k.seen c.loop-k.at))
+    let a = c.args in
+    let q = a.q in
+    let g = c.loop-t in
+    let end = for_end q a.first a.n c.into_iter-t-iterator.result (cc) g.yielded g.t-iterator g.yielded_by c.next.result c.next.new.self c.next.ensures.steps c.in-None.is in
+    sym (rw (items_here q a.first a.n) (g.invariant.1 ∙ rw (end, items_over g.seen.0 g.at)))

@@ -1,55 +1,32 @@
-use Prim.Native.Nat.{suc}
-use native.Mathlib.Omega.{arith}
-use mathlib.Core.Path.{◌≡◌, sym, ap, ◌∙◌}
-use lib.ListN.{length}
-use native.Mathlib.Numerals.{add-one}
-use Rattle.annex.specs.Answers.{given_of}
-use Rattle.walk.specs.Cursors.{cursor_none, cursor_more}
-use Rattle.rows.specs.Rows.{Within, filled, filled_none, length-filled, filled_more}
-use Rattle.annex.specs.Opened.{order_answer}
-use Rattle.rows.specs.Orders.{order_listed, order_source}
+-- `order` meets its contract: what is refused leaves the table, and else its rows are stored.
+use Rattle.std.proofs.Common.{sym, ap, ◌∙◌, ◌++◌, drop, length-take-le}
+use Rattle.annex.specs.Opened.{order_table}
+use Rattle.laws.specs.Passed.{passed_on}
+use Rattle.rows.specs.Orders.{order_given}
+use Rattle.rows.specs.Tables.{fill_fits, table_filled, room_kept}
 use Rattle.rows.proofs.order.Goals as goal
 
-pub loop-k-init : goal.loop-k-init
-loop-k-init c = (omega arith, c.first-c.ensures ∙ sym (cursor_none _), sym (filled_none _ _))
+pub returns-in_err-n : goal.returns-in_err-n
+unfolding order_table
+returns-in_err-n c =
+    let r = c.in_err-n.field-0.0 in
+    let told = sym c.check_order.ensures ∙ c.in_err-n.was in
+    (passed_on c.from_residual.result r c.from_residual.ensures.1 ∙ sym told, room_kept _ _ c.args.rows.now r.0 r.1 told)
 
-pub offset_bounds-rows-k : goal.offset_bounds-rows-k
-offset_bounds-rows-k c =
-    let a = c.args in
-    let counted : c.given-n.result ≡ given_of (order_answer a.m.now (length a.rows.now)) = c.given-n.ensures ∙ ap given_of c.check_order-a.ensures in
-    let w = order_source.within a.m.now (length a.rows.now) in
-    let before : Within (order_listed a.m.now) (length a.rows.now) c.loop-k.k =
-    record { there = omega (arith, counted, w.there, c.loop-k-test.true); roomy = omega (arith, counted, w.roomy, c.loop-k-test.true) } in
-    let same = ap length c.loop-k.invariant.2 ∙ length-filled _ _ _ before in
-    omega (arith, c.loop-k.auto.rows, same, counted, w.roomy, c.loop-k-test.true)
+pub slice_bounds-fill-end : goal.slice_bounds-fill-end
+slice_bounds-fill-end c = (order_given c.args.m.now _ _ _ c.check_order.ensures c.in_ok-n.was).roomy
 
-pub bounds-rows-k : goal.bounds-rows-k
-bounds-rows-k c =
-    let a = c.args in
-    let counted : c.given-n.result ≡ given_of (order_answer a.m.now (length a.rows.now)) = c.given-n.ensures ∙ ap given_of c.check_order-a.ensures in
-    let w = order_source.within a.m.now (length a.rows.now) in
-    let before : Within (order_listed a.m.now) (length a.rows.now) c.loop-k.k =
-    record { there = omega (arith, counted, w.there, c.loop-k-test.true); roomy = omega (arith, counted, w.roomy, c.loop-k-test.true) } in
-    let same = ap length c.loop-k.invariant.2 ∙ length-filled _ _ _ before in
-    omega (arith, same, counted, w.roomy, c.loop-k-test.true)
+pub slice_bounds-fill-end-2 : goal.slice_bounds-fill-end-2
+slice_bounds-fill-end-2 c = sym (length-take-le _ _ (order_given c.args.m.now _ _ _ c.check_order.ensures c.in_ok-n.was).roomy)
 
-pub loop-k-preserved : goal.loop-k-preserved
-loop-k-preserved c =
-    let a = c.args in
-    let m = a.m.now in
-    let counted : c.given-n.result ≡ given_of (order_answer m (length a.rows.now)) = c.given-n.ensures ∙ ap given_of c.check_order-a.ensures in
-    let w = order_source.within m (length a.rows.now) in
-    let i = c.loop-k.invariant in
-    let behind : Within (order_listed m) (length a.rows.now) (suc c.loop-k.k) =
-    record { there = omega (arith, counted, w.there, c.loop-k-test.true); roomy = omega (arith, counted, w.roomy, c.loop-k-test.true) } in (
-      omega (arith, c.loop-k-test.true),
-      rw (c.next-c.ensures, i.1, add-one) (sym (cursor_more _ _)),
-      rw (c.row_here.ensures, i.1, i.2, add-one) (filled_more order_source m a.rows.now c.loop-k.k behind),
-    )
+pub fill-requires : goal.fill-requires
+fill-requires c =
+    let g = order_given c.args.m.now _ _ _ c.check_order.ensures c.in_ok-n.was in
+    (g.stands, fill_fits c.args.rows.now g)
 
 pub returns : goal.returns
+unfolding order_table
 returns c =
-    let a = c.args in
-    let counted : c.given-n.result ≡ given_of (order_answer a.m.now (length a.rows.now)) = c.given-n.ensures ∙ ap given_of c.check_order-a.ensures in
-    let all : c.loop-k.k ≡ given_of (order_answer a.m.now (length a.rows.now)) = omega (arith, counted, c.loop-k.invariant.0, c.loop-k-test.false) in
-    (c.check_order-a.ensures, c.loop-k.invariant.2 ∙ ap (filled (order_listed a.m.now) a.rows.now) all ∙ order_source.whole a.m.now a.rows.now)
+    let told = sym c.check_order.ensures ∙ c.in_ok-n.was in
+    let g = order_given c.args.m.now _ _ _ c.check_order.ensures c.in_ok-n.was in
+    (sym told, rw told (table_filled c.args.rows.now g _ (ap (λ l. l ++ drop c.in_ok-n.n c.args.rows.now) c.fill.ensures)))

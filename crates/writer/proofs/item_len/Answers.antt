@@ -8,16 +8,16 @@ use Rattle.laws.specs.Laid.{own_values, own_contents_lem, own_layout, length-lay
 use Rattle.limits.specs.Limits.{contents_most}
 use Rattle.writer.proofs.item_len.Goals as goal
 
-pub overflow_add-before : goal.overflow_add-before
-overflow_add-before c =
-    let lead_is : c.lead-before.result ≡ lead_of (extent_of c.args.t.header) =
-    c.lead-before.ensures ∙ ap lead_of c.extent_of.ensures in
-    omega (arith, lead_is, lead_small (extent_of c.args.t.header))
-
 pub overflow_add-result : goal.overflow_add-result
 overflow_add-result c =
-    let lead_is : c.lead-before.result ≡ lead_of (extent_of c.args.t.header) =
-    c.lead-before.ensures ∙ ap lead_of c.extent_of.ensures in
+    let lead_is : c.lead.result ≡ lead_of (extent_of c.args.t.header) =
+    c.lead.ensures ∙ ap lead_of c.extent_of.ensures in
+    omega (arith, lead_is, lead_small (extent_of c.args.t.header))
+
+pub overflow_add-result-2 : goal.overflow_add-result-2
+overflow_add-result-2 c =
+    let lead_is : c.lead.result ≡ lead_of (extent_of c.args.t.header) =
+    c.lead.ensures ∙ ap lead_of c.extent_of.ensures in
     let i = raw_item c.args.t c.args.values.now in
     omega (
       arith,
@@ -31,8 +31,8 @@ overflow_add-result c =
 
 pub returns : goal.returns
 returns c =
-    let lead_is : c.lead-before.result ≡ lead_of (extent_of c.args.t.header) =
-    c.lead-before.ensures ∙ ap lead_of c.extent_of.ensures in
+    let lead_is : c.lead.result ≡ lead_of (extent_of c.args.t.header) =
+    c.lead.ensures ∙ ap lead_of c.extent_of.ensures in
     let a = c.args in
     let i = raw_item a.t a.values.now in
     omega (arith, lead_is, c.contents_len.ensures, ap length (own_contents_lem i), ap length (own_layout i), length-layout i)

@@ -42,21 +42,21 @@ laid : (c : Common) (room now s : List ℕ) (at : ℕ) (r : Bool) → s ≡ low_
     → Keeps (laying_head c room at) r now
 laid c room now s at r e k = rw (← length_low (layout_part (raw_part c [])), ← e) k
 
-pub returns-then-header : goal.returns-then-header
-returns-then-header c =
+pub returns-then-c-eq-TRANSFER_DATA : goal.returns-then-c-eq-TRANSFER_DATA
+returns-then-c-eq-TRANSFER_DATA c =
     let a = c.args in
-    laid a.c a.room.now _ _ a.at _ (low-data a.c (omega arith) c.if-header.true) c.copy_in.ensures
+    laid a.c a.room.now _ _ a.at _ (low-data a.c (omega arith) c.if-c-eq-TRANSFER_DATA.true) c.copy_in.ensures
 
 pub returns-then-is_call : goal.returns-then-is_call
 returns-then-is_call c =
     let a = c.args in
     laid a.c a.room.now _ _ a.at _
-    (rw c.call_octets-own.ensures (low-call a.c (omega arith) c.if-header.false (sym c.is_call.ensures ∙ c.if-is_call.true)))
+    (rw c.call_octets.ensures (low-call a.c (omega arith) c.if-c-eq-TRANSFER_DATA.false (sym c.is_call.ensures ∙ c.if-is_call.true)))
     c.copy_in-then-is_call.ensures
 
-pub returns : goal.returns
-returns c =
+pub returns-else-is_call : goal.returns-else-is_call
+returns-else-is_call c =
     let a = c.args in
     laid a.c a.room.now _ _ a.at _
-    (rw c.octet_of.ensures (low-plain a.c (omega arith) c.if-header.false (sym c.is_call.ensures ∙ c.if-is_call.false)))
-    c.copy_in-2.ensures
+    (rw c.octet_of.ensures (low-plain a.c (omega arith) c.if-c-eq-TRANSFER_DATA.false (sym c.is_call.ensures ∙ c.if-is_call.false)))
+    c.copy_in-else-is_call.ensures

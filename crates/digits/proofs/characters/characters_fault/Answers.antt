@@ -1,9 +1,9 @@
+use Rattle.std.specs.Prelude.{Err}
 use Prim.Native.Nat.{◌+◌}
 use mathlib.Core.Path.{◌≡◌, refl, sym, ◌∙◌}
 use mathlib.Core.Bool.{cond}
 use lib.ListN.{drop}
-use Rattle.annex.specs.Answers.{bad_digit}
-use Rattle.annex.specs.declared.Fault.TheVariants.{Bad}
+use Rattle.annex.specs.Answers.{bad_digit, Bad}
 use Rattle.digits.specs.Characters.{known_fault, known_more, known_none}
 use Rattle.digits.proofs.characters.characters_fault.Goals as goal
 

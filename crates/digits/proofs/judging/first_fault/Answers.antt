@@ -10,8 +10,7 @@ use Rattle.digits.proofs.judging.first_fault.Goals as goal
 
 pub loop-i-init : goal.loop-i-init
 unfolding digits_fault
-loop-i-init c =
-    (omega arith, ap (λ (n : HalfOctets). n.0) c.of-halves.ensures, simp (sub-zero, add-zero))
+loop-i-init c = simp (sub-zero, add-zero)
 
 pub returns-then-not-half_right : goal.returns-then-not-half_right
 returns-then-not-half_right c =
@@ -19,20 +18,20 @@ returns-then-not-half_right c =
     let i = c.loop-i.i in
     let s = a.s.now in
     let e : (2 * a.at + i) / 2 ≡ a.at + i / 2 = omega arith in
+    let held = ap (λ (n : HalfOctets). n.0) c.of-end.ensures in
     sym
-    (c.loop-i.invariant.2 ∙ halves_turn _ _ i _ (halves s) (omega (arith, length-halves s))
+    (c.loop-i.invariant ∙ halves_turn _ _ i _ (halves s) (omega (arith, length-halves s, held))
     ∙ rw (← c.half_at-h.ensures, ← c.half_right.ensures, c.if-not-half_right.true, e))
 
 pub loop-i-preserved : goal.loop-i-preserved
 loop-i-preserved c =
-    let s = c.args.s.now in (
-      omega arith,
-      c.loop-i.invariant.1,
-      c.loop-i.invariant.2 ∙ halves_turn _ _ c.loop-i.i _ (halves s) (omega (arith, length-halves s))
-          ∙ rw (← c.half_at-h.ensures, ← c.half_right.ensures, c.if-not-half_right.false, add_assoc),
-    )
+    let s = c.args.s.now in
+    let held = ap (λ (n : HalfOctets). n.0) c.of-end.ensures in
+    c.loop-i.invariant ∙ halves_turn _ _ c.loop-i.i _ (halves s) (omega (arith, length-halves s, held))
+    ∙ rw (← c.half_at-h.ensures, ← c.half_right.ensures, c.if-not-half_right.false, add_assoc)
 
 pub returns : goal.returns
 returns c =
     let s = c.args.s.now in
-    sym (c.loop-i.invariant.2 ∙ halves_end _ _ c.loop-i.i _ (halves s) (omega (arith, length-halves s)))
+    let held = ap (λ (n : HalfOctets). n.0) c.of-end.ensures in
+    sym (c.loop-i.invariant ∙ halves_end _ _ c.loop-i.i _ (halves s) (omega (arith, length-halves s, held)))

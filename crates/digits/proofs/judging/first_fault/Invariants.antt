@@ -1,14 +1,10 @@
 -- `first_fault` meets its contract. The invariant: the fault of all the halves is that of the halves from i on.
-use Prim.Native.Nat.{◌+◌, ◌-◌, ◌*◌, ◌≤◌}
+use Prim.Native.Nat.{◌+◌, ◌-◌, ◌*◌}
 use mathlib.Core.Path.{◌≡◌}
 use lib.ListN.{drop}
-use Rattle.annex.specs.Units.{halves_in}
 use Rattle.annex.specs.Digits.{halves, halves_fault, digits_fault}
 use Rattle.digits.proofs.judging.first_fault.Given as goal
 
 abbrev pub invariant-loop-i : goal.invariant-loop-i
 invariant-loop-i l =
-    (l.i ≤ l.end) × (l.end ≡ (halves_in l.s).0) × (digits_fault l.z l.n l.at l.s ≡ halves_fault l.z (l.n.0 - l.i) (2 * l.at + l.i) (drop l.i (halves l.s)))
-
-abbrev pub decreases-loop-i : goal.decreases-loop-i
-decreases-loop-i l = l.end - l.i
+    digits_fault l.z l.n l.at l.s ≡ halves_fault l.z (l.n.0 - l.i) (2 * l.at + l.i) (drop l.i (halves l.s))

@@ -1,8 +1,7 @@
 -- `pack_fitting` meets its contract: before each turn the octets of the first 2 i digits stand at the front of the room; an odd last digit
 -- follows at the end.
-use Prim.Native.Nat.{◌-◌, ◌≤◌}
 use mathlib.Core.Path.{◌≡◌}
-use lib.ListN.{length, take}
+use lib.ListN.{take}
 use lib.Seq.{sets}
 use Rattle.annex.specs.Digits.{packed}
 use Rattle.annex.specs.Memory.{low_octets}
@@ -10,7 +9,4 @@ use Rattle.digits.proofs.packing.pack_fitting.Given as goal
 
 abbrev pub invariant-loop-i : goal.invariant-loop-i
 invariant-loop-i l =
-    (l.i ≤ l.n) × (length l.room ≡ length l.initial.room) × (l.room ≡ sets l.initial.room 0 (take l.i (low_octets (packed l.z l.digits))))
-
-abbrev pub decreases-loop-i : goal.decreases-loop-i
-decreases-loop-i l = l.n - l.i
+    l.room ≡ sets l.initial.room 0 (take l.i (low_octets (packed l.z l.digits)))

@@ -21,14 +21,14 @@ returns-in_default c =
       c.in_default.is,
     )
 
-pub returns-in-Nowhere : goal.returns-in-Nowhere
-returns-in-Nowhere c =
+pub returns-in-None : goal.returns-in-None
+returns-in-None c =
     rw (
       c.in-Appending.is,
       ← c.octet_at-name.ensures,
       ← c.often_of.ensures,
       ← c.search_by_length-in-Appending.ensures,
-      c.in-Nowhere.is,
+      c.in-None.is,
     )
 
 pub returns-in-Removing : goal.returns-in-Removing

@@ -1,18 +1,8 @@
--- `next` meets its contract.
-use borrow.Author.Tests.{lt-ltb, le-ltb}
+-- `next` meets its contract: what an entry holds ends where the next of its level starts.
+use borrow.Author.Tests.{lt-ltb}
 use Rattle.annex.specs.Entering.{entry_next}
 use Rattle.entries.proofs.cursor.next.Goals as goal
 
-pub returns-in_default : goal.returns-in_default
+pub returns-in-Some : goal.returns-in-Some
 unfolding entry_next
-returns-in_default c = rw (← c.inside.ensures, c.in_default.is)
-
-pub returns-then-c : goal.returns-then-c
-unfolding entry_next
-returns-then-c c =
-    rw (← c.inside.ensures, c.in-At.is, lt-ltb _ _ c.if-c.true)
-
-pub returns : goal.returns
-unfolding entry_next
-returns c =
-    rw (← c.inside.ensures, c.in-At.is, le-ltb _ _ c.if-c.false)
+returns-in-Some c = rw (← c.inside.ensures, c.in-Some.is, lt-ltb _ _ c.if-c.true)

@@ -3,4 +3,4 @@ use Rattle.laws.specs.Filling.{empty_packed}
 use Rattle.from_image.proofs.Filled.none.Goals as goal
 
 pub returns : goal.returns
-returns c = rw (c.empty-none.ensures, ← empty_packed)
+returns c = rw (c.empty.ensures, ← empty_packed)

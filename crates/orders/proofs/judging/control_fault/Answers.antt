@@ -3,29 +3,11 @@
 use native.Mathlib.Omega.{arith}
 use mathlib.Core.Path.{◌≡◌, ap, ◌∙◌}
 use Prim.Native.Nat.{◌+◌}
-use borrow.Author.Tests.{lt-leb, le-leb}
-use lib.ListN.{length, drop, length-drop}
+use borrow.Author.Tests.{le-leb}
+use lib.ListN.{length, drop}
 use lib.Seq.{drop-drop}
 use Rattle.annex.specs.Orders.{control_fault}
 use Rattle.orders.proofs.judging.control_fault.Goals as goal
-
-pub returns-then-own-le-REPEATED_HEAD : goal.returns-then-own-le-REPEATED_HEAD
-unfolding control_fault
-returns-then-own-le-REPEATED_HEAD c =
-    let o = c.octets_from-own in
-    rw (← o.ensures, lt-leb 3 (length o.result.now) (omega (arith, c.if-own-le-REPEATED_HEAD.true)))
-
-pub returns-then-own-gt-MOST_REPEATS : goal.returns-then-own-gt-MOST_REPEATS
-unfolding control_fault
-returns-then-own-gt-MOST_REPEATS c =
-    let o = c.octets_from-own in
-    rw (← o.ensures, le-leb 3 (length o.result.now) (omega (arith, c.if-own-le-REPEATED_HEAD.false)), lt-leb _ _ c.if-own-gt-MOST_REPEATS.true)
-
--- three octets are there, so the place behind two is one of the slice
-pub overflow_add-at : goal.overflow_add-at
-overflow_add-at c =
-    let a = c.args in
-    record { fits = omega (arith, c.if-own-le-REPEATED_HEAD.false, ap length c.octets_from-own.ensures, length-drop a.at a.s.now) }
 
 pub returns : goal.returns
 unfolding control_fault

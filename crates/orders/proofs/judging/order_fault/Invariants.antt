@@ -5,8 +5,8 @@ use lib.ListN.{length}
 use Rattle.orders.specs.Walked.{Going}
 use Rattle.orders.proofs.judging.order_fault.Given as goal
 
-abbrev pub invariant-loop-at : goal.invariant-loop-at
-invariant-loop-at l = Going l.s l.seen l.at
+abbrev pub invariant-loop-header : goal.invariant-loop-header
+invariant-loop-header l = Going l.s l.seen l.at
 
-abbrev pub decreases-loop-at : goal.decreases-loop-at
-decreases-loop-at l = length l.s - l.at
+abbrev pub decreases-loop-header : goal.decreases-loop-header
+decreases-loop-header l = length l.s - l.at

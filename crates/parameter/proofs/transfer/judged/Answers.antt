@@ -7,13 +7,11 @@ use mathlib.Core.List.{List}
 use borrow.Author.Tests.{not-true, not-false, lt-ltb, le-ltb, lt-leb, le-leb}
 use lib.Dec.{ltb}
 use lib.ListN.{length, take, drop, get_or, length-take, length-drop}
-use Rattle.annex.specs.Answers.{offset_of, refuse, sound_then, reading_at, cut_contents}
+use Rattle.annex.specs.Answers.{offset_of, refuse, sound_then, reading_at, cut_contents, Accepted, Fault}
 use Rattle.annex.specs.Units.{lead_of, extent_of, contents_in, name_of, after_of}
 use Rattle.annex.specs.Heads.{pli_right, often_of}
 use Rattle.annex.specs.Contents.{fault_of}
 use Rattle.annex.specs.Reading.{transfer_of, transfer_by}
-use Rattle.annex.specs.declared.Answer.TheVariants.{Accepted}
-use Rattle.annex.specs.declared.Fault.{Fault}
 use Rattle.laws.specs.Extents.{lead_one, lead_within}
 use Rattle.laws.specs.Offsets.{fault_within, offset_within}
 use Rattle.laws.specs.Parts.{from_to}
@@ -32,11 +30,11 @@ unfolding transfer_by
 returns-then-not-asked c =
     rw c.head_number.ensures (sym (wrong_head 0 _ _ (sym c.requires.0 ∙ not-true _ c.if-not-asked.true)))
 
-pub returns-then-most-times : goal.returns-then-most-times
+pub returns-then-often_of-times : goal.returns-then-often_of-times
 unfolding transfer_by
-returns-then-most-times c =
+returns-then-often_of-times c =
     let right : pli_right c.args.header ≡ true = sym c.requires.0 ∙ not-false _ c.if-not-asked.false in
-    sym (right_head 0 _ _ right ∙ rw (← c.often_of-most.ensures, le-leb _ _ c.if-most-times.true))
+    sym (right_head 0 _ _ right ∙ rw (← c.often_of.ensures, le-leb _ _ c.if-often_of-times.true))
 
 -- past 10: what is left is 11 and the contents
 past_10 : (times header most n : ℕ) (xs : List ℕ) → pli_right header ≡ true → most ≡ often_of (name_of header) → times < most
@@ -49,16 +47,16 @@ unfolding transfer_by
 past_10 times header most n xs right often few after =
     right_head 0 _ _ right ∙ rw (← often, lt-leb _ _ few, ← after)
 
-pub returns-then-xs-n : goal.returns-then-xs-n
-returns-then-xs-n c =
+pub returns-then-xs-after : goal.returns-then-xs-after
+returns-then-xs-after c =
     let a = c.args in
     let right : pli_right a.header ≡ true = sym c.requires.0 ∙ not-false _ c.if-not-asked.false in
-    let past = past_10 a.times a.header c.often_of-most.result c.after_header-after.result.octets a.xs.now right c.often_of-most.ensures c.if-most-times.false (rw c.octet_at.ensures at c.after_header-after.ensures.0) in
-    rw (past, lt-ltb _ _ c.if-xs-n.true)
+    let past = past_10 a.times a.header c.often_of.result c.after_header-after.result.octets a.xs.now right c.often_of.ensures c.if-often_of-times.false (rw c.octet_at.ensures at c.after_header-after.ensures.0) in
+    rw (past, lt-ltb _ _ c.if-xs-after.true)
 
--- where the contents start, and an octet of them, lie within the octets after the header
-pub overflow_add-start : goal.overflow_add-start
-overflow_add-start c = omega (arith, c.after_header-after.ensures.1, lead_one (extent_of c.args.header))
+-- where the contents start lies within the octets after the header
+pub overflow_add-after : goal.overflow_add-after
+overflow_add-after c = omega (arith, c.after_header-after.ensures.1, lead_one (extent_of c.args.header))
 
 -- past 11: the part handed on is the contents
 pub at_octet-requires : goal.at_octet-requires
@@ -81,8 +79,8 @@ returns c =
     let part : List ℕ = take (h.result.octets - h.result.lead) (drop h.result.lead xs) in
     let wrong : c.fault_under-f.result ≡ fault_of a.header part = c.fault_under-f.ensures ∙ fault_of_lem a.header a.asked c.requires part in
     let right : pli_right a.header ≡ true = sym c.requires.0 ∙ not-false _ c.if-not-asked.false in
-    let past = past_10 a.times a.header c.often_of-most.result h.result.octets xs right c.often_of-most.ensures c.if-most-times.false (rw c.octet_at.ensures at h.ensures.0) in
-    rw (past, le-ltb _ _ c.if-xs-n.false, ← h.ensures.1, ← from_to, ← wrong) c.at_octet.ensures
+    let past = past_10 a.times a.header c.often_of.result h.result.octets xs right c.often_of.ensures c.if-often_of-times.false (rw c.octet_at.ensures at h.ensures.0) in
+    rw (past, le-ltb _ _ c.if-xs-after.false, ← h.ensures.1, ← from_to, ← wrong) c.at_octet.ensures
 
 pub slice_bounds-fault_under-start : goal.slice_bounds-fault_under-start
 slice_bounds-fault_under-start c =

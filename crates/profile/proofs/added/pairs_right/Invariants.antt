@@ -1,12 +1,11 @@
--- `pairs_right` meets its contract: the pairs are right exactly if those from here on are.
-use Prim.Native.Nat.{◌-◌, ◌≤◌}
+-- `pairs_right` meets its contract: the pairs are right exactly if those that are left are.
 use mathlib.Core.Path.{◌≡◌}
-use lib.ListN.{length, drop}
+use lib.ListN.{length}
 use Rattle.annex.specs.Profile.{pairs_right}
 use Rattle.profile.proofs.added.pairs_right.Given as goal
 
-abbrev pub invariant-loop-i : goal.invariant-loop-i
-invariant-loop-i l = (l.i ≤ length l.s) × (pairs_right l.s ≡ pairs_right (drop l.i l.s))
+abbrev pub invariant-loop-rest : goal.invariant-loop-rest
+invariant-loop-rest l = pairs_right l.s ≡ pairs_right l.rest
 
-abbrev pub decreases-loop-i : goal.decreases-loop-i
-decreases-loop-i l = length l.s - l.i
+abbrev pub decreases-loop-rest : goal.decreases-loop-rest
+decreases-loop-rest l = length l.rest

@@ -4,23 +4,25 @@ use native.Mathlib.Omega.{arith}
 use mathlib.Core.Path.{sym, ap, ◌∙◌}
 use mathlib.Core.List.{List, ◌++◌}
 use lib.ListN.{length, drop}
-use Rattle.annex.specs.declared.Answer.TheVariants.{Accepted}
+use Rattle.annex.specs.Answers.{Accepted}
+use Rattle.laws.specs.Passed.{passed_on}
 use Rattle.laws.specs.Written.{octets_every}
 use Rattle.profile.specs.Answering.{copied_short, copied_whole}
 use Rattle.profile.specs.Telling.{classes_passed, classes_absent, classes_short, classes_done}
 use Rattle.profile.proofs.images.added_classes.Goals as goal
 
-pub returns-in_default : goal.returns-in_default
-returns-in_default c =
+pub returns-in_err-profile_verdict : goal.returns-in_err-profile_verdict
+returns-in_err-profile_verdict c =
     let a = c.args in
-    let e = c.in_default.is in
-    rw e (classes_passed a.m.now _ _ (sym c.profile_verdict-a.ensures ∙ e) a.out.now)
+    let r = c.in_err-profile_verdict.field-0.0 in
+    let w = classes_passed a.m.now r.0 r.1 (sym c.profile_verdict.ensures ∙ c.in_err-profile_verdict.was) a.out.now in
+    (passed_on c.from_residual.result r c.from_residual.ensures.1 ∙ w.0, w.1)
 
 pub returns-then-not-stands : goal.returns-then-not-stands
 returns-then-not-stands c =
     let m = c.args.m.now in
     let octets = octets_every m (λ j. omega (arith, c.type_inv.m j)) in
-    let taken = sym c.profile_verdict-a.ensures ∙ c.in-Accepted.is in
+    let taken = sym c.profile_verdict.ensures ∙ c.in_ok-profile_verdict.was in
     classes_absent m octets _ taken c.args.out.now (sym c.stands.ensures ∙ c.if-not-stands.true)
 
 pub returns-then-not-copy_in : goal.returns-then-not-copy_in
@@ -28,7 +30,7 @@ returns-then-not-copy_in c =
     let m = c.args.m.now in
     let out = c.args.out.now in
     let octets = octets_every m (λ j. omega (arith, c.type_inv.m j)) in
-    let taken = sym c.profile_verdict-a.ensures ∙ c.in-Accepted.is in
+    let taken = sym c.profile_verdict.ensures ∙ c.in_ok-profile_verdict.was in
     let stands = sym c.stands.ensures ∙ c.if-not-stands.false in
     let pairs = c.contents-pairs.ensures in
     let t = copied_short c.contents-pairs.result.now out _ _ c.copy_in.ensures c.if-not-copy_in.true in
@@ -40,7 +42,7 @@ returns c =
     let m = c.args.m.now in
     let out = c.args.out.now in
     let octets = octets_every m (λ j. omega (arith, c.type_inv.m j)) in
-    let taken = sym c.profile_verdict-a.ensures ∙ c.in-Accepted.is in
+    let taken = sym c.profile_verdict.ensures ∙ c.in_ok-profile_verdict.was in
     let stands = sym c.stands.ensures ∙ c.if-not-stands.false in
     let pairs = c.contents-pairs.ensures in
     let t = copied_whole c.contents-pairs.result.now out _ _ c.copy_in.ensures c.if-not-copy_in.false in

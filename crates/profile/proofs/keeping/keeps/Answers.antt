@@ -1,78 +1,97 @@
 -- `keeps` meets its contract: the rules are asked one after the other, of what was found.
-use Prim.Native.Nat.{ℕ}
-use mathlib.Core.Path.{◌≡◌, sym, ap, ◌∙◌}
-use mathlib.Core.Bool.{Bool, true, cond, ◌||◌}
-use mathlib.Core.List.{List}
+use Rattle.std.specs.Prelude.{ℕ, ◌≡◌, Bool, true, false, cond, ◌||◌, ◌&&◌, eqb, List, get_or}
+use mathlib.Core.Path.{refl, sym, ap, ◌∙◌}
 use borrow.Author.Tests.{eq-eqb, ne_eqb}
-use lib.Dec.{eqb}
-use lib.ListN.{get_or}
 use Rattle.annex.specs.Profile.{pairs_right, data_enquiry, phs, mobile, originating_region, added_class}
 use Rattle.theorems.specs.Places.{is_found}
-use Rattle.profile.specs.Keeping.{headed, kind_in, network_in, keeps_plain}
+use Rattle.profile.specs.Keeping.{headed, contents_under, kind_in, network_in, keeps_plain}
+use Rattle.profile.proofs.keeping.keeps.Goals.{
+  then-signal_kind-eq-DATA_ENQUIRY,
+  else-signal_kind-eq-DATA_ENQUIRY,
+  then-is_network,
+  else-is_network,
+  then-stands,
+  else-stands,
+}
 use Rattle.profile.proofs.keeping.keeps.Goals as goal
 
-pub returns-then-signal_kind-ne-DATA_ENQUIRY : goal.returns-then-signal_kind-ne-DATA_ENQUIRY
-unfolding keeps_plain
-returns-then-signal_kind-ne-DATA_ENQUIRY c = rw (← c.signal_kind.ensures, ne_eqb _ data_enquiry c.if-signal_kind-ne-DATA_ENQUIRY.true)
+-- four rules, tested from the left, and the last one
+all_kept : (a b c d e : Bool) → ((a && b) && c) && d ≡ true → e ≡ a && (b && (c && (d && e)))
+all_kept true true true true e h = refl
+all_kept true true true false e h = absurd cc
+all_kept true true false d e h = absurd cc
+all_kept true false c d e h = absurd cc
+all_kept false b c d e h = absurd cc
 
-pub returns-then-not-is_network : goal.returns-then-not-is_network
-unfolding keeps_plain
-returns-then-not-is_network c =
-    let m = c.args.m.now in
-    let enquiry : eqb (kind_in m) data_enquiry ≡ true =
-    rw (← c.signal_kind.ensures) (eq-eqb _ data_enquiry c.if-signal_kind-ne-DATA_ENQUIRY.false) in
-    let network : c.octet_at-network.result ≡ network_in m =
-    c.octet_at-network.ensures ∙ ap (λ (s : List ℕ). get_or s 0 0) c.contents.ensures in
-    let told : c.is_network.result ≡ eqb (network_in m) phs || eqb (network_in m) mobile =
-    c.is_network.ensures ∙ ap (λ (x : ℕ). eqb x phs || eqb x mobile) network in
-    rw (enquiry, ← told, c.if-not-is_network.true)
+one_broken : (a b c d e : Bool) → ((a && b) && c) && d ≡ false → false ≡ a && (b && (c && (d && e)))
+one_broken true true true true e h = absurd cc
+one_broken true true true false e h = refl
+one_broken true true false d e h = refl
+one_broken true false c d e h = refl
+one_broken false b c d e h = refl
 
-pub returns-then-not-stands : goal.returns-then-not-stands
-unfolding keeps_plain
-returns-then-not-stands c =
-    let m = c.args.m.now in
-    let enquiry : eqb (kind_in m) data_enquiry ≡ true =
-    rw (← c.signal_kind.ensures) (eq-eqb _ data_enquiry c.if-signal_kind-ne-DATA_ENQUIRY.false) in
-    let network : c.octet_at-network.result ≡ network_in m =
-    c.octet_at-network.ensures ∙ ap (λ (s : List ℕ). get_or s 0 0) c.contents.ensures in
-    let told : c.is_network.result ≡ eqb (network_in m) phs || eqb (network_in m) mobile =
-    c.is_network.ensures ∙ ap (λ (x : ℕ). eqb x phs || eqb x mobile) network in
-    let meant : eqb (network_in m) phs || eqb (network_in m) mobile ≡ true = sym told ∙ c.if-not-is_network.false in
-    rw (enquiry, meant, ← c.stands.ensures, c.if-not-stands.true)
+-- what the code found of each is what the rule says
+network_is : (m : List ℕ) (n : ℕ) (s : List ℕ) → n ≡ get_or s 0 0 → s ≡ contents_under 0x7E m → n ≡ network_in m
+network_is m n s e f = e ∙ ap (λ (t : List ℕ). get_or t 0 0) f
 
-pub returns-then-not-is_enough : goal.returns-then-not-is_enough
-unfolding keeps_plain
-returns-then-not-is_enough c =
-    let m = c.args.m.now in
-    let enquiry : eqb (kind_in m) data_enquiry ≡ true =
-    rw (← c.signal_kind.ensures) (eq-eqb _ data_enquiry c.if-signal_kind-ne-DATA_ENQUIRY.false) in
-    let network : c.octet_at-network.result ≡ network_in m =
-    c.octet_at-network.ensures ∙ ap (λ (s : List ℕ). get_or s 0 0) c.contents.ensures in
-    let told : c.is_network.result ≡ eqb (network_in m) phs || eqb (network_in m) mobile =
-    c.is_network.ensures ∙ ap (λ (x : ℕ). eqb x phs || eqb x mobile) network in
-    let meant : eqb (network_in m) phs || eqb (network_in m) mobile ≡ true = sym told ∙ c.if-not-is_network.false in
-    let there : is_found (headed originating_region m) ≡ true = sym c.stands.ensures ∙ c.if-not-stands.false in
-    let enough : c.is_enough.result ≡ cond (eqb (network_in m) mobile) (is_found (headed added_class m)) true =
-    c.is_enough.ensures
-    ∙ ap (λ (x : ℕ). cond (eqb x mobile) c.stands-2.result true) network
-    ∙ ap (λ (b : Bool). cond (eqb (network_in m) mobile) b true) c.stands-2.ensures in
-    rw (enquiry, meant, there, ← enough, c.if-not-is_enough.true)
+enough_is : (m : List ℕ) (n : ℕ) (b : Bool) → n ≡ network_in m → b ≡ is_found (headed added_class m)
+    → cond (eqb n mobile) b true ≡ cond (eqb (network_in m) mobile) (is_found (headed added_class m)) true
+enough_is m n b e f = rw (e, f)
 
-pub returns : goal.returns
+pub returns-then-is_enough : goal.returns-then-is_enough
 unfolding keeps_plain
-returns c =
+returns-then-is_enough c =
     let m = c.args.m.now in
-    let enquiry : eqb (kind_in m) data_enquiry ≡ true =
-    rw (← c.signal_kind.ensures) (eq-eqb _ data_enquiry c.if-signal_kind-ne-DATA_ENQUIRY.false) in
-    let network : c.octet_at-network.result ≡ network_in m =
-    c.octet_at-network.ensures ∙ ap (λ (s : List ℕ). get_or s 0 0) c.contents.ensures in
-    let told : c.is_network.result ≡ eqb (network_in m) phs || eqb (network_in m) mobile =
-    c.is_network.ensures ∙ ap (λ (x : ℕ). eqb x phs || eqb x mobile) network in
-    let meant : eqb (network_in m) phs || eqb (network_in m) mobile ≡ true = sym told ∙ c.if-not-is_network.false in
-    let there : is_found (headed originating_region m) ≡ true = sym c.stands.ensures ∙ c.if-not-stands.false in
-    let enough : c.is_enough.result ≡ cond (eqb (network_in m) mobile) (is_found (headed added_class m)) true =
-    c.is_enough.ensures
-    ∙ ap (λ (x : ℕ). cond (eqb x mobile) c.stands-2.result true) network
-    ∙ ap (λ (b : Bool). cond (eqb (network_in m) mobile) b true) c.stands-2.ensures in
-    c.pairs_right.ensures ∙ ap pairs_right c.contents-2.ensures
-    ∙ rw (enquiry, meant, there, ← enough, c.if-not-is_enough.false)
+    let n = network_is m _ _ c.octet_at-network.ensures c.contents.ensures in
+    let a = eqb (kind_in m) data_enquiry in
+    let b = eqb (network_in m) phs || eqb (network_in m) mobile in
+    let r = is_found (headed originating_region m) in
+    let d = cond (eqb (network_in m) mobile) (is_found (headed added_class m)) true in
+    let v1 : c.if-signal_kind-eq-DATA_ENQUIRY.value ≡ a && b =
+    elim c.if-signal_kind-eq-DATA_ENQUIRY.branch [
+      | then-signal_kind-eq-DATA_ENQUIRY w ↦
+          w.value-is ∙ w.is_network.ensures ∙ ap (λ (x : ℕ). eqb x phs || eqb x mobile) n
+          ∙ rw (← c.signal_kind.ensures, eq-eqb _ data_enquiry w.if-signal_kind-eq-DATA_ENQUIRY.true)
+      | else-signal_kind-eq-DATA_ENQUIRY w ↦ w.value-is ∙ rw (← c.signal_kind.ensures, ne_eqb _ data_enquiry w.if-signal_kind-eq-DATA_ENQUIRY.false)
+    ] in
+    let v2 : c.if-is_network.value ≡ (a && b) && r =
+    elim c.if-is_network.branch [
+      | then-is_network w ↦ w.value-is ∙ w.stands.ensures ∙ rw (← v1, w.if-is_network.true)
+      | else-is_network w ↦ w.value-is ∙ rw (← v1, w.if-is_network.false)
+    ] in
+    let v3 : c.if-stands.value ≡ ((a && b) && r) && d =
+    elim c.if-stands.branch [
+      | then-stands w ↦
+          w.value-is ∙ w.is_enough.ensures ∙ enough_is m _ _ n w.stands-then-stands.ensures ∙ rw (← v2, w.if-stands.true)
+      | else-stands w ↦ w.value-is ∙ rw (← v2, w.if-stands.false)
+    ] in
+    c.pairs_right.ensures ∙ ap pairs_right c.contents-then-is_enough.ensures ∙ all_kept a b r d _ (sym v3 ∙ c.if-is_enough.true)
+
+pub returns-else-is_enough : goal.returns-else-is_enough
+unfolding keeps_plain
+returns-else-is_enough c =
+    let m = c.args.m.now in
+    let n = network_is m _ _ c.octet_at-network.ensures c.contents.ensures in
+    let a = eqb (kind_in m) data_enquiry in
+    let b = eqb (network_in m) phs || eqb (network_in m) mobile in
+    let r = is_found (headed originating_region m) in
+    let d = cond (eqb (network_in m) mobile) (is_found (headed added_class m)) true in
+    let v1 : c.if-signal_kind-eq-DATA_ENQUIRY.value ≡ a && b =
+    elim c.if-signal_kind-eq-DATA_ENQUIRY.branch [
+      | then-signal_kind-eq-DATA_ENQUIRY w ↦
+          w.value-is ∙ w.is_network.ensures ∙ ap (λ (x : ℕ). eqb x phs || eqb x mobile) n
+          ∙ rw (← c.signal_kind.ensures, eq-eqb _ data_enquiry w.if-signal_kind-eq-DATA_ENQUIRY.true)
+      | else-signal_kind-eq-DATA_ENQUIRY w ↦ w.value-is ∙ rw (← c.signal_kind.ensures, ne_eqb _ data_enquiry w.if-signal_kind-eq-DATA_ENQUIRY.false)
+    ] in
+    let v2 : c.if-is_network.value ≡ (a && b) && r =
+    elim c.if-is_network.branch [
+      | then-is_network w ↦ w.value-is ∙ w.stands.ensures ∙ rw (← v1, w.if-is_network.true)
+      | else-is_network w ↦ w.value-is ∙ rw (← v1, w.if-is_network.false)
+    ] in
+    let v3 : c.if-stands.value ≡ ((a && b) && r) && d =
+    elim c.if-stands.branch [
+      | then-stands w ↦
+          w.value-is ∙ w.is_enough.ensures ∙ enough_is m _ _ n w.stands-then-stands.ensures ∙ rw (← v2, w.if-stands.true)
+      | else-stands w ↦ w.value-is ∙ rw (← v2, w.if-stands.false)
+    ] in
+    c.if-is_enough.false ∙ one_broken a b r d _ (sym v3 ∙ c.if-is_enough.false)

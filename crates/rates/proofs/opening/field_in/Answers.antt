@@ -1,6 +1,7 @@
 -- `field_in` meets its contract: the array says where the field starts, and its row how it is drawn from there on.
 use Rattle.std.specs.Prelude.{ℕ, List}
 use native.Mathlib.Omega.{arith}
+use Rattle.std.proofs.Common.{inl, inr}
 use mathlib.Core.Path.{◌≡◌, sym, ap, ◌∙◌}
 use lib.ListN.{get_or, drop, replicate}
 use Rattle.annex.specs.Rates.{field_row, drawn_as, width_of, numbers_in, numbers_drawn, kind_in, decimal, field_in}
@@ -40,8 +41,8 @@ alone f s xs d start e h o a n =
     let w : width_of f ≡ 1 = width_by_lem f ∙ (ap (λ x. width_by x (width_of f)) (sym a) ∙ n (width_of f)) in
     sym (drawn_so f s xs d start e h o a ∙ (ap (λ k. decimal 0 (numbers_drawn (replicate k d) xs)) w ∙ one_octet d xs))
 
-pub bounds-starts-place : goal.bounds-starts-place
-bounds-starts-place c =
+pub bounds-starts-asked : goal.bounds-starts-asked
+bounds-starts-asked c =
     omega (arith, c.row_of-asked.ensures.0, place_below c.args.f)
 
 pub returns-then-start-eq0 : goal.returns-then-start-eq0
@@ -77,16 +78,8 @@ returns-in-Halves c =
     c.number_in.ensures
     ∙ (ap (λ x. decimal 0 (numbers_in d x)) c.octet_at-in-Halves.ensures
     ∙ alone a.f a.s.now c.octets_from-octets.result.now d _ start c.if-start-eq0.false c.octets_from-octets.ensures c.row_of-asked.ensures.1
-    (λ w. ap (λ x. width_by x w) c.in-Halves.is))
-
-pub returns-in-Whole : goal.returns-in-Whole
-returns-in-Whole c =
-    let a = c.args in
-    let d = c.row_of-asked.result.drawn in
-    let start =
-    start_is a.f (kind_in a.s.now) c.row_of-asked.result.place c.starts_of-starts.result
-    (c.starts_of-starts.ensures ∙ ap starts_of c.octet_at.ensures) c.row_of-asked.ensures.0 in
-    c.number_in-in-Whole.ensures
-    ∙ (ap (λ x. decimal 0 (numbers_in d x)) c.octet_at-in-Whole.ensures
-    ∙ alone a.f a.s.now c.octets_from-octets.result.now d _ start c.if-start-eq0.false c.octets_from-octets.ensures c.row_of-asked.ensures.1
-    (λ w. ap (λ x. width_by x w) c.in-Whole.is))
+    (λ w.
+    elim c.in-Halves.is [
+      | inl e ↦ ap (λ x. width_by x w) e
+      | inr e ↦ ap (λ x. width_by x w) e
+    ]))

@@ -13,34 +13,6 @@ use Rattle.rates.proofs.opening.starts_of.Goals as goal
 abbrev keys : List (List ℕ)
 keys = (10 ∷ []) ∷ (9 ∷ []) ∷ (8 ∷ []) ∷ (5 ∷ []) ∷ (4 ∷ []) ∷ (3 ∷ []) ∷ (1 ∷ []) ∷ []
 
-pub returns-in-1 : goal.returns-in-1
-unfolding fields_of
-returns-in-1 c = rw c.in-1.is
-
-pub returns-in-3 : goal.returns-in-3
-unfolding fields_of
-returns-in-3 c = rw c.in-3.is
-
-pub returns-in-4 : goal.returns-in-4
-unfolding fields_of
-returns-in-4 c = rw c.in-4.is
-
-pub returns-in-5 : goal.returns-in-5
-unfolding fields_of
-returns-in-5 c = rw c.in-5.is
-
-pub returns-in-8 : goal.returns-in-8
-unfolding fields_of
-returns-in-8 c = rw c.in-8.is
-
-pub returns-in-9 : goal.returns-in-9
-unfolding fields_of
-returns-in-9 c = rw c.in-9.is
-
-pub returns-in-10 : goal.returns-in-10
-unfolding fields_of
-returns-in-10 c = rw c.in-10.is
-
 pub returns-in_default : goal.returns-in_default
 unfolding fields_of
 returns-in_default c = at_rest (replicate 11 0) starts_of keys 256 refl c.args.kind c.in_default.in_default-own.rest (omega arith)

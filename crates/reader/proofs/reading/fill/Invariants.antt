@@ -6,7 +6,7 @@ use Rattle.reader.proofs.Turns.{Filling}
 use Rattle.reader.proofs.reading.fill.Given as goal
 
 abbrev pub invariant-loop-start : goal.invariant-loop-start
-invariant-loop-start l = Filling l.m l.q l.transfers l.used l.i
+invariant-loop-start l = Filling l.m l.filled l.i
 
 abbrev pub decreases-loop-start : goal.decreases-loop-start
 decreases-loop-start l = length l.m - l.i

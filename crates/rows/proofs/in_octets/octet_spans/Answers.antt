@@ -1,44 +1,28 @@
 -- `octet_spans` meets its contract: what is refused leaves the table, and else its rows are put, and where they end tells their count.
-use Prim.Native.Nat.{◌/◌}
-use mathlib.Core.Path.{◌≡◌, sym, ap, ◌∙◌}
-use lib.ListN.{length}
-use Rattle.annex.specs.Packed.{octets_to_a_row, octet_spans, octet_table}
-use Rattle.annex.specs.Reading.{verdict_of}
-use Rattle.annex.specs.Spans.{rows_of, spans_by}
-use Rattle.annex.specs.declared.Answer.TheVariants.{Accepted}
-use Rattle.rows.specs.Tables.{put_count, Roomy, listing, listing_fits, table_put, table_kept}
+use Rattle.std.proofs.Common.{refl, sym, ap, ◌∙◌}
+use Rattle.annex.specs.Answers.{Accepted}
+use Rattle.annex.specs.Packed.{octet_table}
+use Rattle.laws.specs.Passed.{passed_on}
+use Rattle.rows.specs.Tables.{put_count, put_fits, spans_given, table_put, table_kept}
 use Rattle.rows.proofs.in_octets.octet_spans.Goals as goal
 
-pub returns-in_default : goal.returns-in_default
+pub returns-in_err-refusal : goal.returns-in_err-refusal
 unfolding octet_table
-returns-in_default c =
-    let a = c.args in
-    let t = c.in_default.is in
-    let e = rw t at c.refusal-a.ensures in
-    (t ∙ sym e, table_kept _ _ a.table.now _ _ e)
+returns-in_err-refusal c =
+    let r = c.in_err-refusal.field-0.0 in
+    let told = rw c.in_err-refusal.was at c.refusal.ensures in
+    (passed_on c.from_residual.result r c.from_residual.ensures.1 ∙ sym told, table_kept _ _ c.args.table.now r.0 r.1 told)
 
-pub put_rows-end-requires : goal.put_rows-end-requires
-unfolding spans_by
-put_rows-end-requires c =
-    let counted : (let a = c.args in
-    octet_spans a.m.now (length a.table.now) ≡ Accepted (length (rows_of a.m.now))) =
-    rw c.in-Accepted.is at c.refusal-a.ensures in
-    let roomy : (let a = c.args in
-    let rows = rows_of a.m.now in
-    Roomy (verdict_of a.m.now) rows (length a.table.now / octets_to_a_row) (length rows)) =
-    listing _ _ _ _ (counted) in
-    let l = roomy in
-    (l.accepts, listing_fits c.args.table.now l)
+pub put_rows-requires : goal.put_rows-requires
+put_rows-requires c =
+    let told = rw c.in_ok-refusal.was at c.refusal.ensures in
+    let g = spans_given c.args.m.now _ _ _ refl told in
+    (g.stands, put_fits c.args.table.now g)
 
 pub returns : goal.returns
-unfolding octet_table spans_by
+unfolding octet_table
 returns c =
-    let counted : (let a = c.args in
-    octet_spans a.m.now (length a.table.now) ≡ Accepted (length (rows_of a.m.now))) =
-    rw c.in-Accepted.is at c.refusal-a.ensures in
-    let roomy : (let a = c.args in
-    let rows = rows_of a.m.now in
-    Roomy (verdict_of a.m.now) rows (length a.table.now / octets_to_a_row) (length rows)) =
-    listing _ _ _ _ (counted) in
-    let put = c.put_rows-end.ensures in
-    (ap Accepted (put_count _ _ _ _ put) ∙ sym (counted), rw (counted) (table_put _ (roomy) _ _ put))
+    let told = rw c.in_ok-refusal.was at c.refusal.ensures in
+    let g = spans_given c.args.m.now _ _ _ refl told in
+    let p = c.put_rows.ensures in
+    (ap Accepted (put_count c.args.table.now g _ _ p) ∙ sym told, rw told (table_put c.args.table.now g _ _ p))

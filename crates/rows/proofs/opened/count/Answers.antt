@@ -1,71 +1,48 @@
-use Prim.Native.Nat.{◌+◌, ◌≤◌}
-use native.Mathlib.Omega.{arith}
-use mathlib.Core.Path.{◌≡◌, sym, ap, ◌∙◌}
-use lib.ListN.{length, drop}
+use Rattle.std.proofs.Common.{ℕ, ◌+◌, ◌-◌, ◌≤◌, ◌≡◌, List, Option, Some, arith, sym, ap, ◌∙◌, eqb-true, length, take, drop}
+use Rattle.std.proofs.lemmas.Bool.{eqb-false}
+use Rattle.annex.specs.Ordering.{parameter_rows}
 use Rattle.laws.specs.Parts.{to_end}
-use Rattle.annex.specs.Ordering.{parameter_rows, taken_of}
-use Rattle.rows.specs.Orders.{rows_over, listing_none, listing_some, count_turn}
+use Rattle.rows.specs.Orders.{own_size, own_over, listing_none, listing_some, count_turn}
 use Rattle.rows.proofs.opened.count.Goals as goal
 
-pub returns-then-contents-eq0 : goal.returns-then-contents-eq0
-returns-then-contents-eq0 c = sym (ap length (listing_none 0 _ c.if-contents-eq0.true))
+pub returns-then-is_empty : goal.returns-then-is_empty
+returns-then-is_empty c =
+    let none = eqb-true (length c.args.contents.now) 0 (sym c.is_empty.ensures ∙ c.if-is_empty.true) in
+    sym (ap length (listing_none 0 _ none))
 
-pub loop-n-init : goal.loop-n-init
-loop-n-init c = (omega (arith, c.if-contents-eq0.false), omega arith, listing_some _ c.if-contents-eq0.false)
+pub loop-own-init : goal.loop-own-init
+loop-own-init c =
+    let some = eqb-false (length c.args.contents.now) 0 (sym c.is_empty.ensures ∙ c.if-is_empty.false) in
+    (omega (arith, some), omega arith, listing_some _ some)
 
-pub returns-then-k-eq0 : goal.returns-then-k-eq0
-returns-then-k-eq0 c =
-    let takes : c.taken-k.result ≡ taken_of (drop c.loop-n.i c.args.contents.now) =
-    rw (to_end c.loop-n.i c.args.contents.now) at c.taken-k.ensures in
-    let s = c.args.contents.now in
-    omega (arith, c.loop-n.invariant.2, ap length (rows_over c.loop-n.i (drop c.loop-n.i s) (sym (takes) ∙ c.if-k-eq0.true)))
-
-pub overflow_add-n : goal.overflow_add-n
-overflow_add-n c =
-    let takes : c.taken-k.result ≡ taken_of (drop c.loop-n.i c.args.contents.now) =
-    rw (to_end c.loop-n.i c.args.contents.now) at c.taken-k.ensures in
-    let turn : (let s = c.args.contents.now in
-    let k = c.loop-n.i + c.taken-k.result in
-    (k ≤ length s)
-    × (length (parameter_rows c.loop-n.i (drop c.loop-n.i s)) ≡ 1 + length (parameter_rows k (drop k s)))) =
-    let e = takes in
-    rw e (count_turn _ c.loop-n.i (λ z. c.if-k-eq0.false (e ∙ z))) in
-    let t = turn in omega (arith, c.loop-n.invariant.1, t.0, c.if-k-eq0.false)
+-- a turn, at a parameter that is whole
+turn : (s : List ℕ) (i k : ℕ) (r : Option ℕ) → r ≡ own_size (take (length s - i) (drop i s)) → r ≡ Some k →
+    let j = i + (k + 1) in
+    (j ≤ length s) × (length (parameter_rows i (drop i s)) ≡ 1 + length (parameter_rows j (drop j s)))
+turn s i k r e f = count_turn s i k (sym (rw to_end at e) ∙ f)
 
 pub overflow_add-i : goal.overflow_add-i
 overflow_add-i c =
-    let takes : c.taken-k.result ≡ taken_of (drop c.loop-n.i c.args.contents.now) =
-    rw (to_end c.loop-n.i c.args.contents.now) at c.taken-k.ensures in
-    let turn : (let s = c.args.contents.now in
-    let k = c.loop-n.i + c.taken-k.result in
-    (k ≤ length s)
-    × (length (parameter_rows c.loop-n.i (drop c.loop-n.i s)) ≡ 1 + length (parameter_rows k (drop k s)))) =
-    let e = takes in
-    rw e (count_turn _ c.loop-n.i (λ z. c.if-k-eq0.false (e ∙ z))) in
-    omega (arith, (turn).0)
+    let t = turn c.args.contents.now c.loop-own.i c.in-Some.own c.own_size.result c.own_size.ensures c.in-Some.is in
+    omega (arith, t.0)
 
-pub loop-n-smaller : goal.loop-n-smaller
-loop-n-smaller c =
-    let takes : c.taken-k.result ≡ taken_of (drop c.loop-n.i c.args.contents.now) =
-    rw (to_end c.loop-n.i c.args.contents.now) at c.taken-k.ensures in
-    let turn : (let s = c.args.contents.now in
-    let k = c.loop-n.i + c.taken-k.result in
-    (k ≤ length s)
-    × (length (parameter_rows c.loop-n.i (drop c.loop-n.i s)) ≡ 1 + length (parameter_rows k (drop k s)))) =
-    let e = takes in
-    rw e (count_turn _ c.loop-n.i (λ z. c.if-k-eq0.false (e ∙ z))) in
-    omega (arith, (turn).0, c.if-k-eq0.false)
+pub overflow_add-i-in-Some : goal.overflow_add-i-in-Some
+overflow_add-i-in-Some c =
+    let t = turn c.args.contents.now c.loop-own.i c.in-Some.own c.own_size.result c.own_size.ensures c.in-Some.is in
+    omega (arith, t.0)
 
-pub loop-n-preserved : goal.loop-n-preserved
-loop-n-preserved c =
-    let takes : c.taken-k.result ≡ taken_of (drop c.loop-n.i c.args.contents.now) =
-    rw (to_end c.loop-n.i c.args.contents.now) at c.taken-k.ensures in
-    let turn : (let s = c.args.contents.now in
-    let k = c.loop-n.i + c.taken-k.result in
-    (k ≤ length s)
-    × (length (parameter_rows c.loop-n.i (drop c.loop-n.i s)) ≡ 1 + length (parameter_rows k (drop k s)))) =
-    let e = takes in
-    rw e (count_turn _ c.loop-n.i (λ z. c.if-k-eq0.false (e ∙ z))) in
-    let i = c.loop-n.invariant in
-    let t = turn in
-    (t.0, omega (arith, i.1, c.if-k-eq0.false), omega (arith, i.2, t.1))
+pub loop-own-smaller : goal.loop-own-smaller
+loop-own-smaller c =
+    let t = turn c.args.contents.now c.loop-own.i c.in-Some.own c.own_size.result c.own_size.ensures c.in-Some.is in
+    omega (arith, t.0)
+
+pub loop-own-preserved : goal.loop-own-preserved
+loop-own-preserved c =
+    let t = turn c.args.contents.now c.loop-own.i c.in-Some.own c.own_size.result c.own_size.ensures c.in-Some.is in
+    let i = c.loop-own.invariant in
+    (t.0, omega (arith, i.1), omega (arith, i.2, t.1))
+
+pub returns : goal.returns
+returns c =
+    let o = own_over c.loop-own.i _ (rw to_end at (sym c.own_size.ensures) ∙ c.in_default.is) in
+    omega (arith, c.loop-own.invariant.2, ap length o)

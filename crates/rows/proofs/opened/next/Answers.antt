@@ -1,10 +1,8 @@
 -- `next` meets its contract.
-use native.Mathlib.Omega.{arith}
-use mathlib.Core.Path.{◌≡◌, sym, ap, ◌∙◌}
-use borrow.Author.Tests.{eq-eqb, ne_eqb}
+use Rattle.std.proofs.Common.{◌≡◌, suc, ◌+◌, arith, sym, ap, ◌∙◌, eq-eqb, ne_eqb}
 use Rattle.annex.specs.declared.Cursor.{Cursor}
-use Rattle.annex.specs.Ordering.{order_left, taken_of, order_next}
-use Rattle.rows.specs.Orders.{taken_within, left_long, behind_more, span_within}
+use Rattle.annex.specs.Ordering.{order_next}
+use Rattle.rows.specs.Orders.{own_within, span_within, own_none, own_some}
 use Rattle.rows.proofs.opened.next.Goals as goal
 
 pub overflow_add-result : goal.overflow_add-result
@@ -12,32 +10,29 @@ overflow_add-result c =
     let w = span_within c.args.m.now in
     omega (arith, w.0, w.1, ap (λ (s : Cursor). s.at) c.span-s.ensures)
 
-pub returns-then-at-eq0 : goal.returns-then-at-eq0
+pub returns-then-c-eq0 : goal.returns-then-c-eq0
 unfolding order_next
-returns-then-at-eq0 c = rw (eq-eqb _ _ c.if-at-eq0.true, c.span-s.ensures)
+returns-then-c-eq0 c = rw (eq-eqb _ _ c.if-c-eq0.true, c.span-s.ensures)
 
-pub returns-then-n-eq0 : goal.returns-then-n-eq0
+pub returns-in_default : goal.returns-in_default
 unfolding order_next
-returns-then-n-eq0 c =
-    let takes : (let a = c.args in
-    c.taken-n.result ≡ taken_of (order_left a.m.now a.c)) =
-    c.taken-n.ensures ∙ ap taken_of c.left.ensures in
-    rw (ne_eqb _ _ c.if-at-eq0.false, sym (takes) ∙ c.if-n-eq0.true)
+returns-in_default c =
+    let none = rw c.left.ensures at (own_none _ (sym c.own_size.ensures ∙ c.in_default.is)) in
+    rw (ne_eqb _ _ c.if-c-eq0.false, none)
 
 pub overflow_add-result-2 : goal.overflow_add-result-2
 overflow_add-result-2 c =
-    let takes : (let a = c.args in
-    c.taken-n.result ≡ taken_of (order_left a.m.now a.c)) =
-    c.taken-n.ensures ∙ ap taken_of c.left.ensures in
-    let a = c.args in
-    let e = takes in
-    let w = taken_within 0 (order_left a.m.now a.c) (λ z. c.if-n-eq0.false (e ∙ z)) in
-    omega (arith, w, e, c.if-n-eq0.false, left_long a.m.now a.c)
+    let w = own_within c.args.m.now c.args.c c.in-Some.own (rw c.left.ensures at (sym c.own_size.ensures ∙ c.in-Some.is)) in
+    omega (arith, w)
+
+pub overflow_add-result-3 : goal.overflow_add-result-3
+overflow_add-result-3 c =
+    let w = own_within c.args.m.now c.args.c c.in-Some.own (rw c.left.ensures at (sym c.own_size.ensures ∙ c.in-Some.is)) in
+    omega (arith, w)
 
 pub returns : goal.returns
 unfolding order_next
 returns c =
-    let takes : (let a = c.args in
-    c.taken-n.result ≡ taken_of (order_left a.m.now a.c)) =
-    c.taken-n.ensures ∙ ap taken_of c.left.ensures in
-    rw (ne_eqb _ _ c.if-at-eq0.false, ← takes) (sym (behind_more _ _ c.if-n-eq0.false))
+    let some = rw c.left.ensures at (own_some _ _ (sym c.own_size.ensures ∙ c.in-Some.is)) in
+    let e : c.args.c.at + suc c.in-Some.own ≡ c.args.c.at + c.in-Some.own + 1 = omega arith in
+    rw (ne_eqb _ _ c.if-c-eq0.false, some, e)

@@ -1,18 +1,10 @@
 -- `row_here` meets its contract.
 use Rattle.std.proofs.Common.{sym, ◌∙◌}
-use Rattle.annex.specs.Walking.{extent_in, stretch_here, row_here}
+use Rattle.annex.specs.Walking.{extent_in, stretch_here}
 use Rattle.walk.specs.Stretches.{stretch_told}
 use Rattle.walk.proofs.cursor.row_here.Goals as goal
-
-pub returns-in_default : goal.returns-in_default
-unfolding row_here
-returns-in_default c = rw (← c.stretch_here.ensures, c.in_default.is)
 
 pub overflow_sub-result : goal.overflow_sub-result
 unfolding stretch_here
 overflow_sub-result c =
-    (stretch_told (extent_in c.args.c) _ _ (sym c.stretch_here.ensures ∙ c.in-At.is)).ordered
-
-pub returns : goal.returns
-unfolding row_here
-returns c = rw (← c.stretch_here.ensures, c.in-At.is, c.octet_at.ensures)
+    (stretch_told (extent_in c.args.c) _ _ (sym c.stretch_here.ensures ∙ c.in-Some.is)).ordered
