@@ -16,7 +16,8 @@ use reader::verdict::verdict;
 use steps::{Kind, contents_answer, head_answer, no_spot, spot_in};
 
 // The last step: 14, then 15, or new in the place of the transfer data's octets from its own index from to before to. The transfer data
-// stands from index start to before end of the buffer, C5's length octet right before it.
+// stands from index start to before end of the buffer, C5's length octet right before it. (Each stretch as its two ends, which is what the
+// searches give; a struct that one caller fills would be no plainer.)
 fn splice_in(
     buffer: &mut [u8],
     n: usize,

@@ -13,6 +13,7 @@ ghost use Rattle.image_writer.specs.Walked.{ItemsServed, DataServed, PartsServed
 
 use annex::{Answer, Common, Imaged, Message, Refusal, Transfer};
 use common::laying::lay_head;
+use common::seen::Seen;
 use from_image::image_heads::{common_head, is_whole, transfer_head};
 use layout::{contents_len, lay};
 use refusing::{end_refusal, head_refusal, placed};
@@ -40,7 +41,7 @@ fn lay_items(s: &[u8], count: usize, start: usize, draft: &mut [u8]) -> Result<S
         (octets_of result) draft.new }
     ensures within { octets_of result ≤ length s.now }
 {
-    let mut seen = [0u8; Transfer::NAMES];
+    let mut seen = Seen::none();
     let mut at = start;
     let mut i: usize = 0;
     for _ in 0..count {
@@ -50,10 +51,8 @@ fn lay_items(s: &[u8], count: usize, start: usize, draft: &mut [u8]) -> Result<S
         let t = transfer_head(&s[i..]);
         let from = i + Imaged::TRANSFER_HEAD;
         let to = from + t.len as usize;
-        let name = (t.header % 64) as usize;
-        let times = seen[name];
-        let len = placed(lay(times, t, &s[from..to], draft, at), at)?;
-        seen[name] = times + 1;
+        let len = placed(lay(seen.times(t.header), t, &s[from..to], draft, at), at)?;
+        seen.count(t.header);
         at += len;
         i = to;
     }
@@ -98,7 +97,7 @@ fn lay_parts(s: &[u8], count: usize, draft: &mut [u8]) -> Result<Step, Refusal>
     requires { count ≤ 255 }
     ensures { PartsServed unseen 0 0 [] (parts_front count s.now) (answer_of result) (octets_of result) draft.new }
 {
-    let mut seen = [0u8; Transfer::NAMES];
+    let mut seen = Seen::none();
     let mut at: usize = 0;
     let mut i: usize = 0;
     for _ in 0..count {
@@ -106,10 +105,8 @@ fn lay_parts(s: &[u8], count: usize, draft: &mut [u8]) -> Result<Step, Refusal>
             return Err(Refusal(Refusal::OVER_LIMITS, 0));
         }
         let c = common_head(&s[i..]);
-        let name = (c.header % 64) as usize;
-        let times = seen[name];
-        let len = placed(head_refusal(times, c), at)?;
-        seen[name] = times + 1;
+        let len = placed(head_refusal(seen.times(c.header), c), at)?;
+        seen.count(c.header);
         i += Imaged::COMMON_HEAD;
         if c.header == Common::TRANSFER_DATA {
             let step = lay_data(&s[i..], c.transfers as usize, at, draft)?;
@@ -120,9 +117,9 @@ fn lay_parts(s: &[u8], count: usize, draft: &mut [u8]) -> Result<Step, Refusal>
             at += len;
         }
     }
-    let class = (Common::USER_CLASS % 64) as usize;
-    let kind = (Common::SIGNAL_KIND % 64) as usize;
-    let behind = lay_end(seen[class], seen[kind], at, draft)?;
+    let class = seen.times(Common::USER_CLASS);
+    let kind = seen.times(Common::SIGNAL_KIND);
+    let behind = lay_end(class, kind, at, draft)?;
     Ok(Step { behind, octets: i })
 }
 

@@ -3,9 +3,9 @@ use Prim.Native.Nat.{ℕ, suc, ◌+◌, ◌-◌, ◌≤◌, ◌<◌}
 use native.Mathlib.Omega.{arith}
 use Rattle.std.specs.Prelude.{◌≡◌, Bool, true, false, cond, List, [], ◌∷◌, ◌++◌, map, eqb, length, get_or, take, drop}
 use Rattle.std.proofs.Math.Path.{refl}
-use Rattle.std.proofs.Common.{sym, ap, ◌∙◌, eq-eqb, ne_eqb, length-take, drop_of_length-le, take_all, take-add, get_or-take, length-take-le, length-drop}
+use Rattle.std.proofs.Common.{sym, ap, ◌∙◌, eq-eqb, ne_eqb, length-take, drop_of_length-le, take_all, take-add, get_or-take, length-take-le}
 use Rattle.std.proofs.lemmas.List.{length-map}
-use Rattle.std.proofs.Math.Seq.{take-suc, drop-cons, drop-drop, get_or-drop}
+use Rattle.std.proofs.Math.Seq.{take-suc, drop-cons, drop-drop}
 use Rattle.annex.specs.Heads.{transfer_data, most_commons, most_transfers, most_values}
 use Rattle.annex.specs.Items.{Item, Part}
 use Rattle.annex.specs.Allowed.{own_part, items_in}
@@ -135,9 +135,6 @@ module _ (q : Record) where
   unfolding view_items
   items_none k = refl
 
-  pub items_end : (k n j : ℕ) → n ≤ j → items_at q k (n - j) ≡ []
-  items_end k n j h = let e : n - j ≡ 0 = omega arith in rw e (items_none k)
-
   items_next : (k n : ℕ) → k < length q.transfer
       → items_at q k (suc n) ≡ item_from (transfer_at q k) (take (transfer_at q k).len (drop (used_at q k) q.values)) ∷ items_at q (k + 1) n
   unfolding view_items
@@ -153,7 +150,7 @@ module _ (q : Record) where
       record { places = omega (arith, w.places); values = omega (arith, l, w.values) }
 
   -- the head t at the place k, for a loop that has used so many values before it, with m left: its own values, and the others, from the
-  -- place k' on
+  -- place k' on (the loops have `Held.HeldTurn`; docs/PORT.md names `Turn.few`, `Turn.items` and `own_at`)
   pub record Turn (k k' m m' used : ℕ) (t : Transfer) : Type 0 where
     pub place : k < most_transfers
     pub end : used + t.len ≤ length q.values
@@ -178,27 +175,6 @@ module _ (q : Record) where
         few = omega (arith, length-take (used + t.len - used) (drop used q.values));
         items = rw (more, on, own, e, same) (items_next k m' (omega (arith, w.places)));
       }
-
-  -- the n heads from the place `first` on, as a part of a slice has them
-  abbrev pub heads_from : ℕ → ℕ → List Transfer
-  heads_from first n = take (first + n - first) (drop first q.transfer)
-
-  -- the j-th of them
-  pub part_turn : (first n j used : ℕ) (t : Transfer) → length q.transfer ≡ most_transfers → length q.values ≡ most_values
-      → Within q (first + n) → j < length (heads_from first n) → used ≡ used_at q (first + j) → t ≡ get_or (heads_from first n) j no_transfer
-      → Turn (first + j) (first + (j + 1)) (n - j) (n - (j + 1)) used t
-  part_turn first n j used t l v w h e here =
-      let few = length-take (first + n - first) (drop first q.transfer) in
-      turn (first + j) (first + (j + 1)) (n - j) (n - (j + 1)) (first + n) used t l v w (omega arith) (omega arith) (omega arith) e
-      (here ∙ get_or-take (first + n - first) (drop first q.transfer) j no_transfer (omega arith) ∙ get_or-drop first q.transfer j no_transfer)
-
-  -- and past the last of them
-  pub part_end : (first n j k : ℕ) → length q.transfer ≡ most_transfers → Within q (first + n) → length (heads_from first n) ≤ j
-      → items_at q k (n - j) ≡ []
-  part_end first n j k l w h =
-      let some : length (drop first q.transfer) ≡ length q.transfer - first = length-drop first q.transfer in
-      let all : length (heads_from first n) ≡ first + n - first = length-take-le _ _ (omega (arith, w.places)) in
-      items_end k n j (omega arith)
 
   -- ---- the common parameters
 

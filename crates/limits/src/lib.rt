@@ -2,12 +2,12 @@
 #![tactic(auto)]
 
 ghost use Rattle.std.specs.Prelude.{◌≡◌, ◌≤◌, take};
+ghost use Rattle.std.specs.Iterator.{YieldsFirstBy, item_count};
 ghost use Rattle.annex.specs.Heads.{most_commons};
 ghost use Rattle.annex.specs.Promises.{Gives};
 ghost use Rattle.annex.specs.Allowed.{contents_sum};
 ghost use Rattle.annex.specs.Writing.{struct_over};
 ghost use Rattle.annex.specs.Records.{lengths_of, transfer_count, transfers_sum, commons_in, is_whole, held_from, held_at};
-ghost use Rattle.std.specs.Iterator.{YieldsFirstBy, item_count};
 ghost use Rattle.limits.specs.Along.{items_at, Within};
 
 use annex::{Common, Record, Transfer};
@@ -69,7 +69,7 @@ impl<'a> Iterator for Items<'a> {
 }
 
 // The n transfer parameters from index `first` of the array on, or those of them that it has, whatever the record's counts are.
-pub fn items_from(q: &Record, first: usize, n: usize) -> Items<'_>
+pub fn items_at(q: &Record, first: usize, n: usize) -> Items<'_>
     ensures { Gives (held_at q.now first n) (held_from result.heads.now result.values.now) }
 {
     let heads = q.transfer.get(first..).unwrap_or(&[]);
@@ -95,11 +95,9 @@ fn contents_sum(q: Record, n: usize) -> usize
     requires { Within q n }
     ensures { result ≡ contents_sum (items_at q 0 n) }
 {
-    let mut sum = 0;
-    for (t, values) in items_from(&q, 0, n) {
-        sum += contents_len(t, values);
-    }
-    sum
+    items_at(&q, 0, n)
+        .map(|(t, values)| contents_len(t, values))
+        .sum()
 }
 
 // Whether the record is over its limits, in its counts and lengths or in its contents.

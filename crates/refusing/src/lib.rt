@@ -18,7 +18,7 @@ use common::call::is_call;
 use common::form::{listed, value_allowed};
 use common::seen::Seen;
 use layout::refusal;
-use limits::{items_from, over_limits};
+use limits::{items_at, over_limits};
 
 // The same answer, a refusal told at the place p.
 pub fn placed(a: Answer, p: usize) -> Answer
@@ -28,14 +28,14 @@ pub fn placed(a: Answer, p: usize) -> Answer
 }
 
 // The n transfer parameters from index `first` of the array on, the header of the first of them at the place `start`: what refuses the
-// first that is refused, or the place behind them.
+// first that is refused, or the place behind them. (q, first and n, which one more function hands on, in a struct would be no plainer.)
 fn items_refusal(q: Record, first: usize, n: usize, start: usize) -> Answer
     requires { Within q (first + n) × (start ≤ 65536) }
     ensures { result ≡ items_writing unseen start (items_at q first n) }
 {
     let mut seen = Seen::none();
     let mut at = start;
-    for (t, values) in items_from(&q, first, n) {
+    for (t, values) in items_at(&q, first, n) {
         let len = placed(refusal(seen.times(t.header), t, values), at)?;
         seen.count(t.header);
         at += len;

@@ -362,7 +362,7 @@ rows =
     ∷  -- find_both, how many octets the part has
     lists (find_part short (found_by (Header 0x01) short)) (find_part short (found_by (Header 0x06) short)) ∷  -- find_both, part
     counts (given_of (Accepted 9)) (given_of (Refused 15 0)) ∷  -- the count that an answer gives
-    gives (List (Transfer × List ℕ)) length (held_at (pack record_of_m) 0 0) (held_at (pack record_of_m) 0 1) ∷  -- items_from
+    gives (List (Transfer × List ℕ)) length (held_at (pack record_of_m) 0 0) (held_at (pack record_of_m) 0 1) ∷  -- limits::items_at
     counts (lengths_of (take 0 (pack record_of_m).transfer)) (lengths_of (take 1 (pack record_of_m).transfer)) ∷  -- values_before
     tests (struct_over (pack record_of_k)) (struct_over (pack (record_of_k ++ (record_of_k ++ (record_of_k ++ record_of_k))))) ∷  -- over_limits
     counts (length (layout_part (value_part 0x83 0))) (length (layout_part (value_part 0x01 0))) ∷  -- head_len

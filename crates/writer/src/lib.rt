@@ -13,7 +13,7 @@ ghost use Rattle.refusing.specs.Laying.{data_laid};
 use annex::{Answer, Common, Record, Refusal, Transfer};
 use common::laying::lay_head;
 use layout::{contents_len, put};
-use limits::items_from;
+use limits::items_at;
 use refusing::{head_len, record_refusal};
 use units::{extent_of, lead};
 
@@ -25,14 +25,15 @@ fn item_len(t: Transfer, values: &[u8]) -> usize
     1 + lead(extent_of(t.header)) + contents_len(t, values)
 }
 
-// Lays out the n transfer parameters from index `first` of the array on, and tells how many octets they take.
+// Lays out the n transfer parameters from index `first` of the array on, and tells how many octets they take. (q, first and n, which one
+// more function hands on, in a struct would be no plainer.)
 fn put_items(q: Record, first: usize, n: usize, room: &mut [u8]) -> usize
     requires { Within q (first + n) × (length (layout_items (items_at q first n)) ≤ length room.old) }
     ensures { (result ≡ length (layout_items (items_at q first n)))
         × (room.new ≡ at_front (layout_items (items_at q first n)) room.old) }
 {
     let mut at = 0;
-    for (t, values) in items_from(&q, first, n) {
+    for (t, values) in items_at(&q, first, n) {
         put(t, values, &mut room[at..]);
         at += item_len(t, values);
     }

@@ -11,7 +11,7 @@ use Rattle.annex.specs.Items.{Item}
 use Rattle.annex.specs.Layout.{layout_item}
 use Rattle.annex.specs.Memory.{laid_at}
 use Rattle.annex.specs.Records.{item_from}
-use Rattle.annex.specs.Walk.{Seen}
+use Rattle.annex.specs.Walk.{Seen, times_seen}
 use Rattle.annex.specs.Image.{head_front, item_size, items_front, octets_to_a_transfer_head}
 use Rattle.annex.specs.Answers.{Answer, Accepted}
 use Rattle.annex.specs.declared.Transfer.{Transfer}
@@ -64,8 +64,8 @@ returns-then-not-is_whole-clause-served c =
     let v = c.loop in
     let w = whole_of s v.i _ _ c.is_whole.ensures c.if-not-is_whole.true in
     v.invariant.3 _ _ v.draft v.invariant.2
-    (one_left v.seen v.at v.i c.args.count v.counter s _ _ _ v.draft c.loop-test.true
-    (items_cut v.seen v.at v.i (c.args.count - (v.counter + 1)) s _ v.draft w _ _ _))
+    (one_left v.seen.0 v.at v.i c.args.count v.counter s _ _ _ v.draft c.loop-test.true
+    (items_cut v.seen.0 v.at v.i (c.args.count - (v.counter + 1)) s _ v.draft w _ _ _))
 
 pub returns-in_err-len-clause-served : goal.returns-in_err-len-clause-served
 returns-in_err-len-clause-served c =
@@ -80,19 +80,13 @@ returns-in_err-len-clause-served c =
     let gone = passed_on c.from_residual.result c.in_err-len.field-0.0 c.from_residual.ensures.1 ∙ ap Err e.2 in
     rw gone
     (v.invariant.3 _ _ d (ap (λ (l : List ℕ). length l) kept ∙ v.invariant.2)
-    (one_left v.seen v.at v.i c.args.count v.counter s _ _ _ d c.loop-test.true
-    (item_refused v.seen v.at v.i (c.args.count - (v.counter + 1)) s _ d w t h _ (values_of s v.i t.len) _ (sym c.lay.ensures.told) _ _ _ e.1)))
-
-pub overflow_add-seen : goal.overflow_add-seen
-overflow_add-seen c =
-    let e = placed_ok c.loop.at _ _ _ c.placed.ensures c.in_ok-len.was in
-    let taken = item_written _ _ _ _ (sym c.lay.ensures.told ∙ e) in
-    omega (arith, few_times _ _ _ taken)
+    (one_left v.seen.0 v.at v.i c.args.count v.counter s _ _ _ d c.loop-test.true
+    (item_refused v.seen.0 v.at v.i (c.args.count - (v.counter + 1)) s _ d w t h _ (values_of s v.i t.len) _ (rw c.times.ensures at (sym c.lay.ensures.told)) _ _ _ e.1)))
 
 pub overflow_add-at : goal.overflow_add-at
 overflow_add-at c =
     let e = placed_ok c.loop.at _ _ _ c.placed.ensures c.in_ok-len.was in
-    let taken = item_written _ _ _ _ (sym c.lay.ensures.told ∙ e) in
+    let taken = item_written _ _ _ _ (rw c.times.ensures at (sym c.lay.ensures.told) ∙ e) in
     omega (arith, taken.behind, taken.short, c.loop.invariant.1, c.requires)
 
 pub loop-preserved : goal.loop-preserved
@@ -105,25 +99,27 @@ loop-preserved c =
     let e = placed_ok v.at _ _ _ c.placed.ensures c.in_ok-len.was in
     let w = whole_of s v.i _ _ c.is_whole.ensures c.if-not-is_whole.false in
     let h = head_of s v.i t c.transfer_head-t.ensures in
-    let told = sym c.lay.ensures.told in
+    let told = rw c.times.ensures at (sym c.lay.ensures.told) in
     let taken = item_written _ _ _ _ (told ∙ e) in
+    let small : times_seen v.seen.0 t.header < 255 = omega (arith, few_times _ _ _ taken) in
     let vs = take (v.i + octets_to_a_transfer_head + t.len - (v.i + octets_to_a_transfer_head)) (drop (v.i + octets_to_a_transfer_head) s) in
     let xs = layout_item (item_from t vs) in
-    let d : c.lay.new.room ≡ laid_at (Accepted n) xs v.at v.draft = rw (told ∙ e) at c.lay.ensures.put in
+    let d : c.lay.new.room ≡ laid_at (Accepted n) xs v.at v.draft = rw (sym c.lay.ensures.told ∙ e) at c.lay.ensures.put in
     let same : length c.lay.new.room ≡ length g.draft.now =
     ap (λ (y : List ℕ). length y) d ∙ laid_length v.draft v.at xs n ∙ v.invariant.2 in (
       ends_of s v.i t h w,
       omega (arith, taken.behind, taken.short, v.invariant.1),
       same,
       λ b end y m k.
+          let later = rw (c.count.ensures small) at k in
           v.invariant.3 b end y m
-          (one_left v.seen v.at v.i g.count v.counter s _ b end y c.loop-test.true
-          (item_accepted v.seen v.at v.i (g.count - (v.counter + 1)) s end y w t h _ (values_of s v.i t.len) _ told n e v.draft (m ∙ sym v.invariant.2) b
-          (rw (← d) k))),
+          (one_left v.seen.0 v.at v.i g.count v.counter s _ b end y c.loop-test.true
+          (item_accepted v.seen.0 v.at v.i (g.count - (v.counter + 1)) s end y w t h _ (values_of s v.i t.len) _ told n e v.draft (m ∙ sym v.invariant.2) b
+          (rw (← d) later))),
     )
 
 pub returns-clause-served : goal.returns-clause-served
 returns-clause-served c =
     let v = c.loop in
     let z : c.args.count - v.counter ≡ 0 = omega arith in
-    v.invariant.3 _ _ v.draft v.invariant.2 (rw z (items_done v.seen v.at v.i (drop v.i c.args.s.now) v.draft))
+    v.invariant.3 _ _ v.draft v.invariant.2 (rw z (items_done v.seen.0 v.at v.i (drop v.i c.args.s.now) v.draft))

@@ -16,5 +16,5 @@ invariant-loop l =
     (l.at ≤ l.start + 257 * l.counter) ×
     (length l.draft ≡ length l.initial.draft) ×
     ((a : Answer) (end : ℕ) (d : List ℕ) → length d ≡ length l.initial.draft
-    → ItemsServed l.seen l.at l.i (take l.at l.draft) (items_front (l.count - l.counter) (drop l.i l.s)) a end d
+    → ItemsServed l.seen.0 l.at l.i (take l.at l.draft) (items_front (l.count - l.counter) (drop l.i l.s)) a end d
     → ItemsServed unseen l.start 0 (take l.start l.initial.draft) (items_front l.count l.s) a end d)

@@ -44,7 +44,7 @@ returns-then-s-i-lt-COMMON_HEAD c =
     let e = one_more c.args.count v.counter c.loop-test.true in
     let short : length (drop v.i s) < octets_to_a_common_head = rw (length-drop v.i s) c.if-s-i-lt-COMMON_HEAD.true in
     v.invariant.3 _ _ v.draft v.invariant.2
-    (rw e (parts_cut v.seen v.at v.i (c.args.count - (v.counter + 1)) s 0 v.draft short (take v.at v.draft) _ _))
+    (rw e (parts_cut v.seen.0 v.at v.i (c.args.count - (v.counter + 1)) s 0 v.draft short (take v.at v.draft) _ _))
 
 pub returns-in_err-len : goal.returns-in_err-len
 returns-in_err-len c =
@@ -54,24 +54,18 @@ returns-in_err-len c =
     let left = one_more c.args.count v.counter c.loop-test.true in
     let there : octets_to_a_common_head ≤ length (drop v.i s) = rw (length-drop v.i s) c.if-s-i-lt-COMMON_HEAD.false in
     let head : h ≡ common_front (drop v.i s) = c.common_head-c.ensures ∙ ap common_front (to_end v.i s) in
-    let judged : part_writing (times_seen v.seen h.header) 0 (raw_part h []) ≡ c.head_refusal.result = sym c.head_refusal.ensures in
+    let judged : part_writing (times_seen v.seen.0 h.header) 0 (raw_part h []) ≡ c.head_refusal.result = rw c.times.ensures at (sym c.head_refusal.ensures) in
     let e = placed_err v.at _ _ _ c.placed.ensures c.in_err-len.was in
     let gone = passed_on c.from_residual.result c.in_err-len.field-0.0 c.from_residual.ensures.1 ∙ ap Err e.2 in
     rw gone
     (v.invariant.3 _ _ v.draft v.invariant.2
-    (rw left (part_refused v.seen v.at v.i (c.args.count - (v.counter + 1)) s 0 v.draft h head there _ judged _ _ _ e.1)))
-
-pub overflow_add-seen : goal.overflow_add-seen
-overflow_add-seen c =
-    let h = c.common_head-c.result in
-    let judged : part_writing (times_seen c.loop.seen h.header) 0 (raw_part h []) ≡ c.head_refusal.result = sym c.head_refusal.ensures in
-    omega (arith, (part_head_passed _ h _ (judged ∙ placed_ok c.loop.at _ _ _ c.placed.ensures c.in_ok-len.was)).0)
+    (rw left (part_refused v.seen.0 v.at v.i (c.args.count - (v.counter + 1)) s 0 v.draft h head there _ judged _ _ _ e.1)))
 
 pub overflow_add-at : goal.overflow_add-at
 overflow_add-at c =
     let v = c.loop in
     let h = c.common_head-c.result in
-    let judged : part_writing (times_seen v.seen h.header) 0 (raw_part h []) ≡ c.head_refusal.result = sym c.head_refusal.ensures in
+    let judged : part_writing (times_seen v.seen.0 h.header) 0 (raw_part h []) ≡ c.head_refusal.result = rw c.times.ensures at (sym c.head_refusal.ensures) in
     let taken = part_head_passed _ h _ (judged ∙ placed_ok v.at _ _ _ c.placed.ensures c.in_ok-len.was) in
     omega (arith, taken.1, head_long h.header, v.invariant.1, c.requires)
 
@@ -85,13 +79,13 @@ returns-in_err-step c =
     let left = one_more c.args.count v.counter c.loop-test.true in
     let there : octets_to_a_common_head ≤ length (drop v.i s) = rw (length-drop v.i s) c.if-s-i-lt-COMMON_HEAD.false in
     let head : h ≡ common_front (drop v.i s) = c.common_head-c.ensures ∙ ap common_front (to_end v.i s) in
-    let judged : part_writing (times_seen v.seen h.header) 0 (raw_part h []) ≡ c.head_refusal.result = sym c.head_refusal.ensures in
+    let judged : part_writing (times_seen v.seen.0 h.header) 0 (raw_part h []) ≡ c.head_refusal.result = rw c.times.ensures at (sym c.head_refusal.ensures) in
     let taken = placed_ok v.at _ _ _ c.placed.ensures c.in_ok-len.was in
     let long : length d ≡ length v.draft = search rules in
     let gave = rw (to_end (v.i + octets_to_a_common_head) s) at c.in_err-step.ensures.served in
     rw (passed_on c.from_residual-in_err-step.result r c.from_residual-in_err-step.ensures.1)
     (v.invariant.3 _ _ d (long ∙ v.invariant.2)
-    (rw left (data_stop v.seen v.at v.i (c.args.count - (v.counter + 1)) s _ d h head there _ judged _ taken c.if-c.true v.draft 0 d r.0 r.1 gave)))
+    (rw left (data_stop v.seen.0 v.at v.i (c.args.count - (v.counter + 1)) s _ d h head there _ judged _ taken c.if-c.true v.draft 0 d r.0 r.1 gave)))
 
 pub loop-preserved : goal.loop-preserved
 loop-preserved c =
@@ -102,8 +96,9 @@ loop-preserved c =
     let left = one_more c.args.count v.counter c.loop-test.true in
     let there : octets_to_a_common_head ≤ length (drop v.i s) = rw (length-drop v.i s) c.if-s-i-lt-COMMON_HEAD.false in
     let head : h ≡ common_front (drop v.i s) = c.common_head-c.ensures ∙ ap common_front (to_end v.i s) in
-    let judged : part_writing (times_seen v.seen h.header) 0 (raw_part h []) ≡ c.head_refusal.result = sym c.head_refusal.ensures in
+    let judged : part_writing (times_seen v.seen.0 h.header) 0 (raw_part h []) ≡ c.head_refusal.result = rw c.times.ensures at (sym c.head_refusal.ensures) in
     let accepted = placed_ok v.at _ _ _ c.placed.ensures c.in_ok-len.was in
+    let small : times_seen v.seen.0 h.header < 255 = omega (arith, (part_head_passed _ h _ (judged ∙ accepted)).0) in
     elim c.if-c.branch [
       | then-c+in_ok-step w ↦
           let x = w.in_ok-step.step in
@@ -127,8 +122,8 @@ loop-preserved c =
             same,
             λ b end z m u.
                 v.invariant.3 b end z m
-                (rw left (data_turn v.seen v.at v.i (c.args.count - (v.counter + 1)) s end z h head there _ judged _ accepted w.if-c.true v.draft
-                x.octets d x.behind gave (m ∙ sym same) b u)),
+                (rw left (data_turn v.seen.0 v.at v.i (c.args.count - (v.counter + 1)) s end z h head there _ judged _ accepted w.if-c.true v.draft
+                x.octets d x.behind gave (m ∙ sym same) b (rw (c.count.ensures small) at u))),
           )
       | else-c w ↦
           let d = w.lay_head.new.room in
@@ -143,8 +138,8 @@ loop-preserved c =
             same,
             λ b end z m u.
                 v.invariant.3 b end z m
-                (rw left (plain_turn v.seen v.at v.i (c.args.count - (v.counter + 1)) s end z h head there _ judged n accepted w.if-c.false v.draft
-                (m ∙ sym v.invariant.2) b (rw (← is) u))),
+                (rw left (plain_turn v.seen.0 v.at v.i (c.args.count - (v.counter + 1)) s end z h head there _ judged n accepted w.if-c.false v.draft
+                (m ∙ sym v.invariant.2) b (rw (← is) (rw (c.count.ensures small) at u)))),
           )
     ]
 
@@ -155,10 +150,10 @@ returns-in_err-behind c =
     let r = c.in_err-behind.field-0.0 in
     let long : length d ≡ length v.draft = search rules in
     let z : c.args.count - v.counter ≡ 0 = omega (arith, c.loop-test.false) in
-    let e = sym c.lay_end.ensures.told ∙ c.in_err-behind.was in
+    let e = sym (rw (c.times-class.ensures, c.times-kind.ensures) at c.lay_end.ensures.told) ∙ c.in_err-behind.was in
     rw (passed_on c.from_residual-in_err-behind.result r c.from_residual-in_err-behind.ensures.1)
     (v.invariant.3 _ _ d (long ∙ v.invariant.2)
-    (rw z (parts_unfinished v.seen v.at v.i (drop v.i c.args.s.now) _ r.0 r.1 _ d e)))
+    (rw z (parts_unfinished v.seen.0 v.at v.i (drop v.i c.args.s.now) _ r.0 r.1 _ d e)))
 
 pub returns : goal.returns
 returns c =
@@ -168,4 +163,4 @@ returns c =
     let z : c.args.count - v.counter ≡ 0 = omega (arith, c.loop-test.false) in
     subst (λ (b : Answer). PartsServed unseen 0 0 [] (parts_front c.args.count c.args.s.now) b v.i d) c.in_ok-behind.was
     (v.invariant.3 _ _ d (long ∙ v.invariant.2)
-    (rw (z, c.lay_end.ensures.told, c.lay_end.ensures.put) (parts_done v.seen v.at v.i (drop v.i c.args.s.now) v.draft)))
+    (rw (z, rw (c.times-class.ensures, c.times-kind.ensures) at c.lay_end.ensures.told, c.lay_end.ensures.put) (parts_done v.seen.0 v.at v.i (drop v.i c.args.s.now) v.draft)))

@@ -16,5 +16,5 @@ invariant-loop l =
     (l.at ≤ 257 * l.counter) ×
     (length l.draft ≡ length l.initial.draft) ×
     ((a : Answer) (end : ℕ) (d : List ℕ) → length d ≡ length l.initial.draft
-    → PartsServed l.seen l.at l.i (take l.at l.draft) (parts_front (l.count - l.counter) (drop l.i l.s)) a end d
+    → PartsServed l.seen.0 l.at l.i (take l.at l.draft) (parts_front (l.count - l.counter) (drop l.i l.s)) a end d
     → PartsServed unseen 0 0 [] (parts_front l.count l.s) a end d)
