@@ -2,7 +2,8 @@
 use annex::{Answer, Refusal};
 use std::{fmt, io};
 
-// Octets in hexadecimal.
+// Octets in hexadecimal, in lower case. The listing has its own: upper case, and `-` for none, as document 01 prints a row; one type for
+// both would hold the case and the dash, and be no plainer.
 #[derive(Clone, Copy)]
 struct Hexadecimal<'a>(&'a [u8]);
 
