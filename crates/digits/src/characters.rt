@@ -20,7 +20,8 @@ fn is_known(are: bool, octet: u8) -> bool
     is_figure(octet) || are && (octet == Order::SEPARATOR || octet == Order::ETX)
 }
 
-// The first octet from an offset on that is no such character. The set is a flag and no closure, since the promise names both sets.
+// The first octet from an offset on that is no such character. The set is a flag: two types with a trait and its law, for a set
+// with two octets more, would be no plainer.
 pub fn characters_fault(are: bool, s: &[u8], from: usize) -> Fault
     ensures { Gives (outside_fault (cond are is_are_character is_figure) from (drop from s.now)) result }
 {

@@ -41,7 +41,7 @@ pub fn has_room(room: usize, used: usize, count: usize) -> bool
     count <= Transfer::MOST_VALUES && used <= room && count <= room - used
 }
 
-// The octet of two half-octets.
+// The octet of two half-octets, modulo 256 as the definition has it, since any numbers may be given.
 fn joined(low: u8, high: u8) -> u8
     ensures { result ≡ (low + 16 * high) % 256 }
 {

@@ -39,7 +39,7 @@ fn splice_in(
     if !splice(buffer, n, start + from, old, new) {
         return Err(Refusal(Refusal::NO_ROOM, 0));
     }
-    buffer[start - 1] = (length % 256) as u8;
+    buffer[start - 1] = (length % 256) as u8; // modulo 256, as the definition stores it
     Ok(n - old + new.len())
 }
 

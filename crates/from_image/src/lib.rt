@@ -14,6 +14,7 @@ use annex::{Common, Imaged, Record, Refusal, Transfer};
 use reader::reading::empty;
 
 // A record's struct as far as it is filled in: how many of its transfer parameters and values are, and how many octets were read for it.
+// Reading has its own without these, filled from a message's octets: what puts a parameter in has little in common.
 #[derive(Clone, Copy)]
 struct Filled {
     held: Record,

@@ -26,7 +26,7 @@ use parameter::opening::{holding_by, holding_of};
 use units::{extent_of, lead, octets_after};
 
 // A parameter's head, its values and how they are held stay apart, with what ties them a `requires` of each step below: as one struct that
-// has it for a ghost invariant they cost writing a sixth more instructions, which misses its bar (docs/DESIGN-PASS.md).
+// has it for a ghost invariant they cost writing an eighth more instructions, which misses its bar (docs/DESIGN-PASS.md).
 
 // How the values are held, by what a look-up says of their header.
 fn held_by(asked: Asked, values: &[u8]) -> Holding
@@ -194,7 +194,7 @@ fn upper_marks(marks: Marks, t: Transfer) -> u16
     }
 }
 
-// Writes digits of PLI 10: the count octet, then the digits.
+// Writes digits of PLI 10: the count octet, then the digits. A number is stored modulo 256, here and below, as its definition has it.
 fn put_digits(marks: Marks, t: Transfer, digits: &[u8], room: &mut [u8])
     requires { length (contents_by (AsDigits marks) (raw_item t digits.now)) ≤ length room.old }
     ensures { room.new ≡ at_front (contents_by (AsDigits marks) (raw_item t digits.now)) room.old }

@@ -26,7 +26,7 @@ fn at_octet(f: Fault, start: usize, n: usize) -> Answer
 }
 
 // The parameter's name stood `times` before; `asked` is what a look-up says of its header; xs are the octets after it, to the end of the
-// transfer data.
+// transfer data. The layout's function judges values and not octets, so one over both would be no plainer.
 fn judged(asked: Asked, times: u8, header: u8, xs: &[u8]) -> Answer
     requires { Asks header asked }
     ensures { result ≡ transfer_of times header xs.now }

@@ -23,7 +23,7 @@ use reader::reading;
 use reader::reading::empty;
 use verdict::profile_verdict;
 
-// The pairs of a D6, the first `count` of `class`.
+// The pairs of a D6, the first `count` of `class`: nothing is allocated, so that there is room for the most.
 #[derive(Clone, Copy)]
 struct Opened {
     count: u8,

@@ -46,8 +46,8 @@ fn extent_by(k: Key, h: u8) -> Extent
     }
 }
 
-// The parameter sought among those that the length rule alone finds in t, octets of any kind: from its header to its end. Each turn starts
-// where the parameter before ends.
+// The parameter sought among those that the length rule alone finds in t, octets of any kind: from its header to its end. No `for`, since
+// each turn starts where the parameter before ends.
 pub fn search_by_length(t: &[u8], k: Key) -> Found
     ensures { Gives (search_in k t.now) result }
 {
@@ -134,6 +134,8 @@ fn place(m: &[u8], k: Key) -> Answer
     let (start, _) = find_both(m, k)?;
     Ok(start)
 }
+
+// Four functions and no generic one over what is sought: document 01 names each, and each has its promise.
 
 // The contents of the common parameter with this header, the empty part if refused.
 pub fn find_common(m: &[u8], header: u8) -> &[u8]

@@ -116,7 +116,8 @@ fn ended(class: u8, kind: u8, at: usize) -> Answer
     Ok(at + len)
 }
 
-// A record within its limits: the first refusal, or the message's length.
+// A record within its limits: the first refusal, or the message's length. It goes over the same parameters as the writer's put_parts, but a
+// turn is told and gives something else, so one loop over a closure would be no plainer.
 fn parts_refusal(q: Record) -> Answer
     requires { Whole q }
     ensures { result ≡ parts_writing unseen 0 (view q) }

@@ -10,6 +10,8 @@ use annex::{Common, Cursor, Found, Row};
 use octets::octet_at;
 use units::{common_extent_of, extent_of};
 
+// The functions on a cursor take the octets beside it: their promises name both. `rows_in` below holds the two together.
+
 // At the first octet.
 pub fn first() -> Cursor
     ensures { Gives first_cursor result }

@@ -49,7 +49,7 @@ fn put_data(q: Record, first: usize, n: usize, room: &mut [u8]) -> usize
     let len = put_items(q, first, n, &mut room[2..]);
     let whole = len + 2;
     room[0] = Common::TRANSFER_DATA;
-    room[1] = (len % 256) as u8;
+    room[1] = (len % 256) as u8; // modulo 256, as the definition stores it
     whole
 }
 
