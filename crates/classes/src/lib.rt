@@ -159,13 +159,10 @@ fn class_in(header: u8, octet: u8) -> ClassAnswer
 pub fn class_of(header: u8, octet: u8) -> ClassAnswer
     ensures { ClassPromise header octet result }
 {
-    let answer = class_in(header, octet);
-    let Ok(_) = answer else {
-        return answer;
-    };
+    let class = class_in(header, octet)?;
     let asked = head_of(header);
     if octet & asked.zeroes != 0 {
         return Err(Refusal(Refusal::BAD_FORM, 0));
     }
-    answer
+    Ok(class)
 }
