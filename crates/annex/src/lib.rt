@@ -624,7 +624,7 @@ pub struct Charges {
 }
 
 impl Charges {
-    // the kinds, by what they tell
+    // the kinds, by what they tell: numbers and no enum, since a record may hold any octet here
     pub const UNITS_AND_TIMES: u8 = 1;
 
     pub const NO_RATE: u8 = 2;
@@ -785,6 +785,7 @@ pub struct CarrierRow {
 }
 
 impl CarrierRow {
+    // the levels: numbers and no enum, since a table for C holds them as octets
     pub const DIRECTION: u8 = 0;
 
     pub const CARRIER: u8 = 1;

@@ -69,6 +69,7 @@ fn pack_found(m: &[u8], k: Key) -> u64
     }
 }
 
+// The class's number in an answer for C. It stands here and not with the type, whose numbers no other caller knows.
 fn class_value(c: Class) -> usize
     ensures { result ≡ class_value_of c }
 {

@@ -49,7 +49,7 @@ fn open_pairs(s: &[u8]) -> Opened
     Opened { count, class }
 }
 
-// The network that 7E says.
+// The network that 7E says. It is how the profile reads an octet, and no conversion of the type, which stands in annex.
 fn network_of(octet: u8) -> Network
     ensures { result ≡ network_said octet }
 {
@@ -99,6 +99,7 @@ pub fn read(m: &[u8]) -> ProfileReading
     if !keeps(m) {
         return refused(profile_verdict(m));
     }
+    // no `?`, since a reading of a profile is no Result: beside a refusal it has an empty record
     let Reading { answer, record } = reading::read(m);
     let Ok(_) = answer else {
         return refused(answer);

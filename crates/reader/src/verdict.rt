@@ -15,10 +15,7 @@ fn shift(a: Answer, s: usize) -> Answer
     requires { s + place_of a < 18446744073709551616 }
     ensures { result ≡ shifted s a }
 {
-    match a {
-        Ok(n) => Ok(n),
-        Err(Refusal(k, p)) => Err(Refusal(k, s + p)),
-    }
+    a.map_err(|Refusal(k, p)| Refusal(k, s + p))
 }
 
 // Transfer data: accepted with its length, or the first refusal, its place counted from the first octet of t. The place goes on by as many
