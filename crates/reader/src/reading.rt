@@ -79,10 +79,10 @@ impl Filled {
         }
     }
 
-    // With the parameters of the transfer data t put in.
-    fn with_transfers(mut self, t: &[u8]) -> Filled
-        requires { Room self (items_from t.now) }
-        ensures { result ≡ filled_with self.held (items_from t.now) self.transfers self.used }
+    // Puts the parameters of the transfer data t in.
+    fn put_transfers(&mut self, t: &[u8])
+        requires { Room self.old (items_from t.now) }
+        ensures { self.new ≡ filled_with self.old.held (items_from t.now) self.old.transfers self.old.used }
     {
         let mut i = 0;
         while let Some((start, to)) = stretch_at(t, i, extent_of(octet_at(t, i))) {
@@ -92,22 +92,20 @@ impl Filled {
             self.used += x.len as usize;
             i = to;
         }
-        self
     }
 
-    // With a common parameter put in, and the transfer parameters of a C5 with it.
-    fn with_common(mut self, header: u8, own: &[u8], contents: &[u8]) -> Filled
-        requires { (self.held.commons < most_commons) × Room self (items_under header contents.now) }
-        ensures { result ≡ common_with self header own.now contents.now }
+    // Puts a common parameter in, and the transfer parameters of a C5 with it.
+    fn put_common(&mut self, header: u8, own: &[u8], contents: &[u8])
+        requires { (self.old.held.commons < most_commons) × Room self.old (items_under header contents.now) }
+        ensures { self.new ≡ common_with self.old header own.now contents.now }
     {
         let before = self.transfers;
         if header == Common::TRANSFER_DATA {
-            self = self.with_transfers(contents);
+            self.put_transfers(contents);
         }
         let k = self.held.commons as usize;
         self.held.common[k] = part_head(header, own, (self.transfers - before) as u8);
         self.held.commons += 1;
-        self
     }
 }
 
@@ -121,7 +119,7 @@ fn fill(m: &[u8]) -> Record
     while let Some((start, to)) = stretch_at(m, i, common_extent_of(octet_at(m, i))) {
         let header = m[i];
         if header != Common::END_MARK {
-            filled = filled.with_common(header, &m[i + 1..to], &m[start..to]);
+            filled.put_common(header, &m[i + 1..to], &m[start..to]);
         }
         i = to;
     }

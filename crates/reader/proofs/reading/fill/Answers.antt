@@ -32,24 +32,24 @@ loop-start-init c =
 pub bounds-m-i : goal.bounds-m-i
 bounds-m-i c = let w = here (goal.at.bounds-m-i c).In-Some in omega (arith, w.farther, w.within)
 
-pub slice_bounds-with_common-count : goal.slice_bounds-with_common-count
-slice_bounds-with_common-count c = let w = here (goal.at.slice_bounds-with_common-count c).In-Some in omega (arith, w.farther)
+pub slice_bounds-put_common-count : goal.slice_bounds-put_common-count
+slice_bounds-put_common-count c = let w = here (goal.at.slice_bounds-put_common-count c).In-Some in omega (arith, w.farther)
 
-pub slice_bounds-with_common-start : goal.slice_bounds-with_common-start
-slice_bounds-with_common-start c = let w = here (goal.at.slice_bounds-with_common-start c).In-Some in omega (arith, w.farther)
+pub slice_bounds-put_common-start : goal.slice_bounds-put_common-start
+slice_bounds-put_common-start c = let w = here (goal.at.slice_bounds-put_common-start c).In-Some in omega (arith, w.farther)
 
-pub slice_bounds-with_common-end : goal.slice_bounds-with_common-end
-slice_bounds-with_common-end c = (here (goal.at.slice_bounds-with_common-end c).In-Some).within
+pub slice_bounds-put_common-end : goal.slice_bounds-put_common-end
+slice_bounds-put_common-end c = (here (goal.at.slice_bounds-put_common-end c).In-Some).within
 
-pub slice_bounds-with_common-count-then-header-ne-END_MARK : goal.slice_bounds-with_common-count-then-header-ne-END_MARK
-slice_bounds-with_common-count-then-header-ne-END_MARK c = (here (goal.at.slice_bounds-with_common-count-then-header-ne-END_MARK c).In-Some).ordered
+pub slice_bounds-put_common-count-then-header-ne-END_MARK : goal.slice_bounds-put_common-count-then-header-ne-END_MARK
+slice_bounds-put_common-count-then-header-ne-END_MARK c = (here (goal.at.slice_bounds-put_common-count-then-header-ne-END_MARK c).In-Some).ordered
 
-pub slice_bounds-with_common-start-then-header-ne-END_MARK : goal.slice_bounds-with_common-start-then-header-ne-END_MARK
-slice_bounds-with_common-start-then-header-ne-END_MARK c = (here (goal.at.slice_bounds-with_common-start-then-header-ne-END_MARK c).In-Some).ordered
+pub slice_bounds-put_common-start-then-header-ne-END_MARK : goal.slice_bounds-put_common-start-then-header-ne-END_MARK
+slice_bounds-put_common-start-then-header-ne-END_MARK c = (here (goal.at.slice_bounds-put_common-start-then-header-ne-END_MARK c).In-Some).ordered
 
-pub with_common-filled-requires : goal.with_common-filled-requires
-with_common-filled-requires c =
-    let n = next (goal.at.with_common-filled-requires c).In-Some c.if-header-ne-END_MARK.true in
+pub put_common-requires : goal.put_common-requires
+put_common-requires c =
+    let n = next (goal.at.put_common-requires c).In-Some c.if-header-ne-END_MARK.true in
     (n.place, n.room)
 
 pub loop-start-smaller : goal.loop-start-smaller
@@ -66,7 +66,7 @@ loop-start-preserved c =
 
 pub loop-start-preserved-then-header-ne-END_MARK : goal.loop-start-preserved-then-header-ne-END_MARK
 loop-start-preserved-then-header-ne-END_MARK c =
-    rw c.with_common-filled.ensures
+    rw c.put_common.ensures
     (next (goal.at.loop-start-preserved-then-header-ne-END_MARK c).In-Some c.if-header-ne-END_MARK.true).put
 
 pub returns : goal.returns

@@ -10,8 +10,8 @@ use Rattle.annex.specs.Walking.{stretch_at}
 use Rattle.annex.specs.declared.Transfer.{Transfer}
 use Rattle.walk.specs.Stretches.{Whole, stretch_told}
 use Rattle.reader.specs.Filling.{items_left, items_none, items_more, room_more, filled_turn, filled_end}
-use Rattle.reader.proofs.reading.Filled.with_transfers.Goals.{In-Some}
-use Rattle.reader.proofs.reading.Filled.with_transfers.Goals as goal
+use Rattle.reader.proofs.reading.Filled.put_transfers.Goals.{In-Some}
+use Rattle.reader.proofs.reading.Filled.put_transfers.Goals as goal
 
 -- the stretch at i was found, so it lies within the transfer data
 here : (c : In-Some) → Whole extent_of c.args.t.now c.loop-start.i c.in-Some.start c.in-Some.to

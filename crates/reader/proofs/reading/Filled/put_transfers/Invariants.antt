@@ -1,10 +1,10 @@
--- `with_transfers` meets its contract. The invariant: what the struct is to become of the whole transfer data, it becomes of what is left
+-- `put_transfers` meets its contract. The invariant: what the struct is to become of the whole transfer data, it becomes of what is left
 -- of it from i on, for which there is room.
 use Prim.Native.Nat.{◌-◌}
 use mathlib.Core.Path.{◌≡◌}
 use lib.ListN.{length}
 use Rattle.reader.specs.Filling.{Room, items_from, items_left, filled_with}
-use Rattle.reader.proofs.reading.Filled.with_transfers.Given as goal
+use Rattle.reader.proofs.reading.Filled.put_transfers.Given as goal
 
 abbrev pub invariant-loop-start : goal.invariant-loop-start
 invariant-loop-start l =
