@@ -29,7 +29,8 @@ pub fn lies_within(len: usize, at: usize, k: usize) -> bool
 }
 
 // Writes s over d from index at on.
-// A loop, since the library's copy_from_slice between two lent slices calls memmove, and the archive may call memcpy and memset alone (the C header).
+// A loop, since the library's copy_from_slice between two lent slices calls memmove, and the archive may call memcpy and memset alone (the
+// C header).
 fn copy_fitting(d: &mut [u8], at: usize, s: &[u8])
     requires { at + length s.now ≤ length d.old }
     ensures { d.new ≡ put d.old at s.now }
