@@ -218,7 +218,7 @@ rows_turn m c = go (eqb c.at 0) refl
     go false e = in_order (taken_of (order_left m c)) e (known c.at (order_left m c))
 
 -- where there is one, it comes first
-rows_step : (m : List ℕ) (c : Cursor) → 0 < length (order_rows_from m c)
+pub rows_step : (m : List ℕ) (c : Cursor) → 0 < length (order_rows_from m c)
     → order_rows_from m c ≡ order_row_here m c ∷ order_rows_from m (order_next m c)
 rows_step m c h =
     drop-cons (order_rows_from m c) 0 no_row h ∙ ap (λ (l : List Row). order_row_here m c ∷ l) (sym (rows_turn m c))

@@ -1,6 +1,7 @@
 -- The caller's table of octets while the rows of a listing are stored: what is left to store decides what it will hold.
 use Rattle.std.specs.Prelude.{ℕ, ◌+◌, ◌*◌, ◌/◌, ◌≤◌, ◌≡◌, refl, Bool, true, false, List, [], ◌∷◌, ◌++◌, leb, ltb, length, take, drop, Err}
 use Rattle.std.proofs.Common.{arith, sym, ◌∙◌, le-ltb, ltb-false, length-take-le}
+use Rattle.std.proofs.lemmas.List.Edits.{sets}
 use Rattle.annex.specs.Memory.{put}
 use Rattle.annex.specs.Promises.{Stores}
 use Rattle.octets.specs.Copied.{copied_into}
@@ -20,7 +21,7 @@ use Rattle.laws.specs.Runs.{Puts, Left, left_none, all_long, one_stored, one_fit
 
 -- ---- the octets of rows
 
-length-rows : (rs : List Row) → length (rows_octets rs) ≡ octets_to_a_row * length rs
+pub length-rows : (rs : List Row) → length (rows_octets rs) ≡ octets_to_a_row * length rs
 unfolding rows_octets
 length-rows rs = all_long row_octets octets_to_a_row (λ r. refl) rs
 
@@ -35,6 +36,17 @@ unfolding rows_octets
 left_one x ys at now after b l h s =
     let f = one_fits row_octets octets_to_a_row (λ r. refl) x ys at now l h in
     one_stored row_octets octets_to_a_row (λ r. refl) x ys at now l after (copied_into now at (row_octets x) after b f s)
+
+-- the former stored where it stands, for which there is room
+module _ {all : List ℕ} {first : ℕ} {before : List ℕ} (x : Row) (ys : List Row) (at : ℕ) (now : List ℕ)
+    (l : Left all first before (rows_octets (x ∷ ys)) at now) where
+  pub left_put : (after : List ℕ) → after ≡ sets now at (row_octets x) → Left all first before (rows_octets ys) (at + octets_to_a_row) after
+  unfolding rows_octets
+  left_put after e = one_stored row_octets octets_to_a_row (λ r. refl) x ys at now l after e
+
+  pub left_fits_one : first + length all ≤ length before → at + octets_to_a_row ≤ length now
+  unfolding rows_octets
+  left_fits_one h = one_fits row_octets octets_to_a_row (λ r. refl) x ys at now l h
 
 -- none is left
 pub left_over : {all : List ℕ} {first : ℕ} {before : List ℕ} (at : ℕ) (now : List ℕ) → Left all first before (rows_octets []) at now
@@ -84,6 +96,10 @@ module _ {left : Lists} {ahead : Stands} {m : List ℕ} {rows : List Row} {n : �
     (g : Given left ahead m rows (length table / octets_to_a_row) n) where
   pub put_fits : length (rows_octets (left m first_cursor)) ≤ length table
   put_fits = rw g.same (omega (arith, length-rows rows, g.count, g.roomy))
+
+  -- where they end tells how many they are
+  pub put_ends : (now : List ℕ) (r : ℕ) → Puts (rows_octets (left m first_cursor)) 0 table r now → r ≡ n * octets_to_a_row
+  put_ends now r p = let q = rw g.same at p in omega (arith, q.ends, length-rows rows, g.count)
 
   module _ (now : List ℕ) (k : ℕ) (p : Puts (rows_octets (left m first_cursor)) 0 table (k * octets_to_a_row) now) where
     pub put_count : k ≡ n

@@ -106,17 +106,6 @@ fn parameter_row(m: &[u8], c: Cursor) -> Row
     }
 }
 
-// Whether a row is left from a cursor on; one at 0 stands before the form.
-pub(crate) fn is_more(m: &[u8], c: Cursor) -> bool
-    ensures { result ≡ ltb 0 (length (order_rows_from m.now c)) }
-{
-    if c.at == 0 {
-        !left(m, span(m)).is_empty()
-    } else {
-        own_size(left(m, c)).is_some()
-    }
-}
-
 // The row at a cursor; one at 0 stands before the form. The empty row where none is left.
 pub fn row_here(m: &[u8], c: Cursor) -> Row
     ensures { Gives (order_row_here m.now c) result }

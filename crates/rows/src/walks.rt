@@ -1,5 +1,5 @@
 // The two walks that tell rows one by one, each from `walk::cursor::first` on: over a message, and over its connection order.
-ghost use Rattle.std.specs.Prelude.{◌≡◌, ltb, length, ⊤};
+ghost use Rattle.std.specs.Prelude.{◌≡◌, ⊤};
 ghost use Rattle.annex.specs.Ordering.{order_rows_from, order_row_here, order_next};
 ghost use Rattle.annex.specs.Walking.{row_here, next_of};
 ghost use Rattle.rows.specs.Orders.{order_turn};
@@ -20,10 +20,6 @@ pub trait Walk {
     ghost row: { Tells };
 
     ghost behind: { Goes };
-
-    fn is_more(m: &[u8], c: Cursor) -> bool
-        requires { ahead m.now c }
-        ensures { result ≡ ltb 0 (length (left m.now c)) };
 
     fn row_here(m: &[u8], c: Cursor) -> Row
         ensures { result ≡ row m.now c };
@@ -48,10 +44,6 @@ impl Walk for Parameters {
 
     ghost turns = { message_turn };
 
-    fn is_more(m: &[u8], c: Cursor) -> bool {
-        c.at < m.len()
-    }
-
     fn row_here(m: &[u8], c: Cursor) -> Row {
         cursor::row_here(m, c)
     }
@@ -74,10 +66,6 @@ impl Walk for Order {
     ghost behind = { order_next };
 
     ghost turns = { order_turn };
-
-    fn is_more(m: &[u8], c: Cursor) -> bool {
-        opened::is_more(m, c)
-    }
 
     fn row_here(m: &[u8], c: Cursor) -> Row {
         opened::row_here(m, c)

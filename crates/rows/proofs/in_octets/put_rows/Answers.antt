@@ -1,21 +1,30 @@
-use Rattle.std.proofs.Common.{◌∙◌, ◌≡◌, ◌+◌, ◌*◌, arith, sym, ltb-true, ltb-false, drop_of_length-le}
+use Rattle.std.proofs.Common.{◌≡◌, ◌+◌, ◌≤◌, ◌∷◌, arith, length}
 use Rattle.annex.specs.Packed.{octets_to_a_row}
-use Rattle.rows.specs.Tables.{left_one, left_over}
+use Rattle.walk.specs.Ahead.{rows_none, ahead_turn}
+use Rattle.rows.specs.Tables.{left_put, left_over, left_fits_one}
 use Rattle.rows.proofs.in_octets.put_rows.Goals as goal
 
+pub put_row-requires : goal.put_row-requires
+put_row-requires c =
+    let turn = ahead_turn _ _ c.loop-c.invariant.0 c.loop-c-test.true in
+    left_fits_one _ _ _ _ (rw turn.rows at c.loop-c.invariant.1) (omega (arith, c.requires.1))
+
+pub overflow_add-place : goal.overflow_add-place
+overflow_add-place c =
+    let turn = ahead_turn _ _ c.loop-c.invariant.0 c.loop-c-test.true in
+    let left = rw turn.rows at c.loop-c.invariant.1 in
+    omega (arith, left_fits_one _ _ _ _ left (omega (arith, c.requires.1)), left.long)
+
+pub loop-c-smaller : goal.loop-c-smaller
+loop-c-smaller c =
+    let turn = ahead_turn _ _ c.loop-c.invariant.0 c.loop-c-test.true in
+    rw c.next-c.ensures (omega (arith, turn.farther, c.loop-c-test.true))
+
 pub loop-c-preserved : goal.loop-c-preserved
-loop-c-preserved g c =
-    let t = g.met.W.Walk.turns in
-    let m = c.args.m.now in
-    let i = c.loop-c.invariant in
-    let some = ltb-true 0 _ (sym c.is_more.ensures ∙ c.loop-c-test.true) in
-    let l = rw (t.rows m c.loop-c.c i.0 some) at i.1 in
-    let s = rw (c.octets_of.ensures, c.row_here.ensures) at c.copy_in.ensures in
-    let e : c.loop-c.n * octets_to_a_row + octets_to_a_row ≡ (c.loop-c.n + 1) * octets_to_a_row = omega arith in
-    rw c.next-c.ensures (t.again m c.loop-c.c i.0 some, rw e at (left_one _ _ _ _ _ _ l (omega (arith, c.requires.1)) s))
+loop-c-preserved c =
+    let turn = ahead_turn _ _ c.loop-c.invariant.0 c.loop-c-test.true in
+    let left = rw turn.rows at c.loop-c.invariant.1 in
+    rw c.next-c.ensures (turn.again, left_put _ _ _ _ left _ (rw c.row_here.ensures at c.put_row.ensures))
 
 pub returns : goal.returns
-returns g c =
-    let some = ltb-false 0 _ (sym c.is_more.ensures ∙ c.loop-c-test.false) in
-    let none = drop_of_length-le (g.W.Walk.left c.args.m.now c.loop-c.c) {i = 0} some in
-    left_over _ _ (rw none at c.loop-c.invariant.1)
+returns c = left_over _ _ (rw (rows_none _ _ c.loop-c.invariant.0 c.loop-c-test.false) at c.loop-c.invariant.1)
