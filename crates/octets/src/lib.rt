@@ -14,11 +14,11 @@ pub fn octet_at(octets: &[u8], i: usize) -> u8
     octets.get(i).copied().unwrap_or(0)
 }
 
-// The octets from i on, none past the end.
+// The octets from i on, none past the end: a part of s on each input.
 pub fn octets_from(s: &[u8], i: usize) -> &[u8]
     ensures { Gives (drop i s.now) result.now }
 {
-    s.get(i..).unwrap_or(&[])
+    &s[i.min(s.len())..]
 }
 
 // Whether k octets from index at on lie within len octets; at + k may be over 64 bits.
