@@ -11,6 +11,7 @@ ghost use Rattle.from_image.specs.Filling.{fits_at, unfilled, filled_by, Begun, 
 
 use crate::image_heads::{common_head, is_whole, transfer_head};
 use annex::{Common, Imaged, Record, Refusal, Transfer};
+use octets::copy_in;
 use reader::reading::empty;
 
 // A record's struct as far as it is filled in: how many of its transfer parameters and values are, and how many octets were read for it.
@@ -60,11 +61,10 @@ impl Filled {
             let from = self.octets + Imaged::TRANSFER_HEAD;
             let to = from + t.len as usize;
             let used = self.used;
-            let end = used + t.len as usize;
-            self.held.values[used..end].copy_from_slice(&s[from..to]);
+            copy_in(&mut self.held.values, used, &s[from..to]);
             self.held.transfer[self.transfers] = t;
             self.transfers += 1;
-            self.used = end;
+            self.used += t.len as usize;
             self.octets = to;
         }
         Some(self)

@@ -15,7 +15,7 @@ ghost use Rattle.reader.specs.Filling.{items_from};
 ghost use Rattle.image_reader.specs.Laying.{items_under, part_octets};
 
 use annex::{Answer, Common, Imaged, Refusal, Transfer};
-use octets::octet_at;
+use octets::{copy_in, octet_at};
 use parameter::opening::open;
 use reader::reading::part_head;
 use reader::verdict::verdict;
@@ -150,7 +150,7 @@ fn put_short(m: &[u8], image: &mut [u8]) -> Answer
     if image.len() < n {
         return Err(Refusal(Refusal::NO_ROOM, 0));
     }
-    image[..n].copy_from_slice(&written[..n]);
+    copy_in(image, 0, &written[..n]);
     Ok(n)
 }
 

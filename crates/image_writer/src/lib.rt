@@ -16,6 +16,7 @@ use common::laying::lay_head;
 use common::seen::Seen;
 use from_image::image_heads::{common_head, is_whole, transfer_head};
 use layout::{contents_len, lay};
+use octets::copy_in;
 use refusing::{end_refusal, head_refusal, placed};
 
 // Where accepted parameters end: the place behind them in the message, and how many octets of the image they take.
@@ -204,6 +205,6 @@ pub fn write_image(image: &[u8], room: &mut [u8]) -> Answer
     if room.len() < n {
         return Err(Refusal(Refusal::NO_ROOM, 0));
     }
-    room[..n].copy_from_slice(&draft[..n]);
+    copy_in(room, 0, &draft[..n]);
     Ok(n)
 }

@@ -4,12 +4,13 @@ use native.Mathlib.Omega.{arith}
 use mathlib.Core.Path.{◌≡◌, ap, ◌∙◌}
 use mathlib.Core.List.{List}
 use lib.ListN.{length, get_or, take}
-use lib.Seq.{length-take-le}
 use Rattle.annex.specs.Reading.{verdict_of, record_of}
 use Rattle.annex.specs.Image.{image_of, most_image}
 use Rattle.annex.specs.Answers.{Accepted}
+use Rattle.laws.specs.Fronts.{front_all}
 use Rattle.laws.specs.Runs.{puts_long, puts_taken}
 use Rattle.laws.specs.Written.{octets_every}
+use Rattle.octets.specs.Copied.{copied_into}
 use Rattle.theorems.specs.Images.{image_most}
 use Rattle.image_reader.specs.Answering.{read_short, read_done}
 use Rattle.image_reader.proofs.put_short.Goals as goal
@@ -31,19 +32,12 @@ slice_bounds-written-end c =
     let o : (i : ℕ) → get_or c.args.m.now i 0 < 256 = λ i. omega (arith, c.type_inv.m i) in
     omega (arith, c.put_image-n.ensures.ends, puts_long c.put_image-n.ensures, few c.args.m.now o c.requires)
 
-pub slice_bounds-copy_from_slice-end-3 : goal.slice_bounds-copy_from_slice-end-3
-slice_bounds-copy_from_slice-end-3 c =
+pub slice_bounds-copy_in-end : goal.slice_bounds-copy_in-end
+slice_bounds-copy_in-end c =
     let o : (i : ℕ) → get_or c.args.m.now i 0 < 256 = λ i. omega (arith, c.type_inv.m i) in
     let f : take c.put_image-n.result c.put_image-n.new.out ≡ image_of (record_of c.args.m.now) =
     puts_taken c.put_image-n.ensures (few c.args.m.now o c.requires) in
     rw f (omega (arith, c.put_image-n.ensures.ends))
-
-pub copy_from_slice-requires : goal.copy_from_slice-requires
-copy_from_slice-requires c =
-    let o : (i : ℕ) → get_or c.args.m.now i 0 < 256 = λ i. omega (arith, c.type_inv.m i) in
-    let f : take c.put_image-n.result c.put_image-n.new.out ≡ image_of (record_of c.args.m.now) =
-    puts_taken c.put_image-n.ensures (few c.args.m.now o c.requires) in
-    rw f (omega (arith, length-take-le c.put_image-n.result c.args.image.now c.if-image-n.false, c.put_image-n.ensures.ends))
 
 pub returns : goal.returns
 returns c =
@@ -54,4 +48,5 @@ returns c =
     let f : take c.put_image-n.result c.put_image-n.new.out ≡ image = puts_taken c.put_image-n.ensures (few c.args.m.now o c.requires) in
     let fits : length image ≤ length room = omega (arith, long, c.if-image-n.false) in
     let d = read_done c.args.m.now room _ c.requires fits in
-    (ap Accepted long ∙ d.0, rw (c.copy_from_slice.ensures.after ∙ f, long) d.1)
+    let s = copied_into room 0 image c.copy_in.new.d c.copy_in.result (omega arith) (rw f at c.copy_in.ensures) in
+    (ap Accepted long ∙ d.0, s ∙ front_all room image fits ∙ d.1)

@@ -13,8 +13,10 @@ use Rattle.annex.specs.Allowed.{every, is_octet}
 use Rattle.annex.specs.Image.{parts_front}
 use Rattle.annex.specs.Walk.{unseen}
 use Rattle.annex.specs.Answers.{Answer, Accepted}
+use Rattle.laws.specs.Fronts.{front_all}
 use Rattle.laws.specs.Parts.{to_end}
 use Rattle.laws.specs.Written.{octets_every}
+use Rattle.octets.specs.Copied.{copied_into}
 use Rattle.image_writer.specs.Over.{over_by}
 use Rattle.image_writer.specs.Walked.{PartsServed}
 use Rattle.image_writer.specs.Answered.{Gave, none_written, over_written, refused_written, left_written, fit, short_written, done_written}
@@ -88,16 +90,10 @@ message_fits c all l =
 pub slice_bounds-draft-end : goal.slice_bounds-draft-end
 slice_bounds-draft-end c = message_fits (goal.at.slice_bounds-draft-end c).In-Ok c.if-step-s.false (search rules)
 
-pub slice_bounds-copy_from_slice-end-3 : goal.slice_bounds-copy_from_slice-end-3
-slice_bounds-copy_from_slice-end-3 c =
-    let f = message_fits (goal.at.slice_bounds-copy_from_slice-end-3 c).In-Ok c.if-step-s.false (search rules) in
+pub slice_bounds-copy_in-end : goal.slice_bounds-copy_in-end
+slice_bounds-copy_in-end c =
+    let f = message_fits (goal.at.slice_bounds-copy_in-end c).In-Ok c.if-step-s.false (search rules) in
     sym (length-take-le c.in-Ok.step.behind c.lay_parts.new.draft f)
-
-pub copy_from_slice-requires : goal.copy_from_slice-requires
-copy_from_slice-requires c =
-    let f = message_fits (goal.at.copy_from_slice-requires c).In-Ok c.if-step-s.false (search rules) in
-    length-take-le c.in-Ok.step.behind c.args.room.now c.if-room-n.false
-    ∙ sym (length-take-le c.in-Ok.step.behind c.lay_parts.new.draft f)
 
 pub returns : goal.returns
 returns c =
@@ -113,4 +109,8 @@ returns c =
     let w =
     done_written m room some x.behind x.octets d g all o c.if-room-n.false
     (long m room some x.behind x.octets d g all o l) in
-    (w.0, rw c.copy_from_slice.ensures.after w.1)
+    let n = x.behind in
+    let t : length (take n d) ≡ n = length-take-le n d (long m room some n x.octets d g all o l) in
+    let h : length (take n d) ≤ length room = omega (arith, t, c.if-room-n.false) in
+    let s = copied_into room 0 (take n d) c.copy_in.new.d c.copy_in.result (omega (arith, h)) c.copy_in.ensures ∙ front_all room (take n d) h in
+    (w.0, rw (s, t) w.1)

@@ -4,14 +4,13 @@ use mathlib.Core.Path.{◌≡◌, sym, ap, ◌∙◌}
 use mathlib.Core.Bool.{Bool}
 use mathlib.Core.List.{List}
 use borrow.Author.Rules.{rules}
-use borrow.Rule.Slice.PartMut.{put_mid}
 use lib.ListN.{length, take, drop, length-drop}
 use lib.Seq.{sets}
 use Rattle.annex.specs.Heads.{most_values}
 use Rattle.annex.specs.Image.{head_front, items_front, octets_to_a_transfer_head}
 use Rattle.annex.specs.declared.Transfer.{Transfer}
-use Rattle.laws.specs.Fronts.{sets_part}
 use Rattle.laws.specs.Parts.{to_end}
+use Rattle.octets.specs.Copied.{copied_into}
 use Rattle.from_image.specs.Filling.{fits_at, filled_by, has_room_lem, filled_stop, filled_turn, filled_end, values_there}
 use Rattle.from_image.proofs.Filled.with_transfers.Goals as goal
 
@@ -49,13 +48,11 @@ loop-preserved c =
     let head_is : t ≡ head_front d = c.transfer_head-t.ensures ∙ ap head_front (to_end f.octets s) in
     let len_is : t.len ≡ (head_front d).len = ap (λ (t : Transfer). t.len) head_is in
     let m : i + t.len - i ≡ t.len = omega arith in
-    let values : c.copy_from_slice.new.self ≡ take t.len (drop i s) =
-    c.copy_from_slice.ensures.after ∙ ap (λ (k : ℕ). take k (drop i s)) m in
     let long : length f.held.values ≡ most_values = search rules in
     let there : length (take t.len (drop i s)) ≡ t.len = values_there s f.octets t.len (omega (arith, r.whole, len_is)) in
-    let stored : put_mid f.used (f.used + t.len - f.used) f.held.values c.copy_from_slice.new.self
-    ≡ sets f.held.values f.used (take t.len (drop i s)) =
-    rw values (sets_part f.used (f.used + t.len - f.used) f.held.values (take t.len (drop i s)) (omega arith) (omega (arith, r.values))) in (
+    let stored : c.copy_in.new.d ≡ sets f.held.values f.used (take t.len (drop i s)) =
+    copied_into f.held.values f.used (take t.len (drop i s)) c.copy_in.new.d c.copy_in.result (omega (arith, there, long, r.values, len_is))
+    (rw m at c.copy_in.ensures) in (
       record {
         octets = omega (arith, r.whole, length-drop f.octets s, len_is);
         commons = b.commons;
