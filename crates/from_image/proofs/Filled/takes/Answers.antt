@@ -6,6 +6,7 @@ use mathlib.Core.Bool.{Bool, true, false, ◌&&◌}
 use borrow.Author.Tests.{leb-true, le-leb}
 use Rattle.std.proofs.lemmas.Bool.{false≢true}
 use lib.Dec.{leb, ltb}
+use Rattle.std.proofs.lemmas.Bool.Decides.{leb_tells}
 use lib.ListN.{length}
 use Rattle.annex.specs.Heads.{most_transfers, most_values}
 use Rattle.annex.specs.Image.{head_front, item_size}
@@ -30,6 +31,6 @@ returns-then-transfer_head-self c =
           let room = leb-true w.transfer_head.result.len (most_values - f.used) fits in
           let all : fits_at s f.transfers f.used ≡ ltb f.transfers most_transfers =
           rw (whole, le-leb (f.used + (head_front s).len) most_values (omega (arith, len_is))) (and_true (ltb f.transfers most_transfers)) in
-          sym all
+          grind (arith, leb_tells) ∙ sym all
       | else-is_whole w ↦ absurd (false≢true (sym w.if-is_whole.false ∙ sym w.value-is ∙ c.if-transfer_head-self.true))
     ]
