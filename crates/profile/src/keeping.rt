@@ -62,9 +62,12 @@ fn is_enough(network: u8, added: bool) -> bool
 pub fn keeps(m: &[u8]) -> bool
     ensures { result ≡ keeps_plain m.now }
 {
+    // the kind first: in octets of another kind nothing is looked for
+    if signal_kind(m) != Signal::DATA_ENQUIRY {
+        return false;
+    }
     let network = octet_at(contents(m, Transfer::ADJACENT_NETWORK), 0);
-    signal_kind(m) == Signal::DATA_ENQUIRY
-        && is_network(network)
+    is_network(network)
         && stands(m, Transfer::ORIGINATING_REGION)
         && is_enough(network, stands(m, Transfer::ADDED_USER_CLASS))
         && pairs_right(contents(m, Transfer::ADDED_USER_CLASS))

@@ -71,7 +71,7 @@ total-append : (xs ys : List ℕ) → total (xs ++ ys) ≡ total xs + total ys
 total-append [] ys = omega arith
 total-append (x ∷ xs) ys = omega (arith, total-append xs ys)
 
-characters_total : (xs : List ℕ) → total (numbers_drawn (replicate (length xs) Character) xs) ≡ characters_sum xs
+pub characters_total : (xs : List ℕ) → total (numbers_drawn (replicate (length xs) Character) xs) ≡ characters_sum xs
 unfolding numbers_drawn
 characters_total [] = refl
 characters_total (x ∷ xs) = omega (arith, characters_total xs, sum_by-cons (λ y. y % 16) x xs)

@@ -1,6 +1,7 @@
 -- The number that characters make, as the code finds it: digit by digit, and never too large for 16 bits.
 use Prim.Native.Nat.{ℕ, zero, suc, ◌+◌, ◌-◌, ◌*◌, ◌%◌, ◌≤◌, ◌<◌}
-use Rattle.std.proofs.Common.{add-one, ◌∙◌, drop-cons, ◌∷◌, min, take, sym, length-drop}
+use Rattle.std.proofs.Common.{add-one, ◌∙◌, drop-cons, drop_of_length-le, ◌∷◌, min, take, sym, inl, inr}
+use Rattle.std.proofs.lemmas.Bool.{cases_lt}
 use Rattle.std.proofs.lemmas.List.{get_or-take, length-take}
 use native.Mathlib.Omega.{arith}
 use Rattle.std.specs.Prelude.{◌≡◌, length, get_or, drop, replicate}
@@ -27,14 +28,25 @@ module _ (n w i : ℕ) (s : List ℕ) where
       ∙ (ap (characters_after n (suc (w - (i + 1)))) p
       ∙ ap (λ y. characters_after (10 * n + y % 16) (w - (i + 1)) (drop (i + 1) s)) (sym d))
 
-  pub digits_end : i ≡ length (take w s) → characters_after n (w - i) (drop i s) ≡ n
+  pub digits_end : length s ≤ i → characters_after n (w - i) (drop i s) ≡ n
   unfolding decimal numbers_drawn
-  digits_end h = by_end (w - i) (drop i s) (omega (arith, length-take w s, length-drop i s))
+  digits_end l = rw (drop_of_length-le s {i = i} l) (none_left (w - i))
     where
-      by_end : (k : ℕ) (xs : List ℕ) → min k (length xs) ≡ 0 → characters_after n k xs ≡ n
-      by_end zero xs z = refl
-      by_end (suc k) [] z = refl
-      by_end (suc k) (x ∷ xs) z = absurd (omega arith)
+      none_left : (k : ℕ) → characters_after n k [] ≡ n
+      none_left zero = refl
+      none_left (suc k) = refl
+
+  pub digits_done : w ≤ i → characters_after n (w - i) (drop i s) ≡ n
+  unfolding decimal numbers_drawn
+  digits_done h = let e : w - i ≡ 0 = omega arith in rw e
+
+  -- past the last of those that are taken
+  pub digits_taken : i ≡ length (take w s) → characters_after n (w - i) (drop i s) ≡ n
+  digits_taken h =
+      elim (cases_lt (length s) w) [
+        | inl l ↦ digits_end (omega (arith, h, length-take w s, l))
+        | inr l ↦ digits_done (omega (arith, h, length-take w s, l))
+      ]
 
 -- the most that i characters make, whatever octets they are
 abbrev pub most : ℕ → ℕ

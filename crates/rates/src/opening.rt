@@ -1,7 +1,7 @@
 // What charging information says: its fields as whole numbers.
 ghost use Rattle.std.specs.Prelude.{◌≡◌, ◌≤◌, replicate};
 ghost use Rattle.annex.specs.Promises.{Gives};
-ghost use Rattle.annex.specs.Rates.{field_row, numbers_drawn, decimal, field_in, charges_of};
+ghost use Rattle.annex.specs.Rates.{field_row, numbers_drawn, decimal, kind_in, field_in, charges_of};
 ghost use Rattle.annex.specs.declared.Drawn.TheVariants.{Character};
 ghost use Rattle.rates.specs.Starts.{starts_of};
 
@@ -76,12 +76,12 @@ fn characters(s: &[u8], width: usize) -> u16
     number
 }
 
-// A field of the contents, 0 where their kind does not have it.
-fn field_in(s: &[u8], f: Field) -> u16
+// A field of the contents, 0 where their kind does not have it, by where the fields of that kind start.
+fn field_in(s: &[u8], starts: &[u8; 11], f: Field) -> u16
+    requires { starts.now ≡ starts_of (kind_in s.now) }
     ensures { result ≡ field_in f s.now }
 {
     let asked = row_of(f);
-    let starts = starts_of(octet_at(s, Charges::KIND_AT));
     let start = starts[asked.place] as usize;
     if start == 0 {
         return 0;
@@ -98,18 +98,21 @@ fn field_in(s: &[u8], f: Field) -> u16
 pub fn charges(s: &[u8]) -> Charges
     ensures { Gives (charges_of s.now) result }
 {
+    let kind = octet_at(s, Charges::KIND_AT);
+    // looked up once: at each field it costs more than the fields do
+    let starts = starts_of(kind);
     Charges {
-        kind: octet_at(s, Charges::KIND_AT),
-        unit_fee: field_in(s, Field::UnitFee),
-        initial_units: field_in(s, Field::InitialUnits),
-        day: field_in(s, Field::Day),
-        night: field_in(s, Field::Night),
-        late_night_1: field_in(s, Field::LateNight1),
-        late_night_2: field_in(s, Field::LateNight2),
-        mbi: field_in(s, Field::Mbi),
-        information_interval: field_in(s, Field::InformationInterval),
-        information_units: field_in(s, Field::InformationUnits),
-        free_time: field_in(s, Field::FreeTime),
-        check_digit: field_in(s, Field::CheckDigit),
+        kind,
+        unit_fee: field_in(s, &starts, Field::UnitFee),
+        initial_units: field_in(s, &starts, Field::InitialUnits),
+        day: field_in(s, &starts, Field::Day),
+        night: field_in(s, &starts, Field::Night),
+        late_night_1: field_in(s, &starts, Field::LateNight1),
+        late_night_2: field_in(s, &starts, Field::LateNight2),
+        mbi: field_in(s, &starts, Field::Mbi),
+        information_interval: field_in(s, &starts, Field::InformationInterval),
+        information_units: field_in(s, &starts, Field::InformationUnits),
+        free_time: field_in(s, &starts, Field::FreeTime),
+        check_digit: field_in(s, &starts, Field::CheckDigit),
     }
 }

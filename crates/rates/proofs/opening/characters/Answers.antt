@@ -3,7 +3,7 @@ use Rattle.std.proofs.lemmas.List.{length_push, length-take}
 use Rattle.std.proofs.lemmas.Iterator.{YieldsList-from_slice, YieldsList-from_take}
 use Rattle.std.proofs.lemmas.Iterator.Consumers.{YieldsList-turn, YieldsList-end}
 use Rattle.annex.specs.Rates.{decimal}
-use Rattle.rates.specs.Characters.{digit_more, digits_end, most_next, most_small}
+use Rattle.rates.specs.Characters.{digit_more, digits_taken, most_next, most_small}
 use Rattle.rates.proofs.opening.characters.Goals as goal
 
 pub overflow_add-number : goal.overflow_add-number
@@ -28,4 +28,4 @@ loop-x-preserved c =
 pub returns : goal.returns
 returns c =
     let t = YieldsList-end (YieldsList-from_take c.args.width (YieldsList-from_slice c.args.s.now cc) cc) c.loop-x.yielded _ c.loop-x.yielded_by _ _ c.in-None.is c.next.ensures.steps in
-    sym (digits_end c.loop-x.number c.args.width _ c.args.s.now t.1) ∙ c.loop-x.invariant.whole
+    sym (digits_taken c.loop-x.number c.args.width _ c.args.s.now t.1) ∙ c.loop-x.invariant.whole

@@ -49,8 +49,7 @@ pub returns-then-start-eq0 : goal.returns-then-start-eq0
 returns-then-start-eq0 c =
     let a = c.args in
     let start =
-    start_is a.f (kind_in a.s.now) c.row_of-asked.result.place c.starts_of-starts.result
-    (c.starts_of-starts.ensures ∙ ap starts_of c.octet_at.ensures) c.row_of-asked.ensures.0 in
+    start_is a.f (kind_in a.s.now) c.row_of-asked.result.place a.starts.now c.requires c.row_of-asked.ensures.0 in
     sym (field_none a.f a.s.now (sym start ∙ c.if-start-eq0.true))
 
 pub characters-requires : goal.characters-requires
@@ -61,8 +60,7 @@ pub returns-in-Character : goal.returns-in-Character
 returns-in-Character c =
     let a = c.args in
     let start =
-    start_is a.f (kind_in a.s.now) c.row_of-asked.result.place c.starts_of-starts.result
-    (c.starts_of-starts.ensures ∙ ap starts_of c.octet_at.ensures) c.row_of-asked.ensures.0 in
+    start_is a.f (kind_in a.s.now) c.row_of-asked.result.place a.starts.now c.requires c.row_of-asked.ensures.0 in
     let drawn : Character ≡ drawn_as a.f = sym c.in-Character.is ∙ c.row_of-asked.ensures.1 in
     c.characters.ensures
     ∙ (ap (λ w. decimal 0 (numbers_drawn (replicate w Character) c.octets_from-octets.result.now)) c.row_of-asked.ensures.2
@@ -73,10 +71,9 @@ returns-in-Halves c =
     let a = c.args in
     let d = c.row_of-asked.result.drawn in
     let start =
-    start_is a.f (kind_in a.s.now) c.row_of-asked.result.place c.starts_of-starts.result
-    (c.starts_of-starts.ensures ∙ ap starts_of c.octet_at.ensures) c.row_of-asked.ensures.0 in
+    start_is a.f (kind_in a.s.now) c.row_of-asked.result.place a.starts.now c.requires c.row_of-asked.ensures.0 in
     c.number_in.ensures
-    ∙ (ap (λ x. decimal 0 (numbers_in d x)) c.octet_at-in-Halves.ensures
+    ∙ (ap (λ x. decimal 0 (numbers_in d x)) c.octet_at.ensures
     ∙ alone a.f a.s.now c.octets_from-octets.result.now d _ start c.if-start-eq0.false c.octets_from-octets.ensures c.row_of-asked.ensures.1
     (λ w.
     elim c.in-Halves.is [
