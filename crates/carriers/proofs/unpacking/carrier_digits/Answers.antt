@@ -62,8 +62,7 @@ digits_at-requires c =
     let m = c.args.m.now in
     let f = c.in_ok-s.ensures in
     let form = formed m c.args.which _ c.in_ok-s.s.now (λ i. omega (arith, c.type_inv.m i)) f.answer f.part in
-    let r = there _ form _ c.in-Some.c (sym c.in-Some.is ∙ row_at c.in_ok-s.s.now c.entries.result c.nth.new.self _ c.nth.result c.entries.ensures c.nth.ensures.ran) in
-    (r.going, r.here)
+    (there _ form _ c.in-Some.c (sym c.in-Some.is ∙ row_at c.in_ok-s.s.now c.entries.result c.nth.new.self _ c.nth.result c.entries.ensures c.nth.ensures.ran)).going
 
 pub returns : goal.returns
 returns c =
