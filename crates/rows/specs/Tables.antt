@@ -20,20 +20,26 @@ use Rattle.laws.specs.Runs.{Puts, Left, left_none, all_long, one_stored, one_fit
 
 -- ---- the octets of rows
 
-length-rows : (rs : List Row) → length (rows_octets rs) ≡ octets_to_a_row * length rs
+pub length-rows : (rs : List Row) → length (rows_octets rs) ≡ octets_to_a_row * length rs
 unfolding rows_octets
 length-rows rs = all_long row_octets octets_to_a_row (λ r. refl) rs
 
 -- ---- stored
 
--- of the octets to be stored, those of the row x and of the rows ys are left, and the copy of the former is asked for
+-- of the octets to be stored, those of the row x and of the rows ys are left: there is room for the former
+pub left_fits_one : {all : List ℕ} {first : ℕ} {before : List ℕ} (x : Row) (ys : List Row) (at : ℕ) (now : List ℕ)
+    → Left all first before (rows_octets (x ∷ ys)) at now → first + length all ≤ length before → at + octets_to_a_row ≤ length now
+unfolding rows_octets
+left_fits_one x ys at now l h = one_fits row_octets octets_to_a_row (λ r. refl) x ys at now l h
+
+-- and their copy is asked for
 pub left_one : {all : List ℕ} {first : ℕ} {before : List ℕ} (x : Row) (ys : List Row) (at : ℕ) (now after : List ℕ) (b : Bool)
     → Left all first before (rows_octets (x ∷ ys)) at now → first + length all ≤ length before
     → Stores (leb (at + length (row_octets x)) (length now)) (put now at (row_octets x)) now b after
     → Left all first before (rows_octets ys) (at + octets_to_a_row) after
 unfolding rows_octets
 left_one x ys at now after b l h s =
-    let f = one_fits row_octets octets_to_a_row (λ r. refl) x ys at now l h in
+    let f = left_fits_one x ys at now l h in
     one_stored row_octets octets_to_a_row (λ r. refl) x ys at now l after (copied_into now at (row_octets x) after b f s)
 
 -- none is left
@@ -45,7 +51,7 @@ left_over at now l = left_none l refl
 -- ---- what a listing answers
 
 -- the answer, by whether the room is too small for its rows
-abbrev answer_after : Answer → Bool → List Row → Answer
+abbrev pub answer_after : Answer → Bool → List Row → Answer
 answer_after a short rows = and_then a (λ _. refuse short no_room 0 (Accepted (length rows)))
 
 -- an accepted one, by the answer before the room is asked for: that is accepted, and there is room for the rows
