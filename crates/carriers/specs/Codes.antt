@@ -17,7 +17,7 @@ use Rattle.laws.specs.Bools.{and_left}
 use Rattle.laws.specs.Entries.{code_long}
 use Rattle.laws.specs.Fronts.{front_all}
 use Rattle.entries.specs.Left.{entry_sized, entries_left, entries_first_left, entries_past, here, entry_here, held_here}
-use Rattle.carriers.specs.Rows.{Going, Reached, right_here, entries_next}
+use Rattle.carriers.specs.Rows.{Going, right_here, entries_next}
 
 -- the entry at a cursor
 abbrev pub entry_at : List ℕ → Cursor → Entry
@@ -140,10 +140,11 @@ module _ (m : List ℕ) (which p : ℕ) (e : find_answer m (carriers_found which
         let z : row - 1 + 0 ≡ row - 1 = omega arith in
         behind row n ∙ sym (ap (λ (xs : List Entry). get_or xs 0 no_entry) h ∙ get_or-drop (row - 1) (entries_left s first_entry) 0 no_entry ∙ rw z)
 
-    pub digits_told : (c : Cursor) → Reached s (row - 1) c → (room : List ℕ) (r : Answer) (now : List ℕ) → DigitsTold s c room r now
+    pub digits_told : (c : Cursor) → entries_left s c ≡ drop (row - 1) (entries_left s first_entry)
+        → (room : List ℕ) (r : Answer) (now : List ℕ) → DigitsTold s c room r now
         → (r ≡ digits_answer m which row (length room)) × (now ≡ digits_given m which row room)
     unfolding digits_answer digits_given
-    digits_told c h room r now t = let same = found (entries_left s c) h.left in (t.0 ∙ rw (e, same), t.1 ∙ rw (e, same))
+    digits_told c h room r now t = let same = found (entries_left s c) h in (t.0 ∙ rw (e, same), t.1 ∙ rw (e, same))
 
     -- behind the last there is none
     pub digits_past : length (entries_left s first_entry) ≤ row - 1 → (room : List ℕ)
