@@ -1,6 +1,7 @@
 // The carriers of a message (CC), told beside its record: a row to the direction and one to each entry, eight octets each.
 #![tactic(auto)]
 
+pub mod part;
 pub mod unpacking;
 
 ghost use Rattle.std.specs.Prelude.{◌≡◌, true, cond, ◌+◌, ◌*◌, ◌^◌, ◌≤◌, ◌<◌, length, get_or};

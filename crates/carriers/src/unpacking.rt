@@ -1,5 +1,4 @@
 // The digits of a carrier code, by the row that it has in the listing.
-ghost use Rattle.std.specs.Prelude.{◌<◌, length};
 ghost use Rattle.annex.specs.Promises.{CarrierDigitsPromise};
 ghost use Rattle.carriers.specs.Codes.{DigitsTold};
 ghost use Rattle.carriers.specs.Rows.{Going};
@@ -14,7 +13,7 @@ use reader::finding::find_both;
 
 // The digits of the entry at a cursor: 16 where it holds no code, then 15.
 fn digits_at(s: &[u8], c: Cursor, out: &mut [u8]) -> Answer
-    requires { Going s.now c × (c.at < length s.now) }
+    requires { Going s.now c }
     ensures { DigitsTold s.now c out.old result out.new }
 {
     if !is_code(s, c) {

@@ -9,7 +9,8 @@ use lib.Dec.{eqb, ltb}
 use lib.ListN.{length, get_or, drop, drop_of_length-le}
 use lib.Seq.{drop-cons}
 use Rattle.annex.specs.Answers.{bad_digit, Sound, Bad}
-use Rattle.annex.specs.Digits.{is_code, halves_fault}
+use Rattle.annex.specs.Digits.{halves, is_code, halves_fault, digits_fault}
+use Rattle.annex.specs.declared.HalfOctets.{HalfOctets}
 use Rattle.annex.specs.declared.Alphabet.{Alphabet}
 use Rattle.laws.specs.Halves.{first_left, half_turn}
 
@@ -25,3 +26,8 @@ halves_turn z n i p hs l =
 pub halves_end : (z : Alphabet) (n i p : ℕ) (hs : List ℕ) → length hs ≤ i → halves_fault z n p (drop i hs) ≡ Sound
 unfolding halves_fault
 halves_end z n i p hs l = rw (drop_of_length-le hs)
+
+-- past the end of the octets there is no half-octet
+pub digits_none : (z : Alphabet) (n : HalfOctets) (at i : ℕ) (s : List ℕ) → length s ≤ i → digits_fault z n at (drop i s) ≡ Sound
+unfolding digits_fault halves_fault halves
+digits_none z n at i s l = rw (drop_of_length-le s)

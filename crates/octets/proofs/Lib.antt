@@ -1,3 +1,4 @@
 -- What the proofs of several functions share.
 pub mod Puts
 pub mod Steps
+pub mod Turns

@@ -1,7 +1,7 @@
 -- The rows of a connection order from a cursor on, by the length rule alone, in octets of any kind: `row_here` gives the first of them, and
 -- behind `next` the others are left. In an accepted message those from the first cursor on are the rows of its order.
 use Rattle.std.specs.Prelude.{ℕ, zero, suc, ◌+◌, ◌-◌, ◌≤◌, ◌<◌, ◌≡◌, refl, Bool, true, false, cond, List, [], ◌∷◌, eqb, leb, ltb, length, get_or, take, drop, Err, Option, Some, None, is_some, ⊤, not}
-use Rattle.std.proofs.Common.{zero-add, add-one, arith, sym, ap, ◌∙◌, leb-true, le-ltb, lt-ltb, leb-false, ne_eqb, length-take, length-drop, drop_of_length-le, drop-drop, drop-cons, length-take-le}
+use Rattle.std.proofs.Common.{zero-add, add-zero, add-one, arith, sym, ap, ◌∙◌, leb-true, le-ltb, lt-ltb, leb-false, ne_eqb, length-take, length-drop, drop_of_length-le, drop-drop, drop-cons, get_or-drop, take_all, length-take-le}
 use Rattle.std.specs.Bool.{then_some}
 use Rattle.std.proofs.lemmas.Bool.{lt-leb}
 use Rattle.std.proofs.lemmas.List.{length-map}
@@ -30,12 +30,14 @@ use Rattle.annex.specs.declared.Cursor.{Cursor}
 use Rattle.annex.specs.declared.Key.TheVariants.{Name}
 use Rattle.annex.specs.declared.Row.{Row}
 use Rattle.laws.specs.Finding.{Inside, plain_inside, transfer_plain_lem}
+use Rattle.laws.specs.Listed.{rows_after}
 use Rattle.laws.specs.Orders.{after_some}
 use Rattle.laws.specs.Parts.{from_to}
 use Rattle.laws.specs.Plain.{pars_skip, pars_moved}
 use Rattle.laws.specs.Rows.{Accepts}
+use Rattle.walk.specs.Cursors.{cursor_at}
 use Rattle.rows.specs.Tables.{Given, listing}
-use Rattle.rows.specs.Walks.{Turns}
+use Rattle.rows.specs.Walks.{Turns, told}
 
 -- ---- the first parameter of octets
 
@@ -170,8 +172,12 @@ count_turn xs i k e =
 
 -- ---- a turn
 
+-- up to the end of the message
+pub left_all : (m : List ℕ) (at : ℕ) → order_left m (cursor_to at (length m)) ≡ drop at m
+left_all m at = rw (le-ltb (length m) (length m) (omega arith), take_all (length m) m (omega arith))
+
 -- what is left lies within the message
-left_long : (m : List ℕ) (c : Cursor) → length (order_left m c) ≤ length m - c.at
+pub left_long : (m : List ℕ) (c : Cursor) → length (order_left m c) ≤ length m - c.at
 left_long m c = go (ltb (length m) c.end)
   where
     go : (b : Bool) → length (cond b [] (drop c.at (take c.end m))) ≤ length m - c.at
@@ -191,12 +197,17 @@ left_more m at end n = go (ltb (length m) end)
     go false = sym (drop-drop n at (take end m))
 
 -- nothing is left at the end or past it
-left_past : (m : List ℕ) (at end : ℕ) → end ≤ at → order_left m (cursor_to at end) ≡ []
+pub left_past : (m : List ℕ) (at end : ℕ) → end ≤ at → order_left m (cursor_to at end) ≡ []
 left_past m at end h = go (ltb (length m) end)
   where
     go : (b : Bool) → cond b [] (drop at (take end m)) ≡ []
     go true = refl
     go false = let l : length (take end m) ≤ at = simp length-take (omega arith) in drop_of_length-le (take end m) {i = at} l
+
+-- the cursor behind a parameter that is not cut
+pub behind_more : (c : Cursor) (n : ℕ) → (n ≡ 0 → ⊥) → order_behind c n ≡ cursor_to (c.at + n) c.end
+behind_more c zero h = absurd (h refl)
+behind_more c (suc n) h = refl
 
 -- behind the first row the others are left
 rows_turn : (m : List ℕ) (c : Cursor) → order_rows_from m (order_next m c) ≡ drop 1 (order_rows_from m c)
@@ -227,6 +238,18 @@ rows_step m c h =
 pub order_turn : Turns order_rows_from (λ m c. ⊤) order_row_here order_next
 order_turn = record { rows = λ m c a h. rows_step m c h; again = λ m c a h. tt }
 
+-- behind k rows, also where there are fewer
+rows_behind : (m : List ℕ) (k : ℕ) → order_rows_from m (cursor_at (order_next m) k) ≡ drop k (order_rows_plain m)
+unfolding cursor_at order_rows_from
+rows_behind m zero = refl
+rows_behind m (suc k) =
+    rows_turn m (cursor_at (order_next m) k) ∙ ap (drop 1) (rows_behind m k) ∙ drop-drop 1 k (order_rows_plain m)
+    ∙ rw (add-one k)
+
+row_behind : (m : List ℕ) (k : ℕ) → order_row_here m (cursor_at (order_next m) k) ≡ get_or (order_rows_plain m) k no_row
+row_behind m k =
+    ap (λ (l : List Row). get_or l 0 no_row) (rows_behind m k) ∙ get_or-drop k (order_rows_plain m) 0 no_row ∙ rw (add-zero k)
+
 -- ---- of a message
 
 -- E0's contents lie within it
@@ -254,12 +277,12 @@ rows_plain m a =
     rw (found, a.1, le-ltb (length m) s.end (span_within m).1, from_to s.at s.end m)
 
 -- those from the first cursor on
-rows_first : (m : List ℕ) (q : ℕ) → find_answer m (order_found m) ≡ Accepted q → order_rows_from m first_cursor ≡ order_rows_of m
+pub rows_first : (m : List ℕ) (q : ℕ) → find_answer m (order_found m) ≡ Accepted q → order_rows_from m first_cursor ≡ order_rows_of m
 unfolding order_rows_from
 rows_first m q e = sym (rows_plain m (found_accepts m q e))
 
 -- they are as many as its contents have
-rows_long : (m : List ℕ) → length (order_rows_of m) ≡ length (order_listing 0 (find_part m (order_found m)))
+pub rows_long : (m : List ℕ) → length (order_rows_of m) ≡ length (order_listing 0 (find_part m (order_found m)))
 unfolding order_rows_of
 rows_long m = listing_long (start_of (order_found m)) (find_part m (order_found m))
 
@@ -273,3 +296,17 @@ unfolding order_answer
 order_given m room n a e f =
     let l = listing (find_answer m (order_found m)) (order_rows_of m) room n (sym e ∙ f) in
     record { stands = tt; same = rows_first m l.accepts.0 l.accepts.1; count = l.count; roomy = omega (arith, l.count, l.roomy) }
+
+-- the rows that its listing gives, none where it refuses
+abbrev pub order_listed : List ℕ → List Row
+order_listed m = rows_after (find_answer m (order_found m)) (order_rows_of m)
+
+-- row k is told at the cursor behind k rows
+pub row_told : (m : List ℕ) (k : ℕ) → k < length (order_listed m)
+    → order_row_here m (cursor_at (order_next m) k) ≡ get_or (order_listed m) k no_row
+row_told m k h = go (find_answer m (order_found m)) refl h
+  where
+    go : (a : Answer) → find_answer m (order_found m) ≡ a → k < length (rows_after a (order_rows_of m))
+        → order_row_here m (cursor_at (order_next m) k) ≡ get_or (rows_after a (order_rows_of m)) k no_row
+    go (Accepted q) e l = let s = rows_first m q e in rw s at (told order_turn m tt k (rw s l))
+    go (Err r) e l = absurd (omega arith)

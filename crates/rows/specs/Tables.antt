@@ -27,15 +27,29 @@ length-rows rs = all_long row_octets octets_to_a_row (λ r. refl) rs
 
 -- ---- stored
 
--- of the octets to be stored, those of the row x and of the rows ys are left, and the copy of the former is asked for
+-- where they end tells how many they are
+pub put_ended : (rows : List Row) (before : List ℕ) (r : ℕ) (after : List ℕ) → Puts (rows_octets rows) 0 before r after
+    → r / octets_to_a_row ≡ length rows
+put_ended rows before r after p = omega (arith, p.ends, length-rows rows)
+
+-- of the octets to be stored, those of the row x and of the rows ys are left
+module _ {all : List ℕ} {first : ℕ} {before : List ℕ} (x : Row) (ys : List Row) (at : ℕ) (now : List ℕ)
+    (l : Left all first before (rows_octets (x ∷ ys)) at now) where
+  pub left_stored : (after : List ℕ) → after ≡ sets now at (row_octets x) → Left all first before (rows_octets ys) (at + octets_to_a_row) after
+  unfolding rows_octets
+  left_stored after e = one_stored row_octets octets_to_a_row (λ r. refl) x ys at now l after e
+
+  pub left_fits_one : first + length all ≤ length before → at + octets_to_a_row ≤ length now
+  unfolding rows_octets
+  left_fits_one h = one_fits row_octets octets_to_a_row (λ r. refl) x ys at now l h
+
+-- and the copy of the former is asked for
 pub left_one : {all : List ℕ} {first : ℕ} {before : List ℕ} (x : Row) (ys : List Row) (at : ℕ) (now after : List ℕ) (b : Bool)
     → Left all first before (rows_octets (x ∷ ys)) at now → first + length all ≤ length before
     → Stores (leb (at + length (row_octets x)) (length now)) (put now at (row_octets x)) now b after
     → Left all first before (rows_octets ys) (at + octets_to_a_row) after
-unfolding rows_octets
 left_one x ys at now after b l h s =
-    let f = one_fits row_octets octets_to_a_row (λ r. refl) x ys at now l h in
-    one_stored row_octets octets_to_a_row (λ r. refl) x ys at now l after (copied_into now at (row_octets x) after b f s)
+    left_stored x ys at now l after (copied_into now at (row_octets x) after b (left_fits_one x ys at now l h) s)
 
 -- the former stored where it stands, for which there is room
 module _ {all : List ℕ} {first : ℕ} {before : List ℕ} (x : Row) (ys : List Row) (at : ℕ) (now : List ℕ)
@@ -57,7 +71,7 @@ left_over at now l = left_none l refl
 -- ---- what a listing answers
 
 -- the answer, by whether the room is too small for its rows
-abbrev answer_after : Answer → Bool → List Row → Answer
+abbrev pub answer_after : Answer → Bool → List Row → Answer
 answer_after a short rows = and_then a (λ _. refuse short no_room 0 (Accepted (length rows)))
 
 -- an accepted one, by the answer before the room is asked for: that is accepted, and there is room for the rows
@@ -74,6 +88,17 @@ listing before rows room n e = go before (ltb room (length rows)) (ltb-false roo
     go (Accepted q) true h g = absurd (let z : ◌≡◌ {A = ℕ} 0 1 = cc in omega arith)
     go (Accepted q) false h g = let c : n ≡ length rows = cc in record { accepts = (q, refl); count = c; roomy = h refl }
     go (Err r) b h g = absurd (let z : ◌≡◌ {A = ℕ} 0 1 = cc in omega arith)
+
+-- the table of octets after it
+module _ {before : Answer} {rows : List Row} {n : ℕ} (table : List ℕ) (l : Roomy before rows (length table / octets_to_a_row) n) where
+  pub listing_fits : length (rows_octets rows) ≤ length table
+  listing_fits = omega (arith, length-rows rows, l.roomy)
+
+  pub listing_put : (now : List ℕ) (r : ℕ) → Puts (rows_octets rows) 0 table r now
+      → now ≡ octets_by octets_to_a_row (Accepted n) (rows_octets rows) table
+  listing_put now r p =
+      let k : length (rows_octets rows) ≡ octets_to_a_row * n = omega (arith, length-rows rows, l.count) in
+      rw (p.put, front_all table (rows_octets rows) listing_fits, k)
 
 -- an accepted one of the rows of a walk: the walk tells these rows from the first cursor on, as many as are answered
 pub record Given (left : Lists) (ahead : Stands) (m : List ℕ) (rows : List Row) (room n : ℕ) : Type 0 where
@@ -94,8 +119,11 @@ module _ {left : Lists} {ahead : Stands} {m : List ℕ} {rows : List Row} {n : �
 -- the table of octets after it
 module _ {left : Lists} {ahead : Stands} {m : List ℕ} {rows : List Row} {n : ℕ} (table : List ℕ)
     (g : Given left ahead m rows (length table / octets_to_a_row) n) where
+  room_known : Roomy (Accepted n) rows (length table / octets_to_a_row) n
+  room_known = record { accepts = (n, refl); count = g.count; roomy = omega (arith, g.count, g.roomy) }
+
   pub put_fits : length (rows_octets (left m first_cursor)) ≤ length table
-  put_fits = rw g.same (omega (arith, length-rows rows, g.count, g.roomy))
+  put_fits = rw g.same (listing_fits table room_known)
 
   -- where they end tells how many they are
   pub put_ends : (now : List ℕ) (r : ℕ) → Puts (rows_octets (left m first_cursor)) 0 table r now → r ≡ n * octets_to_a_row
@@ -103,14 +131,10 @@ module _ {left : Lists} {ahead : Stands} {m : List ℕ} {rows : List Row} {n : �
 
   module _ (now : List ℕ) (k : ℕ) (p : Puts (rows_octets (left m first_cursor)) 0 table (k * octets_to_a_row) now) where
     pub put_count : k ≡ n
-    put_count = let q = rw g.same at p in omega (arith, q.ends, length-rows rows, g.count)
+    put_count = let e = put_ended rows table (k * octets_to_a_row) now (rw g.same at p) in omega (arith, e, g.count)
 
     pub table_put : now ≡ octets_by octets_to_a_row (Accepted n) (rows_octets rows) table
-    table_put =
-        let q = rw g.same at p in
-        let f : length (rows_octets rows) ≤ length table = rw g.same at put_fits in
-        let k : length (rows_octets rows) ≡ octets_to_a_row * n = omega (arith, length-rows rows, g.count) in
-        rw (q.put, front_all table (rows_octets rows) f, k)
+    table_put = listing_put table room_known now (k * octets_to_a_row) (rw g.same at p)
 
 -- either after a refused one
 pub room_kept : (a : Answer) (rows table : List Row) (k p : ℕ) → a ≡ Refused k p → table ≡ room_after a rows table

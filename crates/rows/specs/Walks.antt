@@ -1,11 +1,11 @@
 -- What a walk over rows keeps: from each cursor a row is told, and behind it the others are left. The rows of a message are such a walk.
-use Rattle.std.specs.Prelude.{ℕ, ◌<◌, ◌≡◌, refl, Bool, true, false, List, ◌∷◌, ltb, length}
-use Rattle.std.proofs.Common.{arith, sym, ap, lt-ltb, ltb-true, ltb-false}
-use Rattle.annex.specs.Walking.{row_here, next_of}
+use Rattle.std.specs.Prelude.{ℕ, zero, suc, ◌≤◌, ◌<◌, ◌≡◌, refl, Bool, true, false, List, ◌∷◌, ltb, length, get_or, drop}
+use Rattle.std.proofs.Common.{arith, sym, ap, ◌∙◌, lt-ltb, ltb-true, ltb-false, length-drop, drop-cons}
+use Rattle.annex.specs.Walking.{first_cursor, no_row, row_here, next_of}
 use Rattle.annex.specs.declared.Cursor.{Cursor}
 use Rattle.annex.specs.declared.Row.{Row}
 use Rattle.walk.specs.Ahead.{Ahead, ahead_turn, rows_none}
-use Rattle.walk.specs.Cursors.{rows_from}
+use Rattle.walk.specs.Cursors.{cursor_at, rows_from}
 
 -- of octets and a cursor: the rows from there on, whether it may stand there, the first of the rows, and the cursor behind that
 abbrev pub Lists : Type 0
@@ -24,6 +24,34 @@ Goes = List ℕ → Cursor → Cursor
 pub record Turns (left : Lists) (ahead : Stands) (row : Tells) (behind : Goes) : Type 0 where
   pub rows : (m : List ℕ) (c : Cursor) → ahead m c → 0 < length (left m c) → left m c ≡ row m c ∷ left m (behind m c)
   pub again : (m : List ℕ) (c : Cursor) → ahead m c → 0 < length (left m c) → ahead m (behind m c)
+
+-- ---- row by row
+
+module _ {left : Lists} {ahead : Stands} {row : Tells} {behind : Goes} (t : Turns left ahead row behind) (m : List ℕ) (a : ahead m first_cursor) where
+  abbrev all : List Row
+  all = left m first_cursor
+
+  -- at the cursor behind k rows, where row k is left: it is the first that is left there
+  module _ (k : ℕ) (h : k < length all) (f : ahead m (cursor_at (behind m) k)) (l : left m (cursor_at (behind m) k) ≡ drop k all) where
+    some : 0 < length (left m (cursor_at (behind m) k))
+    some = omega (arith, h, ap length l, length-drop k all)
+
+    first_there : row m (cursor_at (behind m) k) ∷ left m (behind m (cursor_at (behind m) k)) ≡ get_or all k no_row ∷ drop (suc k) all
+    first_there = sym (t.rows m _ f some) ∙ l ∙ drop-cons all k no_row h
+
+  -- behind k rows the others are left
+  pub left_behind : (k : ℕ) → k ≤ length all → ahead m (cursor_at (behind m) k) × (left m (cursor_at (behind m) k) ≡ drop k all)
+  unfolding cursor_at
+  left_behind zero h = (a, refl)
+  left_behind (suc k) h =
+      let b = left_behind k (omega (arith, h)) in
+      (t.again m _ b.0 (some k h b.0 b.1), let e = first_there k h b.0 b.1 in cc)
+
+  -- the row there is row k
+  pub told : (k : ℕ) → k < length all → row m (cursor_at (behind m) k) ≡ get_or all k no_row
+  told k h =
+      let b = left_behind k (omega (arith, h)) in
+      let e = first_there k h b.0 b.1 in cc
 
 -- ---- the rows of a message
 

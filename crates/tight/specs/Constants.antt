@@ -320,7 +320,7 @@ rows =
     answers (sound_then (header_at 0) Sound (Accepted 1)) (sound_then (header_at 0) (Bad 13 2) (Accepted 1)) ∷  -- at_header
     counts (get_or (0x21 ∷ 0x43 ∷ []) 0 0) (get_or (0x21 ∷ 0x43 ∷ []) 1 0) ∷  -- octet_at
     lists (drop 0 (0x21 ∷ [])) (drop 1 (0x21 ∷ [])) ∷  -- octets_from
-    lists (take 1 (drop 0 (0x21 ∷ []))) (take 1 (drop 1 (0x21 ∷ []))) ∷  -- so many octets from a place on
+    lists (take 1 (drop 0 (0x21 ∷ []))) (take 1 (drop 1 (0x21 ∷ []))) ∷  -- stretch_from
     faults (fault_of 0x90 (0x01 ∷ 0x0A ∷ [])) (fault_of 0x90 (0x01 ∷ 0x00 ∷ [])) ∷  -- contents_fault
     answers (transfer_of 0 0x41 (0x01 ∷ [])) (transfer_of 0 0x41 []) ∷  -- transfer
     gives Holding held_number (holding_by Generic 0x06) (holding_by Generic 0x07) ∷  -- holding_by

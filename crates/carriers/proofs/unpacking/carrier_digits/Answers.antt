@@ -62,8 +62,7 @@ digits_at-requires c =
     let m = c.args.m.now in
     let f = c.in_ok-s.ensures in
     let form = formed m c.args.which _ c.in_ok-s.s.now (λ i. omega (arith, c.type_inv.m i)) f.answer f.part in
-    let r = there _ form _ c.in-Some.c (sym c.in-Some.is ∙ row_at c.in_ok-s.s.now c.entries.result c.nth.new.self _ c.nth.result c.entries.ensures c.nth.ensures.ran) in
-    (r.going, r.here)
+    (there _ form _ c.in-Some.c (sym c.in-Some.is ∙ row_at c.in_ok-s.s.now c.entries.result c.nth.new.self _ c.nth.result c.entries.ensures c.nth.ensures.ran)).going
 
 pub returns : goal.returns
 returns c =
@@ -72,4 +71,4 @@ returns c =
     let out = c.args.out.now in
     let form = formed m c.args.which _ c.in_ok-s.s.now (λ i. omega (arith, c.type_inv.m i)) f.answer f.part in
     let r = there _ form _ c.in-Some.c (sym c.in-Some.is ∙ row_at c.in_ok-s.s.now c.entries.result c.nth.new.self _ c.nth.result c.entries.ensures c.nth.ensures.ran) in
-    digits_told m c.args.which _ (sym f.answer) c.args.row c.if-row-eq0.false c.in-Some.c (rw f.part at r) out _ _ (rw f.part at c.digits_at.ensures)
+    digits_told m c.args.which _ (sym f.answer) c.args.row c.if-row-eq0.false c.in-Some.c (rw f.part at r.left) out _ _ (rw f.part at c.digits_at.ensures)

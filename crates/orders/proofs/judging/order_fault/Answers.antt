@@ -26,8 +26,8 @@ returns-then-not-has_form c =
     let first = c.in-Some.ensures.item.3 in
     let here = c.in-Some-get.ensures.lookup.3 in
     sym (elim c.then-not-has_form.branch [
-      | then-not-has_form-via-then-not-has_form w ↦ unlisted _ (λ k. omega (arith, c.type_inv.s k)) _ _ _ _ _ c.loop-header.invariant here.0 (here.1 0) (first.1 0) c.asked_of-asked.ensures (sym c.has_form.ensures ∙ w.if-not-has_form.true)
-      | then-not-has_form-via-else-not-has_form+then-seen-asked w ↦ twice _ (λ k. omega (arith, c.type_inv.s k)) _ _ _ _ _ c.loop-header.invariant here.0 (here.1 0) (first.1 0) c.asked_of-asked.ensures (sym c.has_form.ensures ∙ w.if-not-has_form.false) w.if-seen-asked.true
+      | then-not-has_form-via-then-not-has_form w ↦ unlisted _ _ _ _ (here.1 0) c.asked_of-asked.ensures (omega (arith, c.type_inv.s c.loop-header.at)) _ _ c.loop-header.invariant here.0 (first.1 0) (omega (arith, c.type_inv.s 0)) (sym c.has_form.ensures ∙ w.if-not-has_form.true)
+      | then-not-has_form-via-else-not-has_form+then-seen-asked w ↦ twice _ _ _ _ (here.1 0) c.asked_of-asked.ensures (omega (arith, c.type_inv.s c.loop-header.at)) _ _ c.loop-header.invariant here.0 (first.1 0) (omega (arith, c.type_inv.s 0)) (sym c.has_form.ensures ∙ w.if-not-has_form.false) w.if-seen-asked.true
     ])
 
 pub returns-in_err-own_fault : goal.returns-in_err-own_fault
@@ -35,7 +35,7 @@ returns-in_err-own_fault c =
     let first = c.in-Some.ensures.item.3 in
     let here = c.in-Some-get.ensures.lookup.3 in
     passed_on c.from_residual.result c.in_err-own_fault.field-0.0 c.from_residual.ensures.1
-    ∙ sym (bad _ (λ k. omega (arith, c.type_inv.s k)) _ _ _ _ _ c.loop-header.invariant here.0 (here.1 0) (first.1 0) c.asked_of-asked.ensures (sym c.has_form.ensures ∙ c.if-not-has_form.false) c.if-seen-asked.false _ _ (sym c.own_fault.ensures ∙ c.in_err-own_fault.was))
+    ∙ sym (bad _ _ _ _ (here.1 0) c.asked_of-asked.ensures (omega (arith, c.type_inv.s c.loop-header.at)) _ _ c.loop-header.invariant here.0 (first.1 0) (omega (arith, c.type_inv.s 0)) (sym c.has_form.ensures ∙ c.if-not-has_form.false) c.if-seen-asked.false _ _ (sym c.own_fault.ensures ∙ c.in_err-own_fault.was))
 
 -- the offset behind a header's octets
 pub overflow_add-at-in-Some-get : goal.overflow_add-at-in-Some-get
@@ -51,7 +51,7 @@ loop-header-preserved c =
     let first = c.in-Some.ensures.item.3 in
     let here = c.in-Some-get.ensures.lookup.3 in
     rw (c.order_after-at.ensures, c.octet_at.ensures)
-    (sound _ (λ k. omega (arith, c.type_inv.s k)) _ _ _ _ _ c.loop-header.invariant here.0 (here.1 0) (first.1 0) c.asked_of-asked.ensures (sym c.has_form.ensures ∙ c.if-not-has_form.false) c.if-seen-asked.false (sym c.own_fault.ensures ∙ c.in_ok-own_fault.was))
+    (sound _ _ _ _ (here.1 0) c.asked_of-asked.ensures (omega (arith, c.type_inv.s c.loop-header.at)) _ _ c.loop-header.invariant here.0 (first.1 0) (omega (arith, c.type_inv.s 0)) (sym c.has_form.ensures ∙ c.if-not-has_form.false) c.if-seen-asked.false (sym c.own_fault.ensures ∙ c.in_ok-own_fault.was))
 
 pub returns : goal.returns
 returns c =
