@@ -51,17 +51,6 @@ pub left_one : {all : List ℕ} {first : ℕ} {before : List ℕ} (x : Row) (ys 
 left_one x ys at now after b l h s =
     left_stored x ys at now l after (copied_into now at (row_octets x) after b (left_fits_one x ys at now l h) s)
 
--- the former stored where it stands, for which there is room
-module _ {all : List ℕ} {first : ℕ} {before : List ℕ} (x : Row) (ys : List Row) (at : ℕ) (now : List ℕ)
-    (l : Left all first before (rows_octets (x ∷ ys)) at now) where
-  pub left_put : (after : List ℕ) → after ≡ sets now at (row_octets x) → Left all first before (rows_octets ys) (at + octets_to_a_row) after
-  unfolding rows_octets
-  left_put after e = one_stored row_octets octets_to_a_row (λ r. refl) x ys at now l after e
-
-  pub left_fits_one : first + length all ≤ length before → at + octets_to_a_row ≤ length now
-  unfolding rows_octets
-  left_fits_one h = one_fits row_octets octets_to_a_row (λ r. refl) x ys at now l h
-
 -- none is left
 pub left_over : {all : List ℕ} {first : ℕ} {before : List ℕ} (at : ℕ) (now : List ℕ) → Left all first before (rows_octets []) at now
     → Puts all first before at now
@@ -125,16 +114,20 @@ module _ {left : Lists} {ahead : Stands} {m : List ℕ} {rows : List Row} {n : �
   pub put_fits : length (rows_octets (left m first_cursor)) ≤ length table
   put_fits = rw g.same (listing_fits table room_known)
 
-  -- where they end tells how many they are
-  pub put_ends : (now : List ℕ) (r : ℕ) → Puts (rows_octets (left m first_cursor)) 0 table r now → r ≡ n * octets_to_a_row
-  put_ends now r p = let q = rw g.same at p in omega (arith, q.ends, length-rows rows, g.count)
+  -- stored up to r: that tells how many they are
+  module _ (now : List ℕ) (r : ℕ) (p : Puts (rows_octets (left m first_cursor)) 0 table r now) where
+    pub ended_count : r / octets_to_a_row ≡ n
+    ended_count = put_ended rows table r now (rw g.same at p) ∙ sym g.count
+
+    pub ended_put : now ≡ octets_by octets_to_a_row (Accepted n) (rows_octets rows) table
+    ended_put = listing_put table room_known now r (rw g.same at p)
 
   module _ (now : List ℕ) (k : ℕ) (p : Puts (rows_octets (left m first_cursor)) 0 table (k * octets_to_a_row) now) where
     pub put_count : k ≡ n
     put_count = let e = put_ended rows table (k * octets_to_a_row) now (rw g.same at p) in omega (arith, e, g.count)
 
     pub table_put : now ≡ octets_by octets_to_a_row (Accepted n) (rows_octets rows) table
-    table_put = listing_put table room_known now (k * octets_to_a_row) (rw g.same at p)
+    table_put = ended_put now (k * octets_to_a_row) p
 
 -- either after a refused one
 pub room_kept : (a : Answer) (rows table : List Row) (k p : ℕ) → a ≡ Refused k p → table ≡ room_after a rows table

@@ -3,7 +3,7 @@ use Rattle.std.proofs.Common.{sym, arith, ◌∙◌}
 use Rattle.annex.specs.Packed.{octet_order_table}
 use Rattle.laws.specs.Passed.{passed_on}
 use Rattle.rows.specs.Orders.{order_given}
-use Rattle.rows.specs.Tables.{put_fits, table_put, table_kept}
+use Rattle.rows.specs.Tables.{ended_put, table_kept}
 use Rattle.rows.proofs.in_octets.octet_order.Goals as goal
 
 pub returns-in_err-n : goal.returns-in_err-n
@@ -23,4 +23,4 @@ unfolding octet_order_table
 returns c =
     let told = sym c.check_order.ensures ∙ c.in_ok-n.was in
     let g = order_given c.args.m.now _ _ _ c.check_order.ensures c.in_ok-n.was in
-    (sym told, rw told (table_put c.args.table.now g _ _ c.put_order.ensures))
+    (sym told, rw told (ended_put c.args.table.now g _ _ c.put_order.ensures))

@@ -1,9 +1,9 @@
 -- `octet_spans` meets its contract: what is refused leaves the table, and else its rows are put, and where they end tells their count.
-use Rattle.std.proofs.Common.{refl, sym, ap, arith, ◌∙◌}
+use Rattle.std.proofs.Common.{refl, sym, ap, ◌∙◌}
 use Rattle.annex.specs.Answers.{Accepted}
 use Rattle.annex.specs.Packed.{octet_table}
 use Rattle.laws.specs.Passed.{passed_on}
-use Rattle.rows.specs.Tables.{put_ends, put_fits, spans_given, table_put, table_kept}
+use Rattle.rows.specs.Tables.{ended_count, ended_put, put_fits, spans_given, table_kept}
 use Rattle.rows.proofs.in_octets.octet_spans.Goals as goal
 
 pub returns-in_err-refusal : goal.returns-in_err-refusal
@@ -24,5 +24,5 @@ unfolding octet_table
 returns c =
     let told = rw c.in_ok-refusal.was at c.refusal.ensures in
     let g = spans_given c.args.m.now _ _ _ refl told in
-    let e = put_ends c.args.table.now g _ _ c.put_rows.ensures in
-    (ap Accepted (omega (arith, e)) ∙ sym told, rw told (table_put c.args.table.now g _ _ (rw e at c.put_rows.ensures)))
+    let p = c.put_rows.ensures in
+    (ap Accepted (ended_count c.args.table.now g _ _ p) ∙ sym told, rw told (ended_put c.args.table.now g _ _ p))

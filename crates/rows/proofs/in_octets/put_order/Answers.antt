@@ -2,7 +2,7 @@ use Rattle.std.proofs.Common.{◌≡◌, ◌+◌, ◌*◌, length, arith, ap, dr
 use Rattle.annex.specs.Ordering.{order_rows_from}
 use Rattle.annex.specs.Packed.{octets_to_a_row}
 use Rattle.rows.specs.Orders.{rows_step}
-use Rattle.rows.specs.Tables.{left_put, left_over}
+use Rattle.rows.specs.Tables.{left_stored, left_over}
 use Rattle.rows.proofs.in_octets.put_order.Goals as goal
 
 pub loop-k-preserved : goal.loop-k-preserved
@@ -12,7 +12,7 @@ loop-k-preserved c =
     let left = rw step at i.1 in
     let e : c.loop-k.k * octets_to_a_row + octets_to_a_row ≡ (c.loop-k.k + 1) * octets_to_a_row = omega arith in
     rw c.next-c.ensures
-    (omega (arith, i.0, ap length step), rw e at (left_put _ _ _ _ left _ (rw c.row_here.ensures at c.put_row.ensures)))
+    (omega (arith, i.0, ap length step), rw e at (left_stored _ _ _ _ left _ (rw c.row_here.ensures at c.put_row.ensures)))
 
 pub returns : goal.returns
 returns c =

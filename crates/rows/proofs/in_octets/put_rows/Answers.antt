@@ -1,7 +1,7 @@
 use Rattle.std.proofs.Common.{◌≡◌, ◌+◌, ◌≤◌, ◌∷◌, arith, length}
 use Rattle.annex.specs.Packed.{octets_to_a_row}
 use Rattle.walk.specs.Ahead.{rows_none, ahead_turn}
-use Rattle.rows.specs.Tables.{left_put, left_over, left_fits_one}
+use Rattle.rows.specs.Tables.{left_stored, left_over, left_fits_one}
 use Rattle.rows.proofs.in_octets.put_rows.Goals as goal
 
 pub put_row-requires : goal.put_row-requires
@@ -24,7 +24,7 @@ pub loop-c-preserved : goal.loop-c-preserved
 loop-c-preserved c =
     let turn = ahead_turn _ _ c.loop-c.invariant.0 c.loop-c-test.true in
     let left = rw turn.rows at c.loop-c.invariant.1 in
-    rw c.next-c.ensures (turn.again, left_put _ _ _ _ left _ (rw c.row_here.ensures at c.put_row.ensures))
+    rw c.next-c.ensures (turn.again, left_stored _ _ _ _ left _ (rw c.row_here.ensures at c.put_row.ensures))
 
 pub returns : goal.returns
 returns c = left_over _ _ (rw (rows_none _ _ c.loop-c.invariant.0 c.loop-c-test.false) at c.loop-c.invariant.1)
