@@ -11,7 +11,12 @@ use std::{fmt, io};
 use units::{extent_of, lead};
 use walk::cursor::rows_in;
 
-// Octets in hexadecimal, in upper case; `-` for none.
+// The hexadecimal digits, in upper case.
+const DIGITS: [&str; 16] = [
+    "0", "1", "2", "3", "4", "5", "6", "7", "8", "9", "A", "B", "C", "D", "E", "F",
+];
+
+// Octets in hexadecimal; `-` for none.
 #[derive(Clone, Copy)]
 struct Hexadecimal<'a>(&'a [u8]);
 
@@ -21,7 +26,8 @@ impl fmt::Display for Hexadecimal<'_> {
             return f.write_str("-");
         }
         for octet in self.0 {
-            write!(f, "{octet:02X}")?;
+            f.write_str(DIGITS[usize::from(octet / 16)])?;
+            f.write_str(DIGITS[usize::from(octet % 16)])?;
         }
         Ok(())
     }
