@@ -33,12 +33,13 @@ fn stretch_here(m: &[u8], c: Cursor) -> Found
     stretch_at(m, c.at, extent)
 }
 
-// The row of the next parameter, or the empty row where it is cut or the octets end before it.
+// The row of the next parameter, by where its contents were found.
 #[tactic(auto, unfolding(annex::specs::Walking::row_here))]
-pub fn row_here(m: &[u8], c: Cursor) -> Row
-    ensures { Gives (row_here m.now c) result }
+fn row_between(m: &[u8], c: Cursor, found: Found) -> Row
+    requires { found ≡ stretch_here m.now c }
+    ensures { result ≡ row_here m.now c }
 {
-    let Some((start, end)) = stretch_here(m, c) else {
+    let Some((start, end)) = found else {
         return Row {
             offset: 0,
             header: 0,
@@ -52,12 +53,13 @@ pub fn row_here(m: &[u8], c: Cursor) -> Row
     }
 }
 
-// Behind the next parameter, and behind a C5's header and length octet; behind all octets where it is cut or they end before it.
+// The cursor behind it, by the same.
 #[tactic(auto, unfolding(annex::specs::Walking::next_of))]
-pub fn next(m: &[u8], c: Cursor) -> Cursor
-    ensures { Gives (next_of m.now c) result }
+fn next_behind(m: &[u8], c: Cursor, found: Found) -> Cursor
+    requires { found ≡ stretch_here m.now c }
+    ensures { result ≡ next_of m.now c }
 {
-    match stretch_here(m, c) {
+    match found {
         None => Cursor {
             at: m.len(),
             end: m.len(),
@@ -72,6 +74,20 @@ pub fn next(m: &[u8], c: Cursor) -> Cursor
         },
         Some((_, end)) => Cursor { at: end, end },
     }
+}
+
+// The row of the next parameter, or the empty row where it is cut or the octets end before it.
+pub fn row_here(m: &[u8], c: Cursor) -> Row
+    ensures { Gives (row_here m.now c) result }
+{
+    row_between(m, c, stretch_here(m, c))
+}
+
+// Behind the next parameter, and behind a C5's header and length octet; behind all octets where it is cut or they end before it.
+pub fn next(m: &[u8], c: Cursor) -> Cursor
+    ensures { Gives (next_of m.now c) result }
+{
+    next_behind(m, c, stretch_here(m, c))
 }
 
 // The rows from a cursor on.
@@ -94,8 +110,10 @@ impl<'a> Iterator for Rows<'a> {
         if self.m.len() <= here.at {
             return None;
         }
-        self.c = next(self.m, here);
-        Some(row_here(self.m, here))
+        // found once: the row and the cursor behind it are both told by it
+        let found = stretch_here(self.m, here);
+        self.c = next_behind(self.m, here, found);
+        Some(row_between(self.m, here, found))
     }
 }
 
