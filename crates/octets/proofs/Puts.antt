@@ -1,12 +1,14 @@
 -- What the library's copies write is what `put` says.
 use mathlib.Core.Path.{◌≡◌, sym, ap, ◌∙◌}
 use mathlib.Core.List.{List, ◌++◌, append_assoc}
-use Prim.Native.Nat.{ℕ, ◌+◌, ◌-◌, ◌≤◌}
+use Prim.Native.Nat.{ℕ, ◌+◌, ◌-◌, ◌≤◌, ◌<◌}
 use native.Mathlib.Omega.{arith}
 use lib.ListN.{length, take, drop, length-take, length-drop, length-append}
 use lib.Seq.{paste, take-add}
+use Rattle.std.proofs.Common.{inl, inr}
+use Rattle.std.proofs.lemmas.Bool.{cases_lt}
 use Rattle.std.proofs.lemmas.List.{drop-drop}
-use Rattle.std.proofs.lemmas.List.Edits.{take-paste, drop-paste}
+use Rattle.std.proofs.lemmas.List.Edits.{take-paste, drop-paste, paste_none}
 use borrow.Rule.Slice.PartMut.{put_mid}
 use Rattle.annex.specs.Memory.{put}
 use Rattle.octets.specs.Put.{part, length_part}
@@ -29,11 +31,11 @@ unfolding put
 length_put d at s h = simp (length-append, length-take, length-drop) (omega arith)
 
 -- a part moved in two, cut at mid, the first one first: the whole is moved, where it goes down, so that what is moved first lies over
--- nothing that is left to move. The edit that moves a tail the wrong way goes by it
-pub first_then_last : (d : List ℕ) (to from mid end : ℕ) (x y : List ℕ) → x ≡ paste d to (drop from d) (mid - from)
+-- nothing that is left to move
+moved_down : (d : List ℕ) (to from mid end : ℕ) (x y : List ℕ) → x ≡ paste d to (drop from d) (mid - from)
     → y ≡ paste x (to + (mid - from)) (drop mid x) (end - mid) → from ≤ mid → mid ≤ end → end ≤ length d → to ≤ from
     → y ≡ put d to (part d from (end - from))
-first_then_last d to from mid end x y first second f m fits l =
+moved_down d to from mid end x y first second f m fits l =
     let s = drop from d in
     let h = mid - from in
     let long : h ≤ length s = simp length-drop (omega arith) in
@@ -53,3 +55,22 @@ first_then_last d to from mid end x y first second f m fits l =
     sym (drop-drop (end - mid) (to + h) x) ∙ ap (drop (end - mid)) past ∙ drop-drop (end - mid) (to + h) d ∙ ap (λ (n : ℕ). drop n d) e in
     second ∙ ap (λ (z : List ℕ). paste x (to + h) z (end - mid)) last ∙ ap (λ (y : List ℕ). y ++ drop (to + h + (end - mid)) x) moved
     ∙ ap (λ (y : List ℕ). (take to d ++ take (end - from) s) ++ y) rest ∙ paste_put d to from (end - from) (omega arith)
+
+-- and where the first one is none, that is all that is moved
+nothing_first : (d : List ℕ) (to from mid end : ℕ) (x y : List ℕ) → mid ≡ from → x ≡ paste d to (drop from d) (mid - from)
+    → y ≡ paste x (to + (mid - from)) (drop mid x) (end - mid) → from ≤ end → end ≤ length d → y ≡ put d to (part d from (end - from))
+nothing_first d to from mid end x y e first second f fits =
+    let z : mid - from ≡ 0 = omega arith in
+    let t : to + (mid - from) ≡ to = omega arith in
+    let same : x ≡ d = first ∙ ap (paste d to (drop from d)) z ∙ sym (paste_none d to (drop from d)) in
+    second ∙ rw (same, t, e) (paste_put d to from (end - from) (omega arith))
+
+-- either. The edit that moves a tail the wrong way goes by it
+pub first_then_last : (d : List ℕ) (to from mid end : ℕ) (x y : List ℕ) → x ≡ paste d to (drop from d) (mid - from)
+    → y ≡ paste x (to + (mid - from)) (drop mid x) (end - mid) → from ≤ mid → mid ≤ end → end ≤ length d → (from < mid → to ≤ from)
+    → y ≡ put d to (part d from (end - from))
+first_then_last d to from mid end x y first second f m fits g =
+    elim (cases_lt from mid) [
+      | inl l ↦ moved_down d to from mid end x y first second f m fits (g l)
+      | inr l ↦ nothing_first d to from mid end x y (omega (arith, l, f)) first second (omega arith) fits
+    ]
