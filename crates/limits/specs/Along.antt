@@ -135,6 +135,9 @@ module _ (q : Record) where
   unfolding view_items
   items_none k = refl
 
+  pub items_end : (k end : ℕ) → end ≤ k → items_at q k (end - k) ≡ []
+  items_end k end h = let e : end - k ≡ 0 = omega arith in rw e (items_none k)
+
   items_next : (k n : ℕ) → k < length q.transfer
       → items_at q k (suc n) ≡ item_from (transfer_at q k) (take (transfer_at q k).len (drop (used_at q k) q.values)) ∷ items_at q (k + 1) n
   unfolding view_items

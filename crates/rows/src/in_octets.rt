@@ -25,7 +25,7 @@ fn put_row(row: Row, at: usize, table: &mut [u8])
     let [offset_low, offset_high, ..] = row.offset.to_le_bytes();
     let [len_low, len_high, ..] = row.len.to_le_bytes();
     let behind = at + Row::OCTETS;
-    // no copy_in, whose loop takes longer than the rest of a turn
+    // no copy_in: by its loop a row takes a sixth more
     table[at..behind].copy_from_slice(&[offset_low, offset_high, row.header, len_low, len_high]);
 }
 
